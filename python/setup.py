@@ -1,5 +1,6 @@
 """Puts the extension `_wkb` into the package: the one that WKB_EXTENSION names, or else one that `make` builds here, in
 `native` of the source package, or else the library beside this package."""
+import gzip
 import os
 import pathlib
 import re
@@ -7,9 +8,11 @@ import shutil
 import struct
 import subprocess
 import sys
+import tarfile
 
 from setuptools import Extension, setup
 from setuptools.command.build_ext import build_ext
+from setuptools.command.sdist import sdist
 
 try:
     from setuptools.command.bdist_wheel import bdist_wheel
@@ -54,7 +57,7 @@ def platform(extension, own):
 def made(folder):
     """The extension that `make` builds in a folder."""
     native = next(it for it in (HERE / "native", HERE.parent / "c", HERE.parent) if it.exists())
-    place = pathlib.Path(folder).resolve() / "package" / "wkb" / "_wkb.abi3.so"
+    place = pathlib.Path(folder).resolve() / "package" / "porchsorrel_wkb" / "_wkb.abi3.so"
     own = [f"BUILD={place.parents[2]}", f"PACKAGE={HERE}", f"PYTHON={sys.executable}"]
     subprocess.run(["make", "-s", "-C", os.fspath(native), *own, "extension"], check=True)
     return place
@@ -69,6 +72,28 @@ class Build(build_ext):
         place.parent.mkdir(parents=True, exist_ok=True)
         shutil.copy(extension, place)
         self.distribution.wkb_extension = extension
+
+
+class Sources(sdist):
+    """The package in sources, with the same bytes each time."""
+
+    def make_archive(self, base_name, format, root_dir=None, base_dir=None, owner=None, group=None):
+        if format != "gztar":
+            return super().make_archive(base_name, format, root_dir, base_dir, owner, group)
+        name = f"{base_name}.tar.gz"
+        with open(name, "wb") as file, gzip.GzipFile("", "wb", fileobj=file, mtime=0) as out:
+            with tarfile.open(fileobj=out, mode="w", format=tarfile.PAX_FORMAT) as archive:
+                for path in sorted(it for it in pathlib.Path(root_dir or ".", base_dir).rglob("*") if it.is_file()):
+                    archive.add(path, os.fspath(path.relative_to(root_dir or ".")), filter=plain)
+        return name
+
+
+def plain(member):
+    """A member of an archive without who made it, and when."""
+    member.mtime = member.uid = member.gid = 0
+    member.uname = member.gname = ""
+    member.mode = 0o755 if member.mode & 0o100 else 0o644
+    return member
 
 
 class Wheel(bdist_wheel):
@@ -86,6 +111,6 @@ class Wheel(bdist_wheel):
 
 sources = [os.fspath(it.relative_to(HERE)) for it in sorted(HERE.glob("src/extension/*.c"))]
 setup(
-    ext_modules=[Extension("wkb._wkb", sources, py_limited_api=True)],
-    cmdclass={"build_ext": Build, "bdist_wheel": Wheel},
+    ext_modules=[Extension("porchsorrel_wkb._wkb", sources, py_limited_api=True)],
+    cmdclass={"build_ext": Build, "bdist_wheel": Wheel, "sdist": Sources},
 )

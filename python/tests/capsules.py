@@ -46,11 +46,14 @@ def pointers(addresses):
     return ctypes.cast(memory_of(struct.pack(f"={len(addresses)}Q", *(it or 0 for it in addresses))), POINTERS)
 
 
+NOWHERE = 8  # an address that can't be read
 KEPT = []  # what a capsule names lives by the array or the stream here, and by itself in true ones
 
 
 class Held:
-    """A schema and an array whose releases are counted. A struct may be moved: a copy of it is released then."""
+    """A schema and an array whose releases are counted. A struct may be moved: a copy of it is released then. The texts
+    of a schema that is released are gone, in the copy and where it was moved from.
+    """
 
     def hold(self, schema, array):
         KEPT.append(self)
@@ -65,6 +68,9 @@ class Held:
         it.release = None
         if what == "array":
             self.forget()
+        else:
+            for schema in (it, self.schema):
+                schema.format = schema.name = schema.metadata = NOWHERE
 
     def forget(self):
         """What an array's release does to its memory."""

@@ -2,7 +2,7 @@
 import array
 import struct
 
-from wkb import Status
+from porchsorrel_wkb import Status
 
 # (1, 2) in either byte order; a polygon of one ring of one point, with an SRID, in EWKB and as it is written; a
 # multi point of (1, 2) and an empty point; a line string with z of (1, 2, 3) and (5, not a number, -7).
@@ -25,6 +25,17 @@ def rows_of(*rows):
     for row in rows:
         offsets.append(offsets[-1] + len(row))
     return b"".join(rows), array.array("q", offsets)
+
+
+def geometry(kind, dimension=0, order="<", form=1000):
+    """A geometry of each kind with one member, ring and coordinate: 1, 2, .. The code counts dimensions by thousands,
+    as ISO has them, or with 0 by the flags of EWKB."""
+    flags = 1000 * dimension if form else (dimension in (1, 3)) << 31 | (dimension in (2, 3)) << 30
+    words = [1.0, 2.0, 3.0, 4.0][: (2, 3, 3, 4)[dimension]]
+    one, body = struct.pack(order + "I", 1), struct.pack(f"{order}{len(words)}d", *words)
+    head = {it: struct.pack(order + "BI", order == "<", it + flags) for it in range(1, 8)}
+    single = {1: head[1] + body, 2: head[2] + one + body, 3: head[3] + one + one + body}
+    return single.get(kind) or head[kind] + one + single[1 if kind == 7 else kind - 3]
 
 
 def flat(numbers):

@@ -8,7 +8,7 @@ import unittest
 
 from capsules import SHORT, Arrow, Records, Stream, Views, memory_of, new_capsule
 from samples import BIG_POINT, ISO_POLYGON, POINT, POLYGON, ROWS, STATUSES
-from wkb import Column, Dimension, Status
+from porchsorrel_wkb import Column, Dimension, Status
 
 try:
     from osgeo import gdal, ogr

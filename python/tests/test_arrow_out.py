@@ -10,10 +10,10 @@ import sys
 import threading
 import unittest
 
-import wkb
+import porchsorrel_wkb as wkb
 from capsules import Arrow, Array, Lists, Schema, address_of, memory_of
-from samples import BIG_POINT, EMPTY_POINT, ISO_POLYGON, POINT, POLYGON, ROWS, STATUSES
-from wkb import Column, Dimension, Form, Kind, Order, Status, column_from_coordinates
+from samples import BIG_POINT, EMPTY_POINT, ISO_POLYGON, LINE as LINE_WITH_Z, POINT, POLYGON, ROWS, STATUSES
+from porchsorrel_wkb import Column, Dimension, Form, Kind, Order, Status, column_from_coordinates
 
 try:
     import numpy
@@ -54,6 +54,9 @@ def items_of(schema, it):
         ends = numbers_at(it.buffers[1], {"z": "i", "Z": "q"}[form], end + 1)
         data = ctypes.string_at(it.buffers[2], ends[-1]) if ends[-1] else b""
         found = [data[a:b] for a, b in zip(ends, ends[1:])]
+    elif form == "+s":
+        assert schema.n_children == it.n_children
+        found = list(zip(*(items_of(child_of(schema, i), child_of(it, i)) for i in range(it.n_children))))
     else:
         inner = items_of(child_of(schema), child_of(it))
         width = int(form[3:]) if form.startswith("+w:") else 0
@@ -397,7 +400,7 @@ class Tried(unittest.TestCase):
 
     def test_hexadecimal(self):
         """PostGIS's text is refused by errors that say what to call."""
-        for text in (POINT.hex(), POLYGON.hex().upper()):
+        for text in (POINT.hex(), POLYGON.hex().upper(), LINE_WITH_Z.hex(), LINE_WITH_Z.hex().upper()):
             for call in (wkb.check, wkb.bounds, wkb.write, wkb.parts, lambda it: wkb.same(POINT, it)):
                 self.assertRaisesRegex(TypeError, "bytes.fromhex", call, text)
                 with self.assertRaisesRegex(wkb.Refused, "bytes.fromhex") as raised:

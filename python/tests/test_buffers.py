@@ -7,9 +7,9 @@ import struct
 import tempfile
 import unittest
 
-import wkb
+import porchsorrel_wkb as wkb
 from samples import BIG_POINT, POINT
-from wkb import Column, Order, Refused, Status
+from porchsorrel_wkb import Column, Order, Refused, Status
 
 
 def column_of(data):
@@ -47,6 +47,13 @@ class Buffers(unittest.TestCase):
                 data.append(1)
                 del kept
         del result
+
+    def test_lists(self):
+        """A list has no buffer, and the error says what makes one of it."""
+        for call in (lambda: wkb.column_from_coordinates(wkb.Kind.POINT, [[1.0, 2.0]]), lambda: Column(POINT, [0, 21]),
+                     lambda: wkb.column_from_coordinates(wkb.Kind.LINE_STRING, array.array("d", [1, 2]), [0, 1])):
+            self.assertRaisesRegex(TypeError, "numpy.asarray or array.array", call)
+        self.assertRaisesRegex(TypeError, "bytes.fromhex", Column, POINT.hex(), array.array("q", [0, 42]))
 
     def test_column_keeps_no_export(self):
         data, offsets, validity = bytearray(POINT), array.array("q", [0, 21]), bytearray(b"\1")

@@ -5,9 +5,9 @@ import struct
 import sys
 import unittest
 
-import wkb
+import porchsorrel_wkb as wkb
 from samples import BIG_POINT, EMPTY_POINT, ISO_POLYGON, LINE, POINT, POINTS, POLYGON, rows_of
-from wkb import Dimension, Form, Kind, Order, Part, Range, Refused, Status
+from porchsorrel_wkb import Dimension, Form, Kind, Order, Part, Range, Refused, Status
 
 try:
     import numpy
@@ -27,7 +27,7 @@ class Calls(unittest.TestCase):
         self.assertEqual(whole, Part(0, 33, 13, 1, 2, 4326, Kind.POLYGON, Dimension.XY, Order.BIG))
         self.assertEqual(ring, Part(13, 33, 17, 1, 2, None, Kind.RING, Dimension.XY, Order.BIG))
         self.assertEqual((len(table), table[1], table[-2], table[1:]), (2, ring, whole, [ring]))
-        self.assertEqual(repr(table), "<table of 2 Part>")
+        self.assertEqual(repr(table).splitlines(), ["<table of 2 Part>", f"  {table[0]}", f"  {table[1]}"])
         for index in (2, -3):
             self.assertRaises(IndexError, lambda: table[index])
 
@@ -97,6 +97,9 @@ class Calls(unittest.TestCase):
         with_srid = wkb.write(POINT, form=Form.EWKB_WITH_SRID, srid=2**32 - 1)
         self.assertEqual(with_srid, b"\1\1\0\0\x20" + b"\xff" * 4 + POINT[5:])
         self.assertEqual(wkb.write(with_srid, form=Form.EWKB_WITHOUT_SRID), POINT)
+        self.assertEqual((wkb.check(with_srid).srid, wkb.parts(with_srid)[0].srid), (2**32 - 1, 2**32 - 1))
+        least = wkb.write(POINT, srid=2**31)
+        self.assertEqual((least, wkb.check(least).srid), (b"\1\1\0\0\x20\0\0\0\x80" + POINT[5:], 2**31))
 
     def test_write_large(self):
         """Inputs that are long, and one that is longer than its geometry."""
@@ -127,7 +130,7 @@ class Calls(unittest.TestCase):
                 wkb.same(first, second)
             self.assertEqual(raised.exception.which, which)
         text = wkb.status_text(Status.SHORT_HEADER)
-        self.assertEqual(str(raised.exception), f"{text}, in part 0 at byte 0 of the second")
+        self.assertEqual(str(raised.exception), f"the second input: {text}, at byte 0 (part 0)")
 
     def test_bounds(self):
         box = wkb.bounds(LINE)
@@ -137,9 +140,11 @@ class Calls(unittest.TestCase):
 
     def test_refused(self):
         for data, status, numbers, end in (
-            (POLYGON[:-1], Status.SHORT_LINEAR_RING, (1, 13, 20, 19, 0), "1 at byte 13, which would end at 20 of 19"),
-            (b"\1\21\0\0\0", Status.CODE_OUT_OF_RANGE, (0, 0, 0, 0, 17), " 17, in part 0 at byte 0"),
-            (b"\2", Status.INVALID_BYTE_ORDER, (0, 0, 0, 0, 0), "part 0 at byte 0"),
+            (POLYGON[:-1], Status.SHORT_LINEAR_RING, (1, 13, 20, 19, 0), "13 (part 1): it needs 20 bytes and has 19"),
+            (b"\1\21\0\0\0", Status.CODE_OUT_OF_RANGE, (0, 0, 0, 0, 17),
+             "unknown geometry type code 17, a triangle, which this library does not read, at byte 0 (part 0)"),
+            (b"\1\22\0\0\0", Status.CODE_OUT_OF_RANGE, (0, 0, 0, 0, 18), "code 18, at byte 0 (part 0)"),
+            (b"\2", Status.INVALID_BYTE_ORDER, (0, 0, 0, 0, 0), "at byte 0 (part 0)"),
         ):
             for call in (wkb.check, wkb.write, wkb.parts, wkb.bounds):
                 with self.assertRaises(Refused) as raised:
@@ -161,13 +166,15 @@ class Calls(unittest.TestCase):
     def test_statuses(self):
         """A status that a later version has is of a class too, and has a name."""
         self.assertEqual([it for it in Status if wkb.is_refusal(it)], list(Status)[8:])
+        self.assertEqual([it for it in Status if wkb.is_early_end(it)], [32, 48, 49, 50, 51])
+        self.assertTrue(wkb.is_early_end(Status(255)) and not wkb.is_early_end(Status(47)))
         later = Status(52)
         self.assertEqual((later.name, later, wkb.is_refusal(later)), ("STATUS_52", 52, True))
         self.assertEqual((Status(19).name, pickle.loads(pickle.dumps(later))), ("STATUS_19", later))
         for number in (-1, 256, "ok"):
             self.assertRaises(ValueError, Status, number)
         fault = wkb.Fault._read(wkb.Fault.LAYOUT.pack(0, 0, 9, 5, 0, 52))
-        self.assertTrue(str(Refused(fault, 1, "later")).endswith("which would end at 9 of 5"))
+        self.assertTrue(str(Refused(fault, 1, "later")).endswith("it needs 9 bytes and has 5"))
 
     def test_many_parts(self):
         """A table of 64 bytes for each part, and no object for each."""

@@ -2,11 +2,12 @@
 import array
 import mmap
 import pickle
+import re
 import struct
 import unittest
 
 from samples import BIG_POINT, EMPTY_POINT, ISO_POLYGON, LINE, POINT, POINTS, POLYGON, rows_of
-from wkb import Column, Dimension, Fault, Form, Kind, Order, Refused, Status, check, collect, parts, write
+from porchsorrel_wkb import Column, Dimension, Fault, Form, Kind, Order, Refused, Status, check, collect, parts, write
 
 # As PostGIS has it, with an SRID.
 SRID_POINT = bytes.fromhex("0101000020e6100000") + POINT[5:]
@@ -72,16 +73,17 @@ class Refusals(unittest.TestCase):
         """The first row that is no member, its fault and what is said of it."""
         data, offsets = rows_of(POINT, POINT)
         offsets[2] = 7
-        where = "in part 0 at byte 0 of row"
+        where = "at byte 0 (part 0)"
+        short = f"{where}: it needs 21 bytes and has 20"
         for column, kind, row, status, text in (
-            (Column.of([POINT, None, b""]), Kind.MULTI_POINT, 1, Status.NULL_ROW, "the row is null: row 1"),
-            (Column(data, offsets), Kind.MULTI_POINT, 1, Status.BAD_OFFSETS, "before a row ends: row 1"),
-            (Column.of([POINT, b""]), Kind.GEOMETRY_COLLECTION, 1, Status.SHORT_HEADER, f"a count, {where} 1"),
-            (Column.of([LINE, POINT]), Kind.MULTI_LINE_STRING, 0, Status.INCORRECT_TYPE, f"geometry, {where} 0"),
-            (Column.of([POINT[:-1]]), Kind.MULTI_POINT, 0, Status.SHORT_POINT, f"{where} 0, which would .* 21 of 20"),
-            (Column.of([b"\1\21\0\0\0"]), Kind.GEOMETRY_COLLECTION, 0, Status.CODE_OUT_OF_RANGE, f" 17, {where} 0"),
+            (Column.of([POINT, None, b""]), Kind.MULTI_POINT, 1, Status.NULL_ROW, "the row is null"),
+            (Column(data, offsets), Kind.MULTI_POINT, 1, Status.BAD_OFFSETS, "before a row ends"),
+            (Column.of([POINT, b""]), Kind.GEOMETRY_COLLECTION, 1, Status.SHORT_HEADER, f"a count, {where}"),
+            (Column.of([LINE, POINT]), Kind.MULTI_LINE_STRING, 0, Status.INCORRECT_TYPE, f"geometry, {where}"),
+            (Column.of([POINT[:-1]]), Kind.MULTI_POINT, 0, Status.SHORT_POINT, short),
+            (Column.of([b"\1\21\0\0\0"]), Kind.GEOMETRY_COLLECTION, 0, Status.CODE_OUT_OF_RANGE, f" read, {where}"),
         ):
-            with self.assertRaisesRegex(Refused, text + "$") as raised:
+            with self.assertRaisesRegex(Refused, f"^row {row}: .*{re.escape(text)}$") as raised:
                 collect(column, kind)
             error = raised.exception
             self.assertEqual((error.row, error.status, error.fault.status, error.which), (row, status, status, 1))

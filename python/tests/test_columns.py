@@ -1,12 +1,14 @@
 """The calls for columns."""
 import array
 import ctypes
+import gc
 import struct
 import sys
 import unittest
 
-from samples import BIG_POINT, EMPTY_POINT, ISO_POLYGON, LINE, POINT, POINTS, POLYGON, flat, rows_of
-from wkb import Column, Dimension, Form, Kind, Order, Range, Status
+from capsules import Arrow
+from samples import BIG_POINT, EMPTY_POINT, ISO_POLYGON, LINE, POINT, POINTS, POLYGON, STATUSES, flat, rows_of
+from porchsorrel_wkb import Column, Dimension, Form, Kind, Order, Range, Status
 
 try:
     import numpy
@@ -16,6 +18,37 @@ except ImportError:
 
 def statuses(column):
     return list(column.check())
+
+
+class Split(unittest.TestCase):
+    def test_rows(self):
+        """All rows are in one of the columns, whatever the slice and the count are."""
+        rows = [POINT if i % 3 else None for i in range(20)]
+        data, offsets = rows_of(*(row or b"" for row in rows))
+        bits = sum((row is not None) << i for i, row in enumerate(rows)).to_bytes(3, "little")
+        for first, count in ((0, 20), (3, 9), (7, 1), (20, 0)):
+            column = Column(data, offsets, bits, first=first, rows=count)
+            column.metadata = "{}"
+            for parts in (1, 2, 3, 7, 30):
+                columns = column.split(parts)
+                self.assertEqual([it.metadata for it in columns], ["{}"] * parts)
+                self.assertEqual(sum(map(statuses, columns), []), statuses(column))
+                self.assertEqual(sum((list(it.write().rows) for it in columns), []), rows[first : first + count])
+                self.assertLess(max(map(len, columns)) - min(map(len, columns)), 2)
+        for count in (0, -1):
+            self.assertRaises(ValueError, column.split, count)
+
+    def test_memory(self):
+        """The columns share the memory of an array of Arrow, which lives as long as one of them."""
+        source = Arrow()
+        first, second = Column.from_arrow(source).split(2)
+        self.assertIs(first._data, second._data)
+        del first
+        gc.collect()
+        self.assertEqual((statuses(second), source.released), (STATUSES[2:], ["schema"]))
+        del second
+        gc.collect()
+        self.assertEqual(source.released, ["schema", "array"])
 
 
 class Taken(unittest.TestCase):
@@ -196,6 +229,27 @@ class Results(unittest.TestCase):
                          "1.0 2.0 nan nan nan nan 1.0 2.0 nan 1.0 2.0 3.0 5.0 nan -7.0")
         self.assertEqual(flat(Column(*rows_of(LINE)).coordinates(Dimension.XYM).coordinates),
                          "1.0 2.0 nan 5.0 nan nan")
+
+    @unittest.skipUnless(numpy, "numpy is not here")
+    def test_geoarrow_offsets(self):
+        """The offsets of each list of a kind, as they are told in help. The second row is null, the last one empty."""
+        two, one = (bytes.fromhex(count) + bytes(16 * n) for count, n in (("02000000", 2), ("01000000", 1)))
+        dot, line = bytes.fromhex("010300000001000000") + one, b"\1\2\0\0\0"
+        point, polygon = b"\1\1\0\0\0" + bytes(16), bytes.fromhex("010300000002000000") + two + one
+        for kind, members, expected in (
+            (2, two, [[0, 2, 2, 2]]),
+            (3, bytes.fromhex("02000000") + two + one, [[0, 2, 2, 2], [0, 2, 3]]),
+            (4, bytes.fromhex("02000000") + 2 * point, [[0, 2, 2, 2]]),
+            (5, bytes.fromhex("02000000") + line + two + line + one, [[0, 2, 2, 2], [0, 2, 3]]),
+            (6, bytes.fromhex("02000000") + polygon + dot, [[0, 2, 2, 2], [0, 2, 3], [0, 2, 3, 4]]),
+        ):
+            code = bytes([1, kind, 0, 0, 0])
+            it = Column.of([code + members, None, code + bytes(4)]).coordinates()
+            rows, singles, rings = it.row_offsets, it.single_offsets, it.ring_offsets
+            lists = {2: [rings[singles[rows]]], 3: [singles[rows], rings], 4: [rings[singles[rows]]], 5: [rows, rings],
+                     6: [rows, singles, rings]}
+            self.assertEqual([offsets.tolist() for offsets in lists[kind]], expected, Kind(kind).name)
+        self.assertEqual(Column.of([point, None, point]).coordinates().row_offsets.tolist(), [0, 1, 1, 2])
 
     def test_types(self):
         column = Column(*rows_of(POINTS, EMPTY_POINT))

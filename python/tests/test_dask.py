@@ -16,7 +16,7 @@ import tempfile
 import time
 import unittest
 
-import wkb
+import porchsorrel_wkb as wkb
 
 try:
     import distributed
@@ -78,6 +78,8 @@ class ManyFiles(unittest.TestCase):
         made = run_example("make_partitions.py", cls.before, ROWS, FILES)
         assert made[0] == 0, made
         cls.first = run_example("dask_column.py", cls.before, cls.clean, "--workers", 2, "--progress", 0)
+        _, cls.address = cls.scheduler(cls.addClassCleanup, cls.folder.name)
+        cls.started(cls.addClassCleanup, "distributed.cli.dask_worker", cls.address, "--no-dashboard", "--nthreads", 2)
 
     def setUp(self):
         """A copy of the partitions, of which the test may change some, and a folder for the results."""
@@ -86,6 +88,8 @@ class ManyFiles(unittest.TestCase):
         self.rows, self.out = pathlib.Path(folder.name, "rows"), pathlib.Path(folder.name, "out")
         shutil.copytree(self.before, self.rows)
         self.arguments = "dask_column.py", self.rows, self.out, "--workers", 2
+        # By processes that all tests share, which starts none.
+        self.shared = *self.arguments[:3], "--scheduler", self.address
 
     def test_all(self):
         self.assertEqual(self.first[0], 0, self.first)
@@ -119,7 +123,7 @@ class ManyFiles(unittest.TestCase):
         whole = {name: (self.rows / name).read_bytes() for name in ("0001.npz", "0002.npz")}
         (self.rows / "0001.npz").write_bytes(whole["0001.npz"][:-100])
         numpy.savez(self.rows / "0002.npz", data=numpy.zeros(3, "u1"), offsets=numpy.array([0.5, 1.5]))
-        status, _, said = run_example(*self.arguments)
+        status, _, said = run_example(*self.shared)
         self.assertEqual((status, "2 of the partitions can't be read" in said), (1, True), said)
         lines = table(self.out / "refused.csv")
         bad = [line for line in lines if line[2] == "BAD_PARTITION"]
@@ -132,14 +136,14 @@ class ManyFiles(unittest.TestCase):
             (self.rows / name).write_bytes(data)
         for file in self.out.glob("*.npz"):
             os.utime(self.rows / file.name, ns=(0, 0))
-        self.is_clean(run_example(*self.arguments), 0)
-        self.is_clean(run_example(*self.arguments), FILES)
+        self.is_clean(run_example(*self.shared), 0)
+        self.is_clean(run_example(*self.shared), FILES)
 
     def test_no_partition(self):
         """All are damaged: the tables have no row."""
         for file in self.rows.glob("*.npz"):
             file.write_bytes(b"")
-        status, printed, _ = run_example(*self.arguments)
+        status, printed, _ = run_example(*self.shared)
         self.assertEqual((status, printed.splitlines()[0]), (1, "0 rows, 0 refused, 0 duplicates"))
         self.assertEqual((len(table(self.out / "refused.csv")), table(self.out / "duplicates.csv")), (FILES, []))
 
@@ -156,7 +160,7 @@ class ManyFiles(unittest.TestCase):
         self.assertRegex(said, r"File too large: '.*/out/000\d.npz'; the same command takes up what is done\n")
         self.assertEqual(list(self.out.glob("*.part")), [])
         kept = len(list(self.out.glob("*.npz")))
-        self.is_clean(run_example(*self.arguments), kept)
+        self.is_clean(run_example(*self.shared), kept)
 
     def start(self, *arguments, **options):
         """A run that waits for a partition, a pipe in which there is nothing, when it has done the others."""
@@ -182,7 +186,7 @@ class ManyFiles(unittest.TestCase):
         (self.out / "0009.npz.part").write_bytes(b"cut")
         (self.out / "0003.npz").write_bytes((self.out / "0003.npz").read_bytes()[:-100])
         self.mend()
-        self.is_clean(run_example(*self.arguments), FILES - 2)
+        self.is_clean(run_example(*self.shared), FILES - 2)
 
     def kill_workers(self, process):
         """Kill the processes of a run, and count them."""
@@ -220,7 +224,7 @@ class ManyFiles(unittest.TestCase):
     @unittest.skipUnless(os.path.exists("/proc/self/cmdline"), "there is no /proc")
     def test_workers_that_never_start(self):
         self.gives_up(run_example(*self.arguments, "--timeout", 3, env=self.dying("True")))
-        self.is_clean(run_example(*self.arguments), 0)
+        self.is_clean(run_example(*self.shared), 0)
 
     @unittest.skipUnless(os.path.exists("/proc/self/cmdline"), "there is no /proc")
     def test_one_worker_that_never_starts(self):
@@ -240,30 +244,32 @@ class ManyFiles(unittest.TestCase):
         self.mend()
         printed, said = process.communicate(timeout=300)
         self.gives_up((process.returncode, printed, said), 15)
-        self.is_clean(run_example(*self.arguments), FILES - 1)
+        self.is_clean(run_example(*self.shared), FILES - 1)
 
-    def started(self, *command):
-        """A process of Dask's own, which is killed after the test."""
+    @staticmethod
+    def started(cleanup, *command):
+        """A process of Dask's own, which is killed at the end."""
         process = subprocess.Popen([sys.executable, "-m", *map(str, command)], stderr=subprocess.DEVNULL)
-        self.addCleanup(process.wait)
-        self.addCleanup(process.kill)
+        cleanup(process.wait)
+        cleanup(process.kill)
         return process
 
-    def scheduler(self):
+    @classmethod
+    def scheduler(cls, cleanup, folder):
         """A scheduler without workers, and its address."""
-        file = self.rows.parent / "scheduler.json"
-        scheduler = self.started(
-            "distributed.cli.dask_scheduler", "--port", 0, "--no-dashboard", "--scheduler-file", file)
+        file = pathlib.Path(folder, "scheduler.json")
+        command = "distributed.cli.dask_scheduler", "--port", 0, "--no-dashboard", "--scheduler-file", file
+        scheduler = cls.started(cleanup, *command)
         until(lambda: file.exists() and file.read_text().endswith("}"))
         return scheduler, json.loads(file.read_text())["address"]
 
     def test_scheduler_without_workers(self):
-        _, address = self.scheduler()
+        _, address = self.scheduler(self.addCleanup, self.rows.parent)
         self.gives_up(run_example(*self.arguments[:3], "--scheduler", address, "--timeout", 3))
 
     def test_killed_scheduler(self):
-        scheduler, address = self.scheduler()
-        self.started("distributed.cli.dask_worker", address, "--no-dashboard", "--nthreads", 2)
+        scheduler, address = self.scheduler(self.addCleanup, self.rows.parent)
+        self.started(self.addCleanup, "distributed.cli.dask_worker", address, "--no-dashboard", "--nthreads", 2)
         self.arguments = *self.arguments[:3], "--scheduler", address
         process = self.start(env=dict(os.environ, DASK_DISTRIBUTED__COMM__TIMEOUTS__CONNECT="3s"))
         scheduler.kill()

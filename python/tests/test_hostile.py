@@ -2,11 +2,35 @@
 import array
 import unittest
 
-import wkb
+import porchsorrel_wkb as wkb
 from samples import BIG_POINT, EMPTY_POINT, ISO_POLYGON, LINE, POINT, POINTS, POLYGON, flat, rows_of
-from wkb import Refused, Status
+from porchsorrel_wkb import Refused, Status
 
 NESTED = bytes.fromhex("010700000003000000") + POLYGON + LINE + bytes.fromhex("01ef03000001000000") + POINT
+# Geometries of each kind in both byte orders, with each sort of header, and inside one another.
+WHOLE = [bytes.fromhex(it) for it in (
+    "0101000000000000000000f03f0000000000000040",
+    "0000000001000000000000f03f0000000000000040",
+    "0101000020e6100000000000000000f03f0000000000000040",
+    "00a0000001000010e6000000000000f03f0000000000000040000000000000f03f",
+    "010200000002000000000000000000f03f0000000000000040000000000000f03f0000000000000040",
+    "0060000bba000010e600000001000000000000f03f0000000000000040000000000000f03f0000000000000040",
+    "01030000000200000001000000000000000000f03f000000000000004002000000000000000000f03f00000000000000"
+    "40000000000000f03f0000000000000040",
+    "0000000003000000020000000000000001000000000000f03f0000000000000040",
+    "0104000000020000000101000000000000000000f03f00000000000000400000000001000000000000f03f0000000000"
+    "000040",
+    "0000000004000000010101000000000000000000f03f0000000000000040",
+    "010500000002000000000000000200000000010200000001000000000000000000f03f0000000000000040",
+    "0020000005000010e6000000010020000002000010e600000001000000000000f03f0000000000000040",
+    "01060000000100000000000000030000000100000001000000000000f03f0000000000000040",
+    "00000000060000000201030000000000000001030000000100000001000000000000000000f03f0000000000000040",
+    "010700000000000000",
+    "010700000002000000000000000700000001010500000001000000010200000001000000000000000000f03f00000000"
+    "0000004001e9030000000000000000f03f0000000000000040000000000000f03f",
+    "00000000070000000200000000060000000100000000030000000100000001000000000000f03f000000000000004001"
+    "04000000010000000000000001000000000000f03f0000000000000040",
+)]
 SEEDS = POINT, BIG_POINT, EMPTY_POINT, POLYGON, ISO_POLYGON, POINTS, LINE, NESTED
 
 
@@ -32,10 +56,15 @@ class Hostile(unittest.TestCase):
         self.column = wkb.Column(*rows_of(*self.rows))
 
     def test_prefixes(self):
-        for seed in SEEDS:
-            self.assertEqual(wkb.check(seed).size, len(seed))
-            for i in range(len(seed)):
-                self.assertRaises(Refused, wkb.check, seed[:i])
+        """Whatever is cut lacks bytes, and its fault says how many where the part is known."""
+        for whole in (*SEEDS, *WHOLE):
+            self.assertEqual(wkb.check(whole).size, len(whole))
+            for i in range(len(whole)):
+                with self.assertRaises(Refused) as raised:
+                    wkb.check(whole[:i])
+                status, fault = raised.exception.status, raised.exception.fault
+                self.assertIs(wkb.is_early_end(status), True, whole[:i].hex())
+                self.assertEqual(fault.end > fault.len, status != Status.SHORT_HEADER, whole[:i].hex())
 
     def test_check(self):
         expected = bytes(result(wkb.check, row)[1] for row in self.rows)

@@ -6,7 +6,7 @@ import struct
 import unittest
 
 from samples import EMPTY_POINT, POINT, flat
-from wkb import Column, Dimension, Form, Kind, Order, Status, check, column_from_coordinates
+from porchsorrel_wkb import Column, Dimension, Form, Kind, Order, Status, check, column_from_coordinates
 
 try:
     import numpy

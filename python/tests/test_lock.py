@@ -1,18 +1,26 @@
 """Which calls give the interpreter's lock back: those over columns and long inputs, and no others."""
+import array
+import random
 import struct
+import subprocess
 import sys
 import threading
+import time
 import unittest
 
-import wkb
+import porchsorrel_wkb as wkb
 from samples import POINT
-from wkb import Column, Kind, collect, column_from_coordinates
+from porchsorrel_wkb import Column, Kind, Order, _wkb, collect, column_from_coordinates
 
 COUNT = 100_000
 # A collection of points, whose parts are read one by one.
 LONG = struct.pack("<BII", 1, 7, COUNT) + COUNT * POINT
 COLUMN = Column.of(COUNT * [POINT])
-LEVELS = COLUMN.coordinates()
+LEVELS = memoryview(COLUMN.coordinates().coordinates).toreadonly()
+ROOMS = None, None, None, bytearray(8 * COUNT + 8), bytearray(COUNT)
+# The same memory where another thread may write it.
+WRITABLE, NUMBERS = bytearray(LONG), bytearray(LEVELS)
+COPY = Column(bytearray(COLUMN._data), COLUMN._offsets, offset_size=8)
 
 
 def order_of(call, times):
@@ -41,15 +49,61 @@ def order_of(call, times):
     return happened
 
 
+def flip(seconds):
+    """Calls over bytes that another thread flips."""
+    size, end = len(POINT), time.process_time() + seconds
+    data = bytearray(100 * POINT)
+    column = Column(data, array.array("q", range(0, len(data) + 1, size)))
+    long = bytearray(struct.pack("<BII", 1, 7, 1000) + 1000 * POINT)
+    calls = (column.write, column.coordinates, column.parts, column.bounds, lambda: wkb.parts(long),
+             lambda: wkb.write(long, Order.BIG), lambda: collect(column, Kind.MULTI_POINT))
+
+    def other():
+        while time.process_time() < end:
+            for it in (data, long):
+                place, bit = random.randrange(len(it)), 1 << random.randrange(8)
+                it[place] ^= bit
+                it[place] ^= bit
+
+    thread = threading.Thread(target=other)
+    sys.setswitchinterval(1e-6)
+    thread.start()
+    while thread.is_alive():
+        for call in calls:
+            try:
+                call()
+            except (wkb.Refused, RuntimeError):
+                pass
+    thread.join()
+
+
 class Lock(unittest.TestCase):
     def test_given_back(self):
         for call in (lambda: wkb.check(LONG), lambda: wkb.bounds(LONG), lambda: wkb.write(LONG),
                      lambda: wkb.same(LONG, LONG), lambda: wkb.parts(LONG), COLUMN.check, COLUMN.bounds, COLUMN.parts,
                      COLUMN.write, COLUMN.coordinates, lambda: collect(COLUMN, Kind.MULTI_POINT),
-                     lambda: column_from_coordinates(Kind.POINT, LEVELS.coordinates)):
+                     lambda: _wkb.column_coordinates(COLUMN._arguments(), 0, ROOMS),
+                     lambda: column_from_coordinates(Kind.POINT, LEVELS)):
             self.assertEqual(order_of(call, 1_000), ["begin", "meanwhile", "end"])
+
+    def test_kept_over_what_may_change(self):
+        """Two passes over memory that another thread writes between them would write past their results."""
+        for call in (lambda: wkb.check(WRITABLE), lambda: wkb.bounds(WRITABLE), lambda: wkb.write(WRITABLE),
+                     lambda: wkb.same(LONG, WRITABLE), lambda: wkb.parts(WRITABLE), COPY.check, COPY.bounds, COPY.parts,
+                     COPY.write, COPY.coordinates, lambda: collect(COPY, Kind.MULTI_POINT),
+                     lambda: column_from_coordinates(Kind.POINT, memoryview(NUMBERS).cast("d"))):
+            self.assertEqual(order_of(call, 20), ["begin", "end", "meanwhile"])
+
+    def test_written_meanwhile(self):
+        """A thread that flips bytes of the input of every call ends no process."""
+        ran = subprocess.run([sys.executable, __file__, "flip"], stderr=subprocess.PIPE, timeout=300)
+        self.assertEqual((ran.returncode, ran.stderr), (0, b""))
 
     def test_kept(self):
         """Calls over short inputs, many of them one after another."""
         for call in (wkb.check, wkb.bounds, wkb.write, wkb.parts, lambda it: wkb.same(it, it)):
             self.assertEqual(order_of(lambda: call(POINT), 50_000), ["begin", "end", "meanwhile"])
+
+
+if __name__ == "__main__":
+    flip(1)

@@ -11,10 +11,10 @@ import sys
 import tracemalloc
 import unittest
 
-import wkb
+import porchsorrel_wkb as wkb
 from capsules import KEPT, Arrow, Records, Stream, Views
 from samples import LINE, POINT, POINTS, POLYGON, ROWS
-from wkb import Column, Dimension, Form, Kind, collect, column_from_coordinates
+from porchsorrel_wkb import Column, Dimension, Form, Kind, collect, column_from_coordinates
 
 try:
     import _testcapi

@@ -17,8 +17,8 @@ class Package(NamedTuple):
     works: str  # lines that end without an error where it works
 
 
-US = Package("wkb", """
-import wkb
+US = Package("porchsorrel_wkb", """
+import porchsorrel_wkb as wkb
 """, """
 from capsules import Arrow, Stream, Views
 from samples import POINT, ROWS, STATUSES

@@ -2,6 +2,7 @@
 import concurrent.futures
 import ctypes
 import inspect
+import io
 import os
 import pathlib
 import pydoc
@@ -12,9 +13,14 @@ import sys
 import tempfile
 import unittest
 
-import wkb
+import porchsorrel_wkb as wkb
 from samples import ISO_POLYGON, POINT, POLYGON
-from wkb import Status, _records, _wkb
+from porchsorrel_wkb import Status, _records, _wkb
+
+try:
+    import docutils.core
+except ImportError:
+    docutils = None
 
 # The library is beside the package in the repository, above it in the source package.
 TOP = pathlib.Path(__file__).resolve().parents[2]
@@ -64,15 +70,35 @@ class Names(unittest.TestCase):
             call = r"\(" if inspect.isfunction(getattr(wkb, name)) else ""
             self.assertRegex(wkb.__doc__, rf"\b{name}\b{call}")
         for name in {name for name in vars(wkb.Column) if not name.startswith("_")}:
-            self.assertRegex(wkb.__doc__, rf"\.{name}\(")
+            call = r"\(" if inspect.isroutine(getattr(wkb.Column, name)) else ""
+            self.assertRegex(wkb.__doc__, rf"\.{name}\b{call}")
 
     def test_names(self):
-        self.assertEqual(len(self.PUBLIC), 30)
+        self.assertEqual(len(self.PUBLIC), 35)
         for name in self.PUBLIC:
             self.assertTrue(getattr(wkb, name).__doc__, name)
         everything = {}
-        exec("from wkb import *", everything)
+        exec("from porchsorrel_wkb import *", everything)
         self.assertEqual(self.PUBLIC, everything.keys() - {"__builtins__"})
+
+    def test_fields(self):
+        """The docstring of each class with fields says what each is."""
+        for name in self.PUBLIC:
+            it = getattr(wkb, name)
+            for field in getattr(it, "_fields", getattr(it, "__match_args__", ())):
+                self.assertRegex(it.__doc__, rf"\n *:ivar {field}: \w", name)
+        for form in wkb.Form:
+            self.assertRegex(wkb.Form.__doc__, rf":cvar {form.name}: \w")
+
+    @unittest.skipUnless(docutils, "docutils is not here")
+    def test_markup(self):
+        """Docstrings are reST, as Sphinx takes it."""
+        shown = [(wkb, wkb.__name__), *((getattr(wkb, name), name) for name in self.PUBLIC)]
+        shown += [(it, f"Column.{name}") for name, it in vars(wkb.Column).items() if not name.startswith("_")]
+        for it, name in shown:
+            told = io.StringIO()
+            docutils.core.publish_doctree(inspect.getdoc(it), settings_overrides={"warning_stream": told})
+            self.assertEqual(told.getvalue(), "", name)
 
     def test_version(self):
         written = re.search(r'^version = "(.*)"$', (TOP / "python/pyproject.toml").read_text(), re.MULTILINE)
@@ -82,21 +108,15 @@ class Names(unittest.TestCase):
 class Inside(unittest.TestCase):
     """The library is inside the extension, and no other library is looked for."""
 
-    def test_load(self):
-        self.assertIsNone(wkb.load())
-        for path in ("libc.so.6", pathlib.Path("none.so")):
-            self.assertRaisesRegex(OSError, f"{path} can't take its place", wkb.load, path)
-        self.assertEqual(wkb.check(POINT).size, 21)
-
     def test_environment(self):
         """The package works anywhere, whatever WKB_LIBRARY names."""
         with tempfile.TemporaryDirectory() as folder:
-            shutil.copytree(pathlib.Path(wkb.__file__).parent, f"{folder}/wkb",
+            shutil.copytree(pathlib.Path(wkb.__file__).parent, f"{folder}/porchsorrel_wkb",
                             ignore=shutil.ignore_patterns("__pycache__"))
             environment = dict(os.environ, PYTHONPATH=folder, WKB_LIBRARY=f"{folder}/none.so")
-            program = "import wkb; print(wkb.__file__, wkb.version())"
+            program = "import porchsorrel_wkb as wkb; print(wkb.__file__, wkb.version())"
             ran = subprocess.run([sys.executable, "-c", program], env=environment, stdout=subprocess.PIPE, check=True)
-            self.assertEqual(ran.stdout.decode(), f"{folder}/wkb/__init__.py (1, 0, 0)\n")
+            self.assertEqual(ran.stdout.decode(), f"{folder}/porchsorrel_wkb/__init__.py (1, 0, 0)\n")
 
     def test_names(self):
         """The extension shows its first function alone, so that a program may have another such library."""
@@ -117,6 +137,14 @@ class OtherProcesses(unittest.TestCase):
 
 @unittest.skipUnless((C / "examples/example.py").exists(), "only the repository has the example")
 class Example(unittest.TestCase):
+    @unittest.skipUnless((TOP / "examples/thread_column.py").exists(), "only the repository has the example")
+    def test_threads(self):
+        command = [sys.executable, TOP / "examples/thread_column.py", "1000", "3"]
+        printed = subprocess.run(command, stdout=subprocess.PIPE, check=True).stdout.decode()
+        seconds = r"\d+\.\d+ s \(\d+\.\d+\)"
+        self.assertRegex(printed, "^" + "".join(f"{it}: {seconds} in one thread, {seconds} in 3\n"
+                                                for it in ("check", "bounds", "write")) + "$")
+
     def test_output(self):
         ran = subprocess.run([sys.executable, C / "examples/example.py"], stdout=subprocess.PIPE, check=True)
         self.assertEqual(ran.stdout.decode().splitlines(), [

@@ -5,7 +5,7 @@ import pickle
 import unittest
 
 from samples import ISO_POLYGON, POINT, POLYGON, ROWS, STATUSES
-from wkb import Column, Status
+from porchsorrel_wkb import Column, Status
 
 try:
     import numpy

@@ -5,7 +5,7 @@ import struct
 import unittest
 
 from samples import flat, rows_of
-from wkb import Column, Dimension, Kind
+from porchsorrel_wkb import Column, Dimension, Kind
 
 try:
     import shapely.wkb

@@ -8,7 +8,7 @@ import unittest
 
 from capsules import Arrow, Records, Views, memory_of
 from samples import POINT
-from wkb import Column, Dimension, Kind, Status, check, column_from_coordinates
+from porchsorrel_wkb import Column, Dimension, Kind, Status, check, column_from_coordinates
 
 ROWS = 50_000
 LINE = struct.pack("<BII", 1, 2, 0)

@@ -3,7 +3,7 @@ import array
 import mmap
 from typing import Any, List, Optional, Tuple
 
-import wkb
+import porchsorrel_wkb as wkb
 
 
 class NotArrow:

@@ -1,38 +1,12 @@
 /* Arrow's capsules. A struct that comes in is moved into a capsule of the package's own, which owns it; the capsule of
  * a child owns its parent's. The package tests the counts; here no pointer is followed that is null or, by the counts,
- * isn't there. What a struct shows that goes out is held by a tuple, and let go when the struct is released. */
+ * isn't there. Of a released struct nothing is read but that it is. */
 #include <string.h>
 
-#include "extension.h"
+#include "arrow.h"
 
-/* The structs of Arrow's C data interface and C stream interface. */
-struct ArrowSchema {
-  const char *format, *name, *metadata;
-  int64_t flags, n_children;
-  struct ArrowSchema **children, *dictionary;
-  void (*release)(struct ArrowSchema *);
-  void *private_data;
-};
-
-struct ArrowArray {
-  int64_t length, null_count, offset, n_buffers, n_children;
-  const void **buffers;
-  struct ArrowArray **children, *dictionary;
-  void (*release)(struct ArrowArray *);
-  void *private_data;
-};
-
-struct ArrowArrayStream {
-  int (*get_schema)(struct ArrowArrayStream *, struct ArrowSchema *);
-  int (*get_next)(struct ArrowArrayStream *, struct ArrowArray *);
-  const char *(*get_last_error)(struct ArrowArrayStream *);
-  void (*release)(struct ArrowArrayStream *);
-  void *private_data;
-};
-
-/* The kinds of structs that capsules have, with their names and sizes. */
-enum { SCHEMA, ARRAY, STREAM };
-static const char *const STRUCT_NAMES[] = {"arrow_schema", "arrow_array", "arrow_array_stream"};
+/* By the kinds of structs. */
+const char *const STRUCT_NAMES[] = {"arrow_schema", "arrow_array", "arrow_array_stream"};
 static const size_t SIZES[] = {sizeof(struct ArrowSchema), sizeof(struct ArrowArray), sizeof(struct ArrowArrayStream)};
 
 /* Releases a struct. A release may run Python, so an error that is on its way is kept. */
@@ -42,8 +16,9 @@ static void release(int kind, void *it) {
   struct ArrowArray *array = it;
   struct ArrowArrayStream *stream = it;
   PyErr_Fetch(&error[0], &error[1], &error[2]);
-  if (kind == SCHEMA && schema->release != NULL) schema->release(schema);
-  if (kind == ARRAY && array->release != NULL) array->release(array);
+  int is_own = end_own(kind, it);
+  if (!is_own && kind == SCHEMA && schema->release != NULL) schema->release(schema);
+  if (!is_own && kind == ARRAY && array->release != NULL) array->release(array);
   if (kind == STREAM && stream->release != NULL) stream->release(stream);
   PyErr_Restore(error[0], error[1], error[2]);
 }
@@ -57,8 +32,7 @@ static void end_struct(PyObject *capsule) {
 
 static void end_child(PyObject *capsule) { Py_XDECREF((PyObject *)PyCapsule_GetContext(capsule)); }
 
-/* A capsule of a struct with these bytes, or with none, which owns it. */
-static PyObject *new_struct(const void *from, int kind) {
+PyObject *new_struct(const void *from, int kind) {
   void *it = PyMem_Calloc(1, SIZES[kind]);
   if (it == NULL) return PyErr_NoMemory();
   PyObject *capsule = PyCapsule_New(it, STRUCT_NAMES[kind], end_struct);
@@ -101,15 +75,42 @@ static PyObject *child_of(PyObject *module, PyObject *args) {
   return capsule;
 }
 
-/* schema_name(schema, most): the name, of a longer one so many bytes. */
+/* schema_name(schema, most): the name, of a longer one so many bytes. The texts of a released struct are gone. */
 static PyObject *schema_name(PyObject *module, PyObject *args) {
   PyObject *capsule;
   Py_ssize_t most, size = 0;
   if (!PyArg_ParseTuple(args, "On", &capsule, &most)) return NULL;
   const struct ArrowSchema *it = PyCapsule_GetPointer(capsule, STRUCT_NAMES[SCHEMA]);
   if (it == NULL) return NULL;
-  while (it->name != NULL && size < most && it->name[size] != 0) size++;
-  return PyBytes_FromStringAndSize(it->name, size);
+  const char *name = it->release != NULL ? it->name : NULL;
+  while (name != NULL && size < most && name[size] != 0) size++;
+  return PyBytes_FromStringAndSize(name, size);
+}
+
+/* schema_metadata(schema, key, most): the value of a key in its metadata, where all before it and itself have up to so
+ * many bytes; else None. */
+static PyObject *schema_metadata(PyObject *module, PyObject *args) {
+  PyObject *capsule;
+  const char *key;
+  Py_ssize_t key_size, most;
+  if (!PyArg_ParseTuple(args, "Oy#n", &capsule, &key, &key_size, &most)) return NULL;
+  const struct ArrowSchema *it = PyCapsule_GetPointer(capsule, STRUCT_NAMES[SCHEMA]);
+  if (it == NULL) return NULL;
+  const char *at = it->release != NULL ? it->metadata : NULL, *text[2];
+  int32_t pairs = 0, size[2];
+  if (at != NULL) memcpy(&pairs, at, sizeof pairs);
+  if (at != NULL) at += sizeof pairs;
+  for (; pairs > 0; pairs--) {
+    for (int i = 0; i < 2; i++) {
+      memcpy(&size[i], at, sizeof size[i]);
+      if (size[i] < 0 || size[i] > most) return Py_NewRef(Py_None);
+      text[i] = at + sizeof size[i];
+      at = text[i] + size[i];
+    }
+    if (size[0] == key_size && memcmp(text[0], key, (size_t)key_size) == 0)
+      return PyBytes_FromStringAndSize(text[1], size[1]);
+  }
+  return Py_NewRef(Py_None);
 }
 
 /* schema_fields(schema): its format or None, the number of children, whether it has a dictionary, and isn't released.
@@ -117,7 +118,8 @@ static PyObject *schema_name(PyObject *module, PyObject *args) {
 static PyObject *schema_fields(PyObject *module, PyObject *capsule) {
   const struct ArrowSchema *it = PyCapsule_GetPointer(capsule, STRUCT_NAMES[SCHEMA]);
   if (it == NULL) return NULL;
-  return Py_BuildValue("(yLii)", it->format, (long long)it->n_children, it->dictionary != NULL, it->release != NULL);
+  const char *format = it->release != NULL ? it->format : NULL;
+  return Py_BuildValue("(yLii)", format, (long long)it->n_children, it->dictionary != NULL, it->release != NULL);
 }
 
 /* array_fields(array): five counts, whether it has a list of buffers and a dictionary, and is not released. */
@@ -167,107 +169,14 @@ static PyObject *stream_next(PyObject *module, PyObject *args) {
   return Py_BuildValue("(iy)", code, text);
 }
 
-/* An array has validity, offsets and data at most. */
-enum { MOST_BUFFERS = 3 };
-
-/* What is behind a struct: its one child, and the tuple that holds its texts or its buffers. */
-typedef struct {
-  union {
-    struct ArrowSchema schema;
-    struct ArrowArray array;
-  } child;
-  void *children[1];
-  const void *buffers[MOST_BUFFERS];
-  PyObject *node;
-} inside;
-
-/* A consumer may release from any thread, and after the interpreter's end, when nothing can be let go. */
-static void let_go(inside *own) {
-  if (!Py_IsInitialized()) return;
-  PyGILState_STATE locked = PyGILState_Ensure();
-  Py_DECREF(own->node);
-  PyMem_Free(own);
-  PyGILState_Release(locked);
-}
-
-static void release_schema(struct ArrowSchema *it) {
-  inside *own = it->private_data;
-  it->release = NULL;
-  if (own->child.schema.release != NULL) own->child.schema.release(&own->child.schema);
-  let_go(own);
-}
-
-static void release_array(struct ArrowArray *it) {
-  inside *own = it->private_data;
-  it->release = NULL;
-  if (own->child.array.release != NULL) own->child.array.release(&own->child.array);
-  let_go(own);
-}
-
-/* Where the bytes of memory views are, which hold them. */
-static int find_buffers(PyObject *views, inside *own) {
-  holds h;
-  span bytes;
-  Py_ssize_t count = PyTuple_Size(views);
-  h.count = 0;
-  for (Py_ssize_t i = 0; i < count && i < MOST_BUFFERS; i++) {
-    if (hold_optional(&h, PyTuple_GetItem(views, i), &bytes) < 0) return -1;
-    own->buffers[i] = bytes.at;
-    let(&h);
-  }
-  return 0;
-}
-
-/* Fills a schema or an array from (format, name, metadata or None, flags, length, nulls, views of buffers, child or
- * None). On failure there is nothing to release. */
-static int fill(int kind, PyObject *node, void *out) {
-  const char *format, *name;
-  long long flags, length, nulls;
-  PyObject *told, *views, *child;
-  if (!PyArg_ParseTuple(node, "yyOLLLO!O", &format, &name, &told, &flags, &length, &nulls, &PyTuple_Type, &views,
-                        &child))
-    return -1;
-  char *metadata = told == Py_None ? NULL : PyBytes_AsString(told);
-  inside *own = told == Py_None || metadata != NULL ? PyMem_Calloc(1, sizeof *own) : NULL;
-  if (own == NULL) {
-    if (!PyErr_Occurred()) PyErr_NoMemory();
-    return -1;
-  }
-  own->node = Py_NewRef(node);
-  own->children[0] = &own->child;
-  struct ArrowSchema schema = {
-      format, name, metadata, flags, child != Py_None, (struct ArrowSchema **)own->children, NULL, release_schema, own};
-  struct ArrowArray array = {.length = length, .null_count = nulls, .release = release_array, .private_data = own};
-  array.n_buffers = PyTuple_Size(views);
-  array.buffers = own->buffers;
-  array.n_children = child != Py_None;
-  array.children = (struct ArrowArray **)own->children;
-  memcpy(out, kind == SCHEMA ? (void *)&schema : (void *)&array, SIZES[kind]);
-  if ((kind == SCHEMA || find_buffers(views, own) == 0) && (child == Py_None || fill(kind, child, &own->child) == 0))
-    return 0;
-  release(kind, out);
-  return -1;
-}
-
-/* export(node, kind): the capsule of its schema or of its array. */
-static PyObject *export(PyObject *module, PyObject *args) {
-  PyObject *node;
-  int is_array;
-  if (!PyArg_ParseTuple(args, "O!p", &PyTuple_Type, &node, &is_array)) return NULL;
-  int kind = is_array ? ARRAY : SCHEMA;
-  PyObject *capsule = new_struct(NULL, kind);
-  if (capsule != NULL && fill(kind, node, PyCapsule_GetPointer(capsule, STRUCT_NAMES[kind])) < 0) Py_CLEAR(capsule);
-  return capsule;
-}
-
 PyMethodDef ARROW_CALLS[] = {
     {"take", take, METH_VARARGS, NULL},
     {"child", child_of, METH_VARARGS, NULL},
     {"schema_name", schema_name, METH_VARARGS, NULL},
+    {"schema_metadata", schema_metadata, METH_VARARGS, NULL},
     {"schema_fields", schema_fields, METH_O, NULL},
     {"array_fields", array_fields, METH_O, NULL},
     {"array_buffer", array_buffer, METH_VARARGS, NULL},
     {"stream_next", stream_next, METH_VARARGS, NULL},
-    {"export", export, METH_VARARGS, NULL},
     {NULL, NULL, 0, NULL},
 };

@@ -28,6 +28,7 @@ int hold_input(holds *h, PyObject *data, span *out) {
   Py_buffer *view = &h->view[h->count];
   if (PyObject_GetBuffer(data, view, PyBUF_SIMPLE) < 0 && hold_copy(data, view) < 0) return -1;
   h->count++;
+  h->may_change |= !view->readonly;
   *out = (span){view->buf, (size_t)view->len};
   return 0;
 }
@@ -67,8 +68,10 @@ void let(holds *h) {
   while (h->count > 0) PyBuffer_Release(&h->view[--h->count]);
 }
 
-/* Gives the lock back for a call over a long input. */
-PyThreadState *unlock(size_t size) { return size >= LONG ? PyEval_SaveThread() : NULL; }
+/* Gives the lock back for a call over a long input, if none of the inputs is memory that another thread may write. */
+PyThreadState *unlock(const holds *h, size_t size) {
+  return size >= LONG && !h->may_change ? PyEval_SaveThread() : NULL;
+}
 
 /* Takes it again. */
 void lock(PyThreadState *unlocked) {

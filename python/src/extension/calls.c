@@ -19,9 +19,9 @@ static PyObject *read_one(state *s, PyObject *data, int for_bounds) {
   wkb_found found;
   wkb_box box;
   wkb_fault fault;
-  h.count = 0;
+  h.count = h.may_change = 0;
   if (hold_input(&h, data, &in) < 0) return NULL;
-  PyThreadState *unlocked = unlock(in.size);
+  PyThreadState *unlocked = unlock(&h, in.size);
   uint32_t status = for_bounds ? wkb_bounds(in.at, in.size, &box, &fault) : wkb_check(in.at, in.size, &found, &fault);
   lock(unlocked);
   PyObject *result = status != WKB_STATUS_OK ? refuse(s, status, &fault, 1, in)
@@ -36,19 +36,44 @@ static PyObject *check(PyObject *module, PyObject *data) { return read_one(state
 static PyObject *bounds(PyObject *module, PyObject *data) { return read_one(state_of(module), data, 1); }
 
 /* An encoding that is longer than SMALL, whose size is known. */
-static PyObject *write_long(span in, const wkb_options *options, size_t size) {
+static PyObject *write_long(const holds *h, span in, const wkb_options *options, size_t size) {
   wkb_fault fault;
   size_t again = 0;
   PyObject *out = PyBytes_FromStringAndSize(NULL, (Py_ssize_t)size);
   if (out == NULL) return NULL;
   char *to = PyBytes_AsString(out);
-  PyThreadState *unlocked = unlock(in.size);
+  PyThreadState *unlocked = unlock(h, in.size);
   uint32_t status = wkb_write(in.at, in.size, options, to, size, &again, &fault);
   lock(unlocked);
   return status == WKB_STATUS_OK && again == size ? out : changed(out);
 }
 
-/* write(data, options): the order, the form and the SRID are in one number, from its bits 0, 8 and 32 on. */
+/* Whether an object is a number from 0 on that is at most this. */
+static int is_number(PyObject *given, unsigned long long most, uint32_t *out) {
+  if (!PyLong_Check(given)) return 0;
+  unsigned long long number = PyLong_AsUnsignedLongLong(given);
+  if (number > most) PyErr_Clear();
+  *out = (uint32_t)number;
+  return number <= most;
+}
+
+/* Reads an order, a form and an SRID. The package's make_options says what is wrong with others than numbers that have
+ * a meaning, or makes such of them. */
+static int read_options(state *s, PyObject *const *given, wkb_options *out) {
+  int has_srid = given[2] != Py_None;
+  *out = (wkb_options){0, has_srid ? WKB_FORM_EWKB_WITH_SRID : WKB_FORM_ISO, 0};
+  if (is_number(given[0], WKB_ORDER_LITTLE, &out->order) &&
+      (given[1] == Py_None || is_number(given[1], WKB_FORM_EWKB_WITHOUT_SRID, &out->form)) &&
+      (!has_srid || is_number(given[2], UINT32_MAX, &out->srid)) &&
+      has_srid == (out->form == WKB_FORM_EWKB_WITH_SRID))
+    return 0;
+  PyObject *made = PyObject_CallFunctionObjArgs(s->it[OPTIONS], given[0], given[1], given[2], NULL);
+  int is_made = made != NULL && PyArg_ParseTuple(made, "III", &out->order, &out->form, &out->srid);
+  Py_XDECREF(made);
+  return is_made ? 0 : -1;
+}
+
+/* write(data, order, form, srid) */
 static PyObject *write_one(PyObject *module, PyObject *const *args, Py_ssize_t count) {
   state *s = state_of(module);
   char small[SMALL];
@@ -57,18 +82,17 @@ static PyObject *write_one(PyObject *module, PyObject *const *args, Py_ssize_t c
   wkb_fault fault;
   size_t size;
   PyObject *result;
-  h.count = 0;
-  if (count != 2) return PyErr_Format(PyExc_TypeError, "two arguments are expected");
-  unsigned long long number = PyLong_AsUnsignedLongLong(args[1]);
-  wkb_options options = {number & 255, number >> 8 & 255, (uint32_t)(number >> 32)};
-  if (PyErr_Occurred() || hold_input(&h, args[0], &in) < 0) return NULL;
-  PyThreadState *unlocked = unlock(in.size);
+  h.count = h.may_change = 0;
+  wkb_options options;
+  if (count != 4) return PyErr_Format(PyExc_TypeError, "four arguments are expected");
+  if (read_options(s, args + 1, &options) < 0 || hold_input(&h, args[0], &in) < 0) return NULL;
+  PyThreadState *unlocked = unlock(&h, in.size);
   uint32_t status = wkb_write(in.at, in.size, &options, small, sizeof small, &size, &fault);
   lock(unlocked);
   if (status == WKB_STATUS_OK)
     result = PyBytes_FromStringAndSize(small, (Py_ssize_t)size);
   else if (status == WKB_STATUS_NO_ROOM)
-    result = write_long(in, &options, size);
+    result = write_long(&h, in, &options, size);
   else
     result = refuse(s, status, &fault, 1, in);
   let(&h);
@@ -82,10 +106,10 @@ static PyObject *same(PyObject *module, PyObject *const *args, Py_ssize_t count)
   wkb_fault fault;
   uint32_t equal, which;
   PyObject *result = NULL;
-  h.count = 0;
+  h.count = h.may_change = 0;
   if (count != 2) return PyErr_Format(PyExc_TypeError, "two arguments are expected");
   if (hold_input(&h, args[0], &in[0]) == 0 && hold_input(&h, args[1], &in[1]) == 0) {
-    PyThreadState *unlocked = unlock(in[0].size + in[1].size);
+    PyThreadState *unlocked = unlock(&h, in[0].size + in[1].size);
     uint32_t status = wkb_same(in[0].at, in[0].size, in[1].at, in[1].size, &equal, &fault, &which);
     lock(unlocked);
     result = status == WKB_STATUS_OK ? PyBool_FromLong(equal == 1)
@@ -103,9 +127,9 @@ static PyObject *parts(PyObject *module, PyObject *data) {
   wkb_fault fault;
   size_t count = 0;
   PyObject *table = NULL;
-  h.count = 0;
+  h.count = h.may_change = 0;
   if (hold_input(&h, data, &in) < 0) return NULL;
-  PyThreadState *unlocked = unlock(in.size);
+  PyThreadState *unlocked = unlock(&h, in.size);
   uint32_t status = wkb_check(in.at, in.size, &found, &fault);
   lock(unlocked);
   if (status == WKB_STATUS_OK)
@@ -114,7 +138,7 @@ static PyObject *parts(PyObject *module, PyObject *data) {
     refuse(state_of(module), status, &fault, 1, in);
   if (table != NULL) {
     void *to = PyByteArray_AsString(table);
-    unlocked = unlock(in.size);
+    unlocked = unlock(&h, in.size);
     status = wkb_parts(in.at, in.size, to, (size_t)found.parts, &count, &fault);
     lock(unlocked);
     if (status != WKB_STATUS_OK || count != found.parts) table = changed(table);
@@ -123,10 +147,79 @@ static PyObject *parts(PyObject *module, PyObject *data) {
   return table;
 }
 
+/* Whether the bytes have a part where it says: header and count are right, and no byte is missing. */
+static int is_there(span in, const wkb_part *part) {
+  wkb_found found;
+  wkb_fault fault;
+  if (part->begin > in.size || part->kind > WKB_KIND_LINE_STRING) return 0;
+  const uint8_t *at = in.at + part->begin;
+  size_t size = in.size - (size_t)part->begin;
+  if (part->kind != WKB_KIND_RING)
+    return wkb_check(at, size, &found, &fault) == WKB_STATUS_OK && part->offset == part->begin + found.offset &&
+           part->count == found.count && part->kind == found.kind && part->dimension == found.dimension &&
+           part->order == found.order && part->has_srid == found.has_srid && part->srid == found.srid;
+  if (size < 4 || part->offset != part->begin + 4) return 0;
+  uint32_t little = (uint32_t)at[0] | (uint32_t)at[1] << 8 | (uint32_t)at[2] << 16 | (uint32_t)at[3] << 24;
+  uint32_t big = (uint32_t)at[3] | (uint32_t)at[2] << 8 | (uint32_t)at[1] << 16 | (uint32_t)at[0] << 24;
+  return part->count == (part->order == WKB_ORDER_LITTLE ? little : big) && part->count <= (size - 4) / 8 / part->width;
+}
+
+/* A list with a tuple for each coordinate. */
+static PyObject *list_of(const void *data, const wkb_part *part) {
+  double words[4];
+  PyObject *list = PyList_New((Py_ssize_t)part->count);
+  for (uint64_t i = 0; list != NULL && i < part->count; i++) {
+    PyObject *tuple = PyTuple_New(part->width);
+    wkb_words(data, part, i, 1, words);
+    for (unsigned n = 0; tuple != NULL && n < part->width; n++) {
+      PyObject *word = PyFloat_FromDouble(words[n]);
+      if (word == NULL || PyTuple_SetItem(tuple, n, word) < 0) Py_CLEAR(tuple);
+    }
+    if (tuple == NULL || PyList_SetItem(list, (Py_ssize_t)i, tuple) < 0) Py_CLEAR(list);
+  }
+  return list;
+}
+
+/* The coordinates of a part, or the bytes where they begin and end; None where the data has no such part. */
+static PyObject *read_part_of(state *s, PyObject *const *args, Py_ssize_t count, int for_place) {
+  holds h;
+  span in;
+  wkb_part part;
+  h.count = h.may_change = 0;
+  if (count != 2) return PyErr_Format(PyExc_TypeError, "two arguments are expected");
+  int is_part = read_part(s, args[1], &part);
+  if (is_part < 0 || hold_input(&h, args[0], &in) < 0) return NULL;
+  PyObject *result = !is_part || !is_there(in, &part) ? Py_NewRef(Py_None) : for_place ? NULL : list_of(in.at, &part);
+  if (result == NULL && for_place)
+    result = Py_BuildValue("(nn)", (Py_ssize_t)part.offset, (Py_ssize_t)(part.offset + 8 * part.width * part.count));
+  let(&h);
+  return result;
+}
+
+/* coordinates(data, part) */
+static PyObject *coordinates(PyObject *module, PyObject *const *args, Py_ssize_t count) {
+  return read_part_of(state_of(module), args, count, 0);
+}
+
+/* place_of_words(data, part) */
+static PyObject *place_of_words(PyObject *module, PyObject *const *args, Py_ssize_t count) {
+  return read_part_of(state_of(module), args, count, 1);
+}
+
 static PyObject *status_text(PyObject *module, PyObject *status) {
   unsigned long number = PyLong_AsUnsignedLongMask(status);
   if (number == (unsigned long)-1 && PyErr_Occurred()) return NULL;
   return PyUnicode_FromString(wkb_status_text((uint32_t)number));
+}
+
+/* fault_text(part, offset, end, len, code, status): what a fault says, in one line. */
+static PyObject *fault_text(PyObject *module, PyObject *args) {
+  unsigned long long part, offset, end, len;
+  unsigned code, status;
+  char text[WKB_FAULT_TEXT_ROOM];
+  if (!PyArg_ParseTuple(args, "KKKKII", &part, &offset, &end, &len, &code, &status)) return NULL;
+  const wkb_fault fault = {part, offset, end, len, code, status};
+  return PyUnicode_FromStringAndSize(text, (Py_ssize_t)wkb_fault_text(&fault, text, sizeof text));
 }
 
 #define FAST(CALL) (PyCFunction)(void (*)(void))(CALL), METH_FASTCALL
@@ -136,7 +229,10 @@ PyMethodDef CALLS[] = {
     {"write", FAST(write_one), NULL},
     {"same", FAST(same), NULL},
     {"parts", parts, METH_O, NULL},
+    {"coordinates", FAST(coordinates), NULL},
+    {"place_of_words", FAST(place_of_words), NULL},
     {"status_text", status_text, METH_O, NULL},
+    {"fault_text", fault_text, METH_VARARGS, NULL},
     {"read_record", read_record, METH_VARARGS, NULL},
     {NULL, NULL, 0, NULL},
 };

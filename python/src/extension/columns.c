@@ -6,8 +6,7 @@
 /* More rows have longer offsets than any memory, and sums up to here don't overflow. */
 static const Py_ssize_t MOST_ROWS = PTRDIFF_MAX / 16;
 
-/* Raises an error, and returns -1, unless something is as long as so many rows need. */
-static int expect(const char *what, size_t size, size_t least, size_t rows) {
+int expect(const char *what, size_t size, size_t least, size_t rows) {
   if (size >= least) return 0;
   PyErr_Format(PyExc_ValueError, "%zu %s are left, too few for %zu rows", size, what, rows);
   return -1;
@@ -30,7 +29,7 @@ static int hold_validity(holds *h, PyObject *given, Py_ssize_t first, size_t row
 
 /* Holds a column: (data, offsets, validity, bytes of an offset, first row, rows). Its buffers may have got shorter
  * since the package has seen them. */
-static int hold_column(holds *h, PyObject *given, wkb_column *out) {
+int hold_column(holds *h, PyObject *given, wkb_column *out) {
   PyObject *data, *offsets, *validity;
   Py_ssize_t size, first, rows;
   span bytes, places;
@@ -47,7 +46,7 @@ static int hold_column(holds *h, PyObject *given, wkb_column *out) {
   return expect("offsets", held, end + 1, end);
 }
 
-static int64_t offset_at(const wkb_column *column, size_t index) {
+int64_t offset_at(const wkb_column *column, size_t index) {
   int64_t offset = 0;
   memcpy(&offset, (const uint8_t *)column->offsets + index * column->offset_size, column->offset_size);
   return column->offset_size == 4 ? (int32_t)offset : offset;
@@ -78,7 +77,7 @@ static size_t kinds_of(const wkb_column *column, const uint8_t *statuses) {
 /* A call for a column of rows, with memory for a result, for offsets that begin with 0, and for statuses. A collection
  * of a kind and a dimension has a fault in the place of offsets, with its status, and returns the row that is refused.
  */
-enum { CHECK, BOUNDS, PARTS, WRITE, ROOM, ROW_KINDS, COLLECT };
+enum { CHECK, BOUNDS, PARTS, WRITE, ROOM, ROW_KINDS, COLLECT, FIND };
 static size_t run(int call, const wkb_column *column, const wkb_options *options, const span *out, const uint32_t *of) {
   wkb_fault *fault = (wkb_fault *)(void *)out[1].at;
   uint64_t *ends = (uint64_t *)(void *)out[1].at + 1;
@@ -91,6 +90,7 @@ static size_t run(int call, const wkb_column *column, const wkb_options *options
     case PARTS: return wkb_column_parts(column, table, out[0].size / sizeof(wkb_part), ends, statuses);
     case WRITE: return wkb_column_write(column, options, out[0].at, out[0].size, ends, statuses);
     case ROOM: return room_of(column);
+    case FIND: wkb_column_found(column, (wkb_found *)(void *)out[0].at, statuses); return 0;
     case COLLECT:
       fault->status = wkb_collect(column, of[0], of[1], options, out[0].at, out[0].size, &size, fault, &row);
       return fault->status >= WKB_STATUS_NULL_ROW ? row : size;
@@ -108,19 +108,20 @@ static PyObject *column_call(PyObject *module, PyObject *args) {
   span out[3];
   uint32_t of[2] = {0, 0};
   int call;
-  h.count = 0;
+  h.count = h.may_change = 0;
   if (!PyArg_ParseTuple(args, "iO!(III)(OOO)|II", &call, &PyTuple_Type, &given, &options.order, &options.form,
                         &options.srid, &to[0], &to[1], &to[2], &of[0], &of[1]))
     return NULL;
+  size_t record_size = call == BOUNDS ? sizeof(wkb_box) : call == FIND ? sizeof(wkb_found) : 0;
   int has_ends = call == PARTS || call == WRITE, has_statuses = call != ROOM && call != COLLECT;
   if (hold_column(&h, given, &column) == 0 && hold_outputs(&h, to, 3, out) == 0 &&
-      expect("bytes of boxes", out[0].size, call == BOUNDS ? column.rows * sizeof(wkb_box) : 0, column.rows) == 0 &&
+      expect("bytes of records", out[0].size, column.rows * record_size, column.rows) == 0 &&
       expect("bytes of ends", out[1].size, has_ends ? 8 * (column.rows + 1) : 0, column.rows) == 0 &&
       expect("bytes of a fault", out[1].size, call == COLLECT ? sizeof(wkb_fault) : 0, column.rows) == 0 &&
       expect("statuses", out[2].size, has_statuses ? column.rows : 0, column.rows) == 0) {
-    PyThreadState *unlocked = PyEval_SaveThread();
+    PyThreadState *unlocked = unlock(&h, SIZE_MAX);
     size_t needed = run(call, &column, &options, out, of);
-    PyEval_RestoreThread(unlocked);
+    lock(unlocked);
     size = PyLong_FromSize_t(needed);
   }
   let(&h);
@@ -143,7 +144,7 @@ static PyObject *column_coordinates(PyObject *module, PyObject *args) {
   span out[5];
   unsigned dimension;
   size_t room;
-  h.count = 0;
+  h.count = h.may_change = 0;
   if (!PyArg_ParseTuple(args, "O!I(OOOOO)", &PyTuple_Type, &given, &dimension, &results[0], &results[1], &results[2],
                         &results[3], &results[4]))
     return NULL;
@@ -155,9 +156,9 @@ static PyObject *column_coordinates(PyObject *module, PyObject *args) {
     to.ring_ends = ends_in(out[1], &to.ring_room);
     to.single_ends = ends_in(out[2], &to.single_room);
     to.row_ends = ends_in(out[3], &room);
-    PyThreadState *unlocked = PyEval_SaveThread();
+    PyThreadState *unlocked = unlock(&h, SIZE_MAX);
     wkb_column_coordinates(&column, dimension, &to, out[4].at);
-    PyEval_RestoreThread(unlocked);
+    lock(unlocked);
     sizes = Py_BuildValue("(nnn)", (Py_ssize_t)to.coordinates, (Py_ssize_t)to.rings, (Py_ssize_t)to.singles);
   }
   let(&h);
@@ -206,7 +207,7 @@ static PyObject *column_from_coordinates(PyObject *module, PyObject *args) {
   wkb_options options;
   span out[3];
   unsigned kind, dimension;
-  h.count = 0;
+  h.count = h.may_change = 0;
   if (!PyArg_ParseTuple(args, "O!II(III)(OOO)", &PyTuple_Type, &given, &kind, &dimension, &options.order, &options.form,
                         &options.srid, &to[0], &to[1], &to[2]))
     return NULL;
@@ -214,10 +215,10 @@ static PyObject *column_from_coordinates(PyObject *module, PyObject *args) {
       expect("bytes of ends", out[1].size, 8 * (levels.rows + 1), levels.rows) == 0 &&
       expect("statuses", out[2].size, levels.rows, levels.rows) == 0) {
     uint64_t *ends = (uint64_t *)(void *)out[1].at + 1;
-    PyThreadState *unlocked = PyEval_SaveThread();
+    PyThreadState *unlocked = unlock(&h, SIZE_MAX);
     size_t needed =
         wkb_column_from_coordinates(&levels, kind, dimension, &options, out[0].at, out[0].size, ends, out[2].at);
-    PyEval_RestoreThread(unlocked);
+    lock(unlocked);
     size = PyLong_FromSize_t(needed);
   }
   let(&h);

@@ -1,7 +1,7 @@
-/* What the parts of the extension `wkb._wkb` share. It is private to the package `wkb`, whose Python code says what
- * each call means, makes the memory of results, and tests arguments. Here buffers are held while a call lasts, and no
- * byte is read or written beyond them. It keeps to the limited API of CPython 3.11, the first with the buffer protocol,
- * so that one file serves every later version. No input is copied that lies in one piece of memory. */
+/* What the parts of the extension `porchsorrel_wkb._wkb` share. It is private to the package, whose Python code says
+ * what each call means, makes the memory of results, and tests arguments. Here buffers are held while a call lasts, and
+ * no byte is read or written beyond them. It keeps to the limited API of CPython 3.11, the first with the buffer
+ * protocol, so that one file serves every later version. No input is copied that lies in one piece of memory. */
 #ifndef WKB_EXTENSION_H
 #define WKB_EXTENSION_H
 
@@ -13,10 +13,11 @@
 
 _Static_assert(sizeof(size_t) == 8, "sizes and offsets are numbers of 64 bits");
 
-/* What `give` gets of the package. */
-enum { FOUND, FAULT, PART, RANGE, BOX, REFUSED, STATUS, KINDS, DIMENSIONS, ORDERS, GIVEN };
+/* What `give` gets of the package: types, tuples of members, and a function. Then what is made here once. */
+enum { FOUND, FAULT, PART, RANGE, BOX, REFUSED, STATUSES, TEXTS, KINDS, DIMENSIONS, ORDERS, OPTIONS, GIVEN };
+enum { EMPTY_RANGE = GIVEN, HELD };
 typedef struct {
-  PyObject *it[GIVEN];
+  PyObject *it[HELD];
 } state;
 
 /* Some bytes. */
@@ -30,6 +31,7 @@ enum { MOST_HELD = 8 };
 typedef struct {
   Py_buffer view[MOST_HELD];
   int count;
+  int may_change; /* whether an input is memory that can be written */
 } holds;
 
 /* buffers.c. Those that return int return 0, or -1 with an error. */
@@ -38,7 +40,7 @@ int hold_optional(holds *h, PyObject *data, span *out);
 int hold_aligned(holds *h, PyObject *data, span *out);
 int hold_outputs(holds *h, PyObject *const *given, int count, span *out);
 void let(holds *h);
-PyThreadState *unlock(size_t size);
+PyThreadState *unlock(const holds *h, size_t size);
 void lock(PyThreadState *unlocked);
 
 /* records.c */
@@ -46,10 +48,16 @@ int add_records(PyObject *module);
 PyObject *geometry_of(state *s, int which, const void *from);
 PyObject *box_of(state *s, const wkb_box *box);
 PyObject *refuse(state *s, uint32_t status, const wkb_fault *fault, uint32_t which, span input);
+int read_part(state *s, PyObject *given, wkb_part *out);
 PyObject *read_record(PyObject *module, PyObject *args);
 
-/* The methods of calls.c, columns.c and arrow.c. */
-extern PyMethodDef CALLS[], COLUMN_CALLS[], ARROW_CALLS[];
+/* columns.c: holds a column; an error unless something is as long as so many rows need; an offset of a column. */
+int hold_column(holds *h, PyObject *given, wkb_column *out);
+int expect(const char *what, size_t size, size_t least, size_t rows);
+int64_t offset_at(const wkb_column *column, size_t index);
+
+/* The methods of each file. */
+extern PyMethodDef CALLS[], COLUMN_CALLS[], FACT_CALLS[], ROW_CALLS[], ARROW_CALLS[], ARROW_OUT_CALLS[], DUMP_CALLS[];
 
 static inline state *state_of(PyObject *module) { return PyModule_GetState(module); }
 

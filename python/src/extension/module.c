@@ -1,14 +1,14 @@
-/* The module `wkb._wkb`: its calls, and what it gets of the package. */
+/* The module `porchsorrel_wkb._wkb`: its calls, and what it gets of the package. */
 #include "extension.h"
 
-/* give(Found, Fault, Part, Range, Box, Refused, Status, kinds, dimensions, orders) */
+/* give(Found, Fault, Part, Range, Box, Refused, statuses, texts, kinds, dimensions, orders, make_options) */
 static PyObject *give(PyObject *module, PyObject *args) {
   state *s = state_of(module);
   for (int i = 0; i < GIVEN; i++) {
     PyObject *it = PyTuple_GetItem(args, i), *before = s->it[i];
     if (it == NULL) return NULL;
-    if (i <= STATUS ? !PyType_Check(it) : !PyTuple_Check(it))
-      return PyErr_Format(PyExc_TypeError, "types, and tuples of members, are given");
+    if (i <= REFUSED ? !PyType_Check(it) : i < OPTIONS ? !PyTuple_Check(it) : !PyCallable_Check(it))
+      return PyErr_Format(PyExc_TypeError, "types, tuples of members and a function are given");
     s->it[i] = Py_NewRef(it);
     Py_XDECREF(before);
   }
@@ -18,8 +18,9 @@ static PyObject *give(PyObject *module, PyObject *args) {
 static PyMethodDef METHODS[] = {{"give", give, METH_VARARGS, NULL}, {NULL, NULL, 0, NULL}};
 
 static int start(PyObject *module) {
-  PyMethodDef *const calls[] = {CALLS, COLUMN_CALLS, ARROW_CALLS};
-  for (int i = 0; i < 3; i++)
+  PyMethodDef *const calls[] = {CALLS,       COLUMN_CALLS,    FACT_CALLS, ROW_CALLS,
+                                ARROW_CALLS, ARROW_OUT_CALLS, DUMP_CALLS, NULL};
+  for (int i = 0; calls[i] != NULL; i++)
     if (PyModule_AddFunctions(module, calls[i]) < 0) return -1;
   if (PyModule_AddIntConstant(module, "VERSION", (long)wkb_version()) < 0) return -1;
   return add_records(module);
@@ -27,13 +28,13 @@ static int start(PyObject *module) {
 
 static int visit_state(PyObject *module, visitproc visit, void *arg) {
   state *s = state_of(module);
-  for (int i = 0; s != NULL && i < GIVEN; i++) Py_VISIT(s->it[i]);
+  for (int i = 0; s != NULL && i < HELD; i++) Py_VISIT(s->it[i]);
   return 0;
 }
 
 static int clear_state(PyObject *module) {
   state *s = state_of(module);
-  for (int i = 0; s != NULL && i < GIVEN; i++) Py_CLEAR(s->it[i]);
+  for (int i = 0; s != NULL && i < HELD; i++) Py_CLEAR(s->it[i]);
   return 0;
 }
 
@@ -42,9 +43,9 @@ static void free_state(void *module) { clear_state(module); }
 static PyModuleDef_Slot SLOTS[] = {{Py_mod_exec, (void *)start}, {0, NULL}};
 
 static struct PyModuleDef MODULE = {
-    PyModuleDef_HEAD_INIT, "wkb._wkb",  "The calls of wkb.h, for the package wkb alone.",
-    sizeof(state),         METHODS,     SLOTS,
-    visit_state,           clear_state, free_state,
+    PyModuleDef_HEAD_INIT, "porchsorrel_wkb._wkb", "The calls of wkb.h, for this package alone.",
+    sizeof(state),         METHODS,                SLOTS,
+    visit_state,           clear_state,            free_state,
 };
 
 PyMODINIT_FUNC PyInit__wkb(void) { return PyModuleDef_Init(&MODULE); }

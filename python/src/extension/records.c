@@ -5,6 +5,7 @@
 #include <string.h>
 #include <structmember.h>
 
+#define PACKAGE "porchsorrel_wkb._wkb."
 enum { MOST_VALUES = 9 };
 typedef struct {
   PyObject_HEAD PyObject *value[MOST_VALUES];
@@ -13,12 +14,12 @@ typedef struct {
 static const struct {
   const char *name, *fields[MOST_VALUES + 1];
 } RECORD[] = {
-    [FOUND] = {"wkb._wkb.FoundValues",
+    [FOUND] = {PACKAGE "FoundValues",
                {"size", "parts", "coordinates", "offset", "count", "srid", "kind", "dimension", "order"}},
-    [FAULT] = {"wkb._wkb.FaultValues", {"part", "offset", "end", "len", "code", "status"}},
-    [PART] = {"wkb._wkb.PartValues", {"begin", "end", "offset", "count", "next", "srid", "kind", "dimension", "order"}},
-    [RANGE] = {"wkb._wkb.RangeValues", {"least", "greatest", "count"}},
-    [BOX] = {"wkb._wkb.BoxValues", {"x", "y", "z", "m"}},
+    [FAULT] = {PACKAGE "FaultValues", {"part", "offset", "end", "len", "code", "status"}},
+    [PART] = {PACKAGE "PartValues", {"begin", "end", "offset", "count", "next", "srid", "kind", "dimension", "order"}},
+    [RANGE] = {PACKAGE "RangeValues", {"least", "greatest", "count"}},
+    [BOX] = {PACKAGE "BoxValues", {"x", "y", "z", "m"}},
 };
 
 static void dealloc_record(PyObject *self) {
@@ -86,13 +87,17 @@ PyObject *geometry_of(state *s, int which, const void *from) {
   return whole(it, 9);
 }
 
+/* A range. Those without numbers are one object. */
 static PyObject *range_of(state *s, const wkb_range *r) {
+  if (r->count == 0 && s->it[EMPTY_RANGE] != NULL) return Py_NewRef(s->it[EMPTY_RANGE]);
   record *it = new_record(s, RANGE);
   if (it == NULL) return NULL;
   it->value[0] = PyFloat_FromDouble(r->least);
   it->value[1] = PyFloat_FromDouble(r->greatest);
   it->value[2] = PyLong_FromLongLong((int64_t)r->count);
-  return whole(it, 3);
+  PyObject *made = whole(it, 3);
+  if (r->count == 0 && r->least > r->greatest) s->it[EMPTY_RANGE] = Py_XNewRef(made);
+  return made;
 }
 
 PyObject *box_of(state *s, const wkb_box *box) {
@@ -110,7 +115,7 @@ static PyObject *fault_of(state *s, const wkb_fault *f) {
   record *it = new_record(s, FAULT);
   if (it == NULL) return NULL;
   for (int i = 0; i < 5; i++) it->value[i] = PyLong_FromLongLong((int64_t)numbers[i]);
-  it->value[5] = PyObject_CallFunction(s->it[STATUS], "I", f->status);
+  it->value[5] = Py_XNewRef(PyTuple_GetItem(s->it[STATUSES], f->status));
   return whole(it, 6);
 }
 
@@ -131,12 +136,43 @@ PyObject *refuse(state *s, uint32_t status, const wkb_fault *fault, uint32_t whi
   }
   int is_text = status == WKB_STATUS_INVALID_BYTE_ORDER && fault->offset == 0 && is_hexadecimal(input);
   const char *hint = is_text ? "; bytes.fromhex(data.decode()) are the bytes of this hexadecimal text" : "";
-  PyObject *it = fault_of(s, fault);
-  PyObject *error = it == NULL ? NULL : PyObject_CallFunction(s->it[REFUSED], "OIss", it, which, text, hint);
+  PyObject *it = fault_of(s, fault), *held = it == NULL ? NULL : PyTuple_GetItem(s->it[TEXTS], status);
+  PyObject *error = held == NULL ? NULL : PyObject_CallFunction(s->it[REFUSED], "OIOs", it, which, held, hint);
   Py_XDECREF(it);
   if (error != NULL) PyErr_SetObject(s->it[REFUSED], error);
   Py_XDECREF(error);
   return NULL;
+}
+
+/* The number of a value that a record has; 0, and 1 more of `wrong`, where it is none from 0 to `most`. */
+static uint64_t number_of(const record *it, int place, uint64_t most, int *wrong) {
+  PyObject *value = it->value[place];
+  uint64_t number = value == NULL || !PyLong_Check(value) ? UINT64_MAX : PyLong_AsUnsignedLongLong(value);
+  if (number <= most) return number;
+  PyErr_Clear();
+  *wrong += 1;
+  return 0;
+}
+
+/* Reads a Part, or the geometry of a Found. Returns 1, 0 if no part has such values, or -1 with an error. */
+int read_part(state *s, PyObject *given, wkb_part *out) {
+  int is_part = (PyObject *)Py_TYPE(given) == s->it[PART], wrong = 0;
+  const record *it = (const record *)given;
+  if (!is_part && (PyObject *)Py_TYPE(given) != s->it[FOUND]) {
+    PyErr_Format(PyExc_TypeError, "a Part of parts(data) or the Found of check(data) is expected, and not %R",
+                 (PyObject *)Py_TYPE(given));
+    return -1;
+  }
+  *out = (wkb_part){.begin = is_part ? number_of(it, 0, INT64_MAX, &wrong) : 0};
+  out->offset = number_of(it, is_part ? 2 : 3, INT64_MAX, &wrong);
+  out->count = number_of(it, is_part ? 3 : 4, UINT32_MAX, &wrong);
+  out->has_srid = it->value[5] != Py_None;
+  if (out->has_srid) out->srid = (uint32_t)number_of(it, 5, UINT32_MAX, &wrong);
+  out->kind = (uint32_t)number_of(it, 6, WKB_KIND_GEOMETRY_COLLECTION, &wrong);
+  out->dimension = (uint32_t)number_of(it, 7, WKB_DIM_XYZM, &wrong);
+  out->width = out->dimension == WKB_DIM_XY ? 2 : out->dimension == WKB_DIM_XYZM ? 4 : 3;
+  out->order = (uint32_t)number_of(it, 8, WKB_ORDER_LITTLE, &wrong);
+  return wrong == 0;
 }
 
 /* read_record(type, memory, index): a record of a table. */
@@ -150,7 +186,7 @@ PyObject *read_record(PyObject *module, PyObject *args) {
   wkb_box box;
   wkb_fault fault;
   int which = 0;
-  h.count = 0;
+  h.count = h.may_change = 0;
   if (!PyArg_ParseTuple(args, "OOn", &type, &memory, &index) || hold_input(&h, memory, &in) < 0) return NULL;
   while (which <= BOX && s->it[which] != type) which++;
   int is_there = which <= BOX && index >= 0 && (size_t)index < in.size / SIZES[which];

@@ -1,22 +1,24 @@
 """The calls for columns of geometries."""
 import operator
 import sys
-from typing import Any, Dict, Iterable, Iterator, Optional, Tuple
+from typing import Any, Dict, Iterable, Iterator, List, Optional, Tuple
 
 from . import _wkb
 from ._arrow import ArrowArray, ArrowStream, chunks_of_arrow, pieces_of_arrow
-from ._buffers import Buffer, Numbers, has_numpy, less_the_least, new_numbers, new_offsets, view_of
+from ._buffers import Buffer, Numbers, has_numpy, less_the_least, new_numbers, new_offsets, shortened, view_of
 from ._calls import Refused, make_options
 from ._enums import Dimension, Form, Kind, Order, Status
-from ._records import Box, Fault, Part, Table
-from ._results import ColumnBounds, ColumnCoordinates, ColumnEncodings, ColumnParts
+from ._records import Box, Fault, Found, Part, Table
+from ._results import ColumnBounds, ColumnCoordinates, ColumnEncodings, ColumnFound, ColumnParts, Facts
 from ._rows import Pieces, pieces_of
 
 # The calls of `_wkb.column`.
-CHECK, BOUNDS, PARTS, WRITE, ROOM, KINDS, COLLECT = range(7)
+CHECK, BOUNDS, PARTS, WRITE, ROOM, KINDS, COLLECT, FIND = range(8)
 NO_OPTIONS, NO_RESULTS = (0, 0, 0), (None, None, None)
 # An encoding may be four bytes longer than its row: an SRID.
 SRID_SIZE = 4
+# The bytes of a coordinate, a ring, and a single, at least.
+LEAST_SIZES = 16, 4, 9
 # What a collection has before its members, at most.
 FRONT_SIZE = 13
 
@@ -89,6 +91,7 @@ class Column:
         if self._first + self._rows > held_rows:
             raise ValueError(f"{held} offsets have {held_rows} rows: not {self._rows} from row {self._first} on")
         self._owner: Any = None
+        self._metadata: Optional[bytes] = None
         if validity is not None:
             check_validity(validity, self._first + self._rows)
         self._room()
@@ -129,7 +132,7 @@ class Column:
     @classmethod
     def _of_pieces(cls, it: Pieces) -> "Column":
         column = cls(it.data, it.offsets, it.validity, first=it.first, rows=it.rows, offset_size=it.offset_size)
-        column._owner = it.owner
+        column._owner, column._metadata = it.owner, it.metadata
         return column
 
     def __getstate__(self) -> Dict[str, Any]:
@@ -154,6 +157,35 @@ class Column:
     def __repr__(self) -> str:
         return f"<column of {self._rows} rows>"
 
+    def split(self, count: int) -> List["Column"]:
+        """Return so many columns, one after another, of about as many rows each, over the memory of this one.
+
+        Each may be read by a thread of its own: `list(pool.map(Column.check, column.split(4)))`. They run side by side
+        where the memory is read-only, as `help` of the package says.
+        """
+        if count < 1:
+            raise ValueError(f"a column is split into one or more, and not into {count}")
+        ends = [self._rows * i // count for i in range(count + 1)]
+        columns = []
+        for first, end in zip(ends, ends[1:]):
+            column = Column.__new__(Column)
+            column.__dict__.update(self.__dict__, _first=self._first + first, _rows=end - first)
+            columns.append(column)
+        return columns
+
+    @property
+    def metadata(self) -> Optional[str]:
+        """What GeoArrow's types say of the rows, as JSON: `{"crs": .., "edges": ..}`. None where nothing is said.
+
+        It comes with an array of such a type, or with the CRS of a column of geopandas, may be set, and goes out with
+        the results that have types of GeoArrow.
+        """
+        return None if self._metadata is None else self._metadata.decode(errors="replace")
+
+    @metadata.setter
+    def metadata(self, text: Optional[str]) -> None:
+        self._metadata = None if text is None else text.encode()
+
     def _arguments(self) -> Tuple[Buffer, Buffer, Optional[Buffer], int, int, int]:
         """Return the column as `_wkb` takes it."""
         return self._data, self._offsets, self._validity, self._offset_size, self._first, self._rows
@@ -172,7 +204,22 @@ class Column:
         """Return the bounds of each row."""
         statuses, boxes = new_numbers("u1", self._rows), new_numbers("u1", self._rows * Box.LAYOUT.size)
         _wkb.column(BOUNDS, self._arguments(), NO_OPTIONS, (boxes, None, statuses))
-        return ColumnBounds(statuses, Table(Box, boxes))
+        return ColumnBounds._made(statuses, Table(Box, boxes), _metadata=self._metadata)
+
+    def found(self) -> ColumnFound:
+        """Return what is at the front of each row: kind, dimension, SRID, byte order, size and counts."""
+        statuses, table = new_numbers("u1", self._rows), new_numbers("u1", self._rows * Found.LAYOUT.size)
+        _wkb.column(FIND, self._arguments(), NO_OPTIONS, (table, None, statuses))
+        return ColumnFound(statuses, Table(Found, table))
+
+    def facts(self) -> Facts:
+        """Return what the rows have together: types and SRIDs that occur, the bounds of all, and how many are there."""
+        statuses, found = self.found()
+        types, box, srids = _wkb.facts(statuses, found._memory, self.bounds().boxes._memory)
+        held = bytes(view_of(statuses))
+        nulls, well_formed = held.count(Status.NULL_ROW), held.count(Status.OK)
+        pairs = [(kind, dimension) for dimension in Dimension for kind in Kind if types >> 8 * dimension + kind & 1]
+        return Facts(len(held), nulls, len(held) - nulls - well_formed, pairs, srids, box)
 
     def parts(self) -> ColumnParts:
         """Return the parts of each row in preorder."""
@@ -194,21 +241,30 @@ class Column:
             room = needed
             data = new_numbers("u1", room)
             needed = _wkb.column(WRITE, self._arguments(), options, (data, offsets, statuses))
-        return ColumnEncodings._of_form(options[1], statuses, offsets, data[: offsets[-1]])
+        held = statuses, offsets, data[: offsets[-1]]
+        return ColumnEncodings._made(*held, _form=int(options[1]), _metadata=self._metadata)
 
     def coordinates(self, dimension: Dimension = Dimension.XY) -> ColumnCoordinates:
         """Return the coordinates of all rows in this dimension, with a NaN for each number that a geometry lacks."""
         dimension = Dimension(dimension)
         statuses, row_offsets = new_numbers("u1", self._rows), new_offsets(self._rows)
-        needed = _wkb.column_coordinates(self._arguments(), dimension, (None, None, None, row_offsets, statuses))
-        coordinates, rings, singles = needed
-        words, ring_offsets = new_numbers("f8", coordinates * dimension.width), new_offsets(rings)
-        single_offsets = new_offsets(singles)
-        results = words, ring_offsets, single_offsets, row_offsets, statuses
-        expect_same(_wkb.column_coordinates(self._arguments(), dimension, results) == needed)
+        # Room for as much as rows one after another can have, of which numpy touches nothing. Other arrays are filled,
+        # so that a first pass counts.
+        room = [self._room() // least if has_numpy else 0 for least in LEAST_SIZES]
+        while True:
+            words, ring_offsets = new_numbers("f8", room[0] * dimension.width), new_offsets(room[1])
+            single_offsets = new_offsets(room[2])
+            results = words, ring_offsets, single_offsets, row_offsets, statuses
+            found = _wkb.column_coordinates(self._arguments(), dimension, results)
+            if all(map(operator.le, found, room)):
+                break
+            room = list(found)
+        words = shortened(words, found[0] * dimension.width)
+        ring_offsets, single_offsets = shortened(ring_offsets, found[1] + 1), shortened(single_offsets, found[2] + 1)
         rows = words.reshape(-1, dimension.width) if has_numpy else words
         kinds = _wkb.column(KINDS, self._arguments(), NO_OPTIONS, (None, None, statuses))
-        return ColumnCoordinates._of_kinds(kinds, dimension, statuses, row_offsets, single_offsets, ring_offsets, rows)
+        known = {"_kinds": kinds, "_dimension": dimension, "_metadata": self._metadata}
+        return ColumnCoordinates._made(statuses, row_offsets, single_offsets, ring_offsets, rows, **known)
 
 
 def collect(

@@ -45,6 +45,11 @@ def is_refusal(status: Any) -> Any:
     return status >= 32
 
 
+def is_early_end(status: Any) -> Any:
+    """Return whether a status says that the bytes end before their geometry does; of an array, which of them do."""
+    return (status == Status.SHORT_HEADER) | (status >= 48)
+
+
 class Kind(enum.IntEnum):
     """The kinds of geometries, by their numbers in the codes, and a ring of a polygon."""
 
@@ -80,9 +85,15 @@ class Order(enum.IntEnum):
 
 
 class Form(enum.IntEnum):
-    """What is written besides the geometry itself. Only the outermost geometry's SRID is ever written."""
+    """What is written besides the geometry itself. Only the outermost geometry's SRID is ever written.
 
-    ISO = 0  # ISO codes, no SRID
-    EWKB_OWN_SRID = 1  # EWKB, with the SRID of the geometry if it has one
-    EWKB_WITH_SRID = 2  # EWKB, with the SRID that is asked for
-    EWKB_WITHOUT_SRID = 3  # EWKB, without an SRID
+    :cvar ISO: ISO codes, no SRID
+    :cvar EWKB_OWN_SRID: EWKB, with the SRID of the geometry if it has one
+    :cvar EWKB_WITH_SRID: EWKB, with the SRID that is asked for
+    :cvar EWKB_WITHOUT_SRID: EWKB, without an SRID
+    """
+
+    ISO = 0
+    EWKB_OWN_SRID = 1
+    EWKB_WITH_SRID = 2
+    EWKB_WITHOUT_SRID = 3

@@ -33,6 +33,14 @@ class Schema(NamedTuple):
         return _wkb.schema_name(self.capsule, most).decode(errors="replace")
 
 
+    def metadata(self) -> Optional[bytes]:
+        """Return what a type of GeoArrow says of its rows, such as their CRS; None of another type."""
+        name = _wkb.schema_metadata(self.capsule, NAME_KEY, MOST_METADATA) or b""
+        if not name.startswith(b"geoarrow.") and name != b"ogc.wkb":
+            return None
+        return _wkb.schema_metadata(self.capsule, METADATA_KEY, MOST_METADATA)
+
+
 class Array(NamedTuple):
     """The fields of Arrow's `ArrowArray`, in the capsule that owns it."""
 
@@ -52,13 +60,17 @@ class Array(NamedTuple):
 
 
 def schema_of(capsule: Any) -> Schema:
-    return Schema(*_wkb.schema_fields(capsule), capsule)
+    it = Schema(*_wkb.schema_fields(capsule), capsule)
+    expect(it.release, "array is released already")
+    return it
 
 
 def array_of(capsule: Any) -> Array:
     return Array(*_wkb.array_fields(capsule), capsule)
 
 
+# The keys of a type that is an extension of Arrow's. Texts that are longer are not looked at.
+NAME_KEY, METADATA_KEY, MOST_METADATA = b"ARROW:extension:name", b"ARROW:extension:metadata", 1 << 24
 # The kinds of structs of `_wkb`.
 SCHEMA, ARRAY, STREAM = range(3)
 # The types of rows, and the bytes of an offset: those of binary views have none.
@@ -83,6 +95,7 @@ class _Column(NamedTuple):
     child: Optional[int]  # of the array's own children; None where it is the array itself
     children: int  # how many these are
     offset_size: int
+    metadata: Optional[bytes]
 
 
 def expect(holds: Any, text: str) -> None:
@@ -92,7 +105,6 @@ def expect(holds: Any, text: str) -> None:
 
 
 def check_schema(it: Schema) -> None:
-    expect(it.release, "array is released already")
     expect(it.format is not None, "array has no format")
     expect(0 <= it.n_children <= MOST_PARTS, f"array can't have {it.n_children} children")
 
@@ -162,9 +174,10 @@ def _offset_size_of(schema: Schema) -> int:
 def _column_of(schema: Schema, name: Optional[str]) -> _Column:
     check_schema(schema)
     if name is None:
-        return _Column(None, 0, _offset_size_of(schema))
-    child = _number_of(name, schema)
-    return _Column(child, schema.n_children, _offset_size_of(schema_child(schema, child)))
+        return _Column(None, 0, _offset_size_of(schema), schema.metadata())
+    number = _number_of(name, schema)
+    child = schema_child(schema, number)
+    return _Column(number, schema.n_children, _offset_size_of(child), child.metadata())
 
 
 def borrowed(it: Array, place: int, size: int) -> memoryview:
@@ -189,14 +202,14 @@ def _pieces_in(it: Array, column: _Column) -> Pieces:
         first += it.offset
     check_array(it, 0, OF_OFFSETS if size else OF_VIEWS)
     if size == 0:
-        return pieces_of(_rows_in_views(it, first, rows))
+        return pieces_of(_rows_in_views(it, first, rows))._replace(metadata=column.metadata)
     if rows == 0:
-        return Pieces(b"", b"", None, offset_size=size, owner=it)
+        return Pieces(b"", b"", None, offset_size=size, owner=it, metadata=column.metadata)
     end = first + rows
     ends = borrowed(it, 1, (end + 1) * size)
     used = int.from_bytes(ends[-size:], sys.byteorder, signed=True)
     bits = borrowed(it, 0, (end + 7) // 8) if has_validity(it) else None
-    return Pieces(borrowed(it, 2, max(used, 0)), ends, bits, first, rows, size, it)
+    return Pieces(borrowed(it, 2, max(used, 0)), ends, bits, first, rows, size, it, column.metadata)
 
 
 def _rows_in_views(it: Array, first: int, rows: int) -> Iterator[Optional[bytes]]:

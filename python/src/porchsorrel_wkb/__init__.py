@@ -2,7 +2,7 @@
 
 The package itself is tested, and not proved. It needs CPython 3.11 or later.
 
-One geometry, at the front of a blob:
+One geometry, at the front of a blob::
 
     check(blob)                     Found: its kind, dimension, SRID, size; raises Refused if it isn't a geometry
     bounds(blob)                    Box: x, y, z and m, each with least, greatest and count
@@ -11,40 +11,49 @@ One geometry, at the front of a blob:
     parts(blob)                     Table of Part: itself, and its rings and members, in preorder
     coordinates(blob, part)         a list of tuples, for a point, a line string or a ring
     view(blob, part)                a numpy array over the blob's own memory, for the same
+    dump(blob[, items, lines])      what the bytes say, line by line, and where they are refused
 
-A column of geometries, in one piece of memory as Arrow has it:
+A column of geometries, in one piece of memory as Arrow has it::
 
     Column.of(rows)                 of a list, or a column of pandas or geopandas; None is a null row
     Column.from_arrow(array[, name])  of an array of pyarrow, or of another with __arrow_c_array__
     Column.chunks_from_arrow(stream[, name])  one for each chunk of a column or a table with __arrow_c_stream__
     Column(data, offsets[, validity])  of any buffers; first= and rows= pick a slice
-    column.check(), .bounds(), .write([order, form, srid]), .parts(), .coordinates([dimension])
+    column.check(), .found(), .bounds(), .write([order, form, srid]), .parts(), .coordinates([dimension])
                                     results for all rows, and a Status for each; no row stops a call
+    column.facts(), .metadata       the types, SRIDs and bounds of all rows; the CRS, as GeoArrow has it
+    column.split(count)             columns over the same memory, for a thread each
+    geoparquet(column[, name, covering])  what a file of GeoParquet says of it
     collect(column, kind[, dimension, order, form, srid])
                                     the multi geometry or the collection whose members are the rows
     column_from_coordinates(kind, coordinates[, ring_offsets, single_offsets, row_offsets])
                                     the encodings of rows of one kind, from coordinates of your own, or of an
                                     array of GeoArrow in their place
 
-What the numbers mean, as enums of integers:
+What the numbers mean, as enums of integers::
 
-    Status, is_refusal(status), status_text(status)     what became of a call or of a row
-    Kind, Dimension, Order, Form                        POINT.., XY.., BIG and LITTLE, ISO..
+    Status, is_refusal(status), is_early_end(status), status_text(status)
+                                    what became of a call or of a row
+    Kind, Dimension, Order, Form    POINT.., XY.., BIG and LITTLE, ISO..
 
 Records are Found, Fault, Part, Range and Box: frozen, compared by value, good as keys. Table is a sequence of Part or
-Box, and becomes a structured array by numpy.asarray. The column calls return ColumnBounds, ColumnParts,
-ColumnEncodings and ColumnCoordinates. The last two are arrays for packages of Arrow, and `rows` of ColumnEncodings is a
-sequence of bytes and None. Refused is a ValueError with `status`, `fault`, the part that is refused, and of a
-collection `row`, its index.
+Box, and becomes a structured array by numpy.asarray. The column calls return ColumnFound, ColumnBounds, ColumnParts,
+ColumnEncodings and ColumnCoordinates, which are compared as a whole, and Facts; geoparquet returns a GeoParquet.
+Bounds, encodings and coordinates are arrays for packages of Arrow, and `rows` of ColumnEncodings is a sequence of bytes
+and None. Refused is a ValueError with `status`, `fault`, the part that is refused, and of a collection `row`, its
+index.
 
 A blob is anything with the buffer protocol. A call holds its buffer until it returns or raises, and no longer; only
-view returns an array over the blob's memory. Calls over a column, or over a blob of 16 KB or more, don't hold the
-interpreter's lock: those of several threads run side by side. The input may not change during a call, by other threads
-or processes either: of a mapped file that others write, such as a numpy.memmap, pass a copy, bytes(it). Sizes and
-offsets are in bytes. Functions, results, columns and Refused can be pickled, for other processes.
+view returns an array over the blob's memory. Sizes and offsets are in bytes. Functions, results, columns and Refused
+can be pickled, for other processes.
 
-The library is inside this package: load() needs to load nothing, and version() is that of its wkb.h. help(wkb.write),
-and so on, says more of each name.
+Calls over a column, or over a blob of 16 KB or more, give the interpreter's lock back, so that those of several threads
+run side by side: where all that is read is read-only, such as bytes, a column that Column.of makes, and memory of
+Arrow. Over memory that may be written, such as a bytearray or most arrays of numpy, calls keep the lock, since another
+thread could write it meanwhile. memoryview(it).toreadonly() says that nobody does. No other process may write the input
+during a call: of a mapped file that others write, such as a numpy.memmap, pass a copy, bytes(it).
+
+The library is inside this package: version() is that of its wkb.h. help(wkb.write), and so on, says more of each name.
 """
 # There is no __all__: help(wkb) would list all classes with what they inherit, in thousands of lines.
 from ._calls import Refused as Refused
@@ -62,9 +71,12 @@ from ._enums import Form as Form
 from ._enums import Kind as Kind
 from ._enums import Order as Order
 from ._enums import Status as Status
+from ._enums import is_early_end as is_early_end
 from ._enums import is_refusal as is_refusal
+from ._geoparquet import GeoParquet as GeoParquet
+from ._geoparquet import geoparquet as geoparquet
 from ._levels import column_from_coordinates as column_from_coordinates
-from ._library import load as load
+from ._library import dump as dump
 from ._library import status_text as status_text
 from ._library import version as version
 from ._records import Box as Box
@@ -76,6 +88,8 @@ from ._records import Table as Table
 from ._results import ColumnBounds as ColumnBounds
 from ._results import ColumnCoordinates as ColumnCoordinates
 from ._results import ColumnEncodings as ColumnEncodings
+from ._results import ColumnFound as ColumnFound
 from ._results import ColumnParts as ColumnParts
+from ._results import Facts as Facts
 
 __version__ = "0.1.0"

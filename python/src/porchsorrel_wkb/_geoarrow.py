@@ -30,6 +30,7 @@ class Levels(NamedTuple):
     first: int  # the bit of the first row
     dimension: Dimension
     owner: Any = None  # what the memory lives by
+    metadata: Optional[bytes] = None  # what GeoArrow's type says of the rows
 
 
 class _Window(NamedTuple):
@@ -129,4 +130,5 @@ def levels_of_arrow(of: Any, kind: Kind) -> Levels:
     if name.upper() not in Dimension.__members__:
         raise TypeError(f"coordinates of {name!r} are not of xy, xyz, xym or xyzm")
     validity = borrowed(top, 0, (top.offset + top.length + 7) // 8) if has_validity(top) else None
-    return Levels(words, (offsets[0], offsets[1], offsets[2]), validity, top.offset, Dimension[name.upper()], top)
+    held = offsets[0], offsets[1], offsets[2]
+    return Levels(words, held, validity, top.offset, Dimension[name.upper()], top, schema.metadata())

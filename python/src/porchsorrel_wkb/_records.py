@@ -1,4 +1,6 @@
 """The structs of wkb.h as Python has them, and tables of them."""
+import enum
+import html
 from dataclasses import dataclass
 from struct import Struct
 from typing import Any, ClassVar, Dict, Iterator, List, Optional, Sequence, Tuple, Type, TypeVar, Union, overload
@@ -51,15 +53,26 @@ class _Values:
 
 @dataclass(frozen=True)
 class Found(_wkb.FoundValues, _Values):
-    """The geometry at the front of some bytes."""
+    """The geometry at the front of some bytes.
+
+    :ivar size: how many bytes it has; the bytes after them were not looked at
+    :ivar parts: how many parts it has: itself, and its rings and members at every level
+    :ivar coordinates: how many all parts have; each point has one, an empty point one of NaNs
+    :ivar offset: the byte where its own coordinates, rings or members begin
+    :ivar count: how many of these it has; a point has one coordinate
+    :ivar srid: the SRID of EWKB; None where there is none
+    :ivar kind: the kind, a `Kind`
+    :ivar dimension: the dimension, a `Dimension`
+    :ivar order: the byte order, an `Order`
+    """
 
     __slots__ = ()
 
-    size: int  # how many bytes it has; the bytes after them were not looked at
-    parts: int  # itself, and its rings and members at every level
-    coordinates: int  # how many all parts have; each point has one, an empty point one of not-a-numbers
-    offset: int  # the byte where its own coordinates, rings or members begin
-    count: int  # how many it has; a point has one coordinate
+    size: int
+    parts: int
+    coordinates: int
+    offset: int
+    count: int
     srid: Optional[int]
     kind: Kind
     dimension: Dimension
@@ -71,15 +84,23 @@ class Found(_wkb.FoundValues, _Values):
 
 @dataclass(frozen=True)
 class Fault(_wkb.FaultValues, _Values):
-    """The part that is refused, and why."""
+    """The part that is refused, and why.
+
+    :ivar part: how many parts come before it, in preorder: 0 is the whole geometry
+    :ivar offset: the byte where it begins, counted from the front of the input
+    :ivar end: of a status from 48 on: how many bytes it needs; else 0
+    :ivar len: of a status from 48 on: how many bytes there are, from its own first one on; else 0
+    :ivar code: of CODE_OUT_OF_RANGE: all bits of the code; else 0
+    :ivar status: why it is refused, a `Status`
+    """
 
     __slots__ = ()
 
-    part: int  # how many parts come before it, in preorder: 0 is the whole geometry
-    offset: int  # the byte where it begins, counted from the front of the input
-    end: int  # of a status from 48 on: the byte where it would end, counted from its own first; else 0
-    len: int  # of a status from 48 on: the byte where the input ends, counted likewise; else 0
-    code: int  # of CODE_OUT_OF_RANGE: all bits of the code; else 0
+    part: int
+    offset: int
+    end: int
+    len: int
+    code: int
     status: Status
 
     FIELDS: ClassVar[Fields] = fields("i8", "part offset end len") + fields("u4", "code status")
@@ -88,15 +109,26 @@ class Fault(_wkb.FaultValues, _Values):
 
 @dataclass(frozen=True)
 class Part(_wkb.PartValues, _Values):
-    """A geometry, or a ring of a polygon. Its rings or members follow it in the table, each followed by its own."""
+    """A geometry, or a ring of a polygon. Its rings or members follow it in the table, each followed by its own.
+
+    :ivar begin: its first byte, counted from the front of the input
+    :ivar end: one past its last byte
+    :ivar offset: the byte where its coordinates, rings or members begin
+    :ivar count: how many of these it has; a point has one coordinate, an empty point one of NaNs
+    :ivar next: the index of the part after its own rings and members
+    :ivar srid: the SRID of EWKB; None where there is none
+    :ivar kind: the kind, a `Kind`
+    :ivar dimension: the dimension, a `Dimension`
+    :ivar order: the byte order, an `Order`
+    """
 
     __slots__ = ()
 
-    begin: int  # its first byte, counted from the front of the input
-    end: int  # one past its last byte
-    offset: int  # the byte where its coordinates, rings or members begin
-    count: int  # how many it has; a point has one coordinate, an empty point one of not-a-numbers
-    next: int  # the index of the part after its own rings and members
+    begin: int
+    end: int
+    offset: int
+    count: int
+    next: int
     srid: Optional[int]
     kind: Kind
     dimension: Dimension
@@ -108,20 +140,31 @@ class Part(_wkb.PartValues, _Values):
 
 @dataclass(frozen=True)
 class Range(_wkb.RangeValues, _Values):
-    """The range of an ordinate over all coordinates that have one. Not-a-numbers are left out."""
+    """The range of an ordinate over all coordinates that have one. NaNs are left out.
+
+    :ivar least: the least number; infinity where the count is 0
+    :ivar greatest: the greatest number; minus infinity where the count is 0
+    :ivar count: how many numbers there are
+    """
 
     __slots__ = ()
 
-    least: float  # infinity where the count is 0
-    greatest: float  # minus infinity where the count is 0
-    count: int  # how many numbers there are
+    least: float
+    greatest: float
+    count: int
 
     FIELDS: ClassVar[Fields] = RANGE
 
 
 @dataclass(frozen=True)
 class Box(_wkb.BoxValues, _Values):
-    """The bounds of a geometry: z of coordinates that have a z, m of those that have an m."""
+    """The bounds of a geometry: z of coordinates that have a z, m of those that have an m.
+
+    :ivar x: the range of x
+    :ivar y: the range of y
+    :ivar z: the range of z
+    :ivar m: the range of m
+    """
 
     __slots__ = ()
 
@@ -134,7 +177,16 @@ class Box(_wkb.BoxValues, _Values):
     LAYOUT: ClassVar[Struct] = layout([field for _ in "xyzm" for field in RANGE])
 
 
-Record = TypeVar("Record", Part, Box)
+# A table shows so many rows.
+SHOWN = 5
+
+
+def _shown(value: Any) -> str:
+    """Return a value of a record as a cell of a table shows it."""
+    return value.name if isinstance(value, enum.Enum) else str(value)
+
+
+Record = TypeVar("Record", Found, Part, Box)
 
 
 class Table(Sequence[Record]):
@@ -144,13 +196,16 @@ class Table(Sequence[Record]):
     wkb.h.
     """
 
+    __slots__ = "_record", "_memory"
+
     def __init__(self, record: Type[Record], memory: Buffer):
         buffer: Any = memory
         self._record: Any = record
-        self._memory, self._size = memoryview(buffer), record.LAYOUT.size
+        self._memory = memoryview(buffer)
 
     def __len__(self) -> int:
-        return self._memory.nbytes // self._size
+        size: int = self._record.LAYOUT.size
+        return self._memory.nbytes // size
 
     @overload
     def __getitem__(self, index: int) -> Record: ...
@@ -178,5 +233,24 @@ class Table(Sequence[Record]):
     def __reduce__(self) -> Any:
         return type(self), (self._record, self._memory.tobytes())
 
+    def __eq__(self, other: object) -> bool:
+        if not isinstance(other, Table):
+            return NotImplemented
+        return self._record is other._record and bytes(self._memory) == bytes(other._memory)
+
+    __hash__ = None  # type: ignore[assignment]
+
     def __repr__(self) -> str:
-        return f"<table of {len(self)} {self._record.__name__}>"
+        rows = "".join(f"\n  {it}" for it in self[:SHOWN])
+        return f"<table of {len(self)} {self._record.__name__}>{rows}" + "\n  .." * (len(self) > SHOWN)
+
+    def _repr_html_(self) -> str:
+        """Return the first rows as a notebook shows them."""
+        names = self._record.__match_args__
+        head = "".join(f"<th>{name}</th>" for name in names)
+        rows = "".join(
+            "<tr>" + "".join(f"<td>{html.escape(_shown(getattr(it, name)))}</td>" for name in names) + "</tr>"
+            for it in self[:SHOWN]
+        )
+        more = f"<p>{len(self)} rows, of which these are the first {SHOWN}</p>" if len(self) > SHOWN else ""
+        return f"<table><thead><tr>{head}</tr></thead><tbody>{rows}</tbody></table>{more}"

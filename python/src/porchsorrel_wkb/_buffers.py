@@ -33,7 +33,14 @@ CODES = {"u1": "B", "u4": "I", "i8": "q", "f8": "d"}
 def view_of(data: Buffer) -> memoryview:
     """Return the buffer as Python has it."""
     buffer: Any = data
-    return memoryview(buffer)
+    try:
+        return memoryview(buffer)
+    except TypeError:
+        kind = type(data).__name__
+        raise TypeError(
+            f"a bytes-like object or an array is required, and not {kind!r}: numpy.asarray or array.array makes an "
+            "array of numbers, and bytes.fromhex makes bytes of hexadecimal text"
+        ) from None
 
 
 def new_numbers(kind: str, count: int) -> Numbers:
@@ -48,6 +55,13 @@ def new_offsets(count: int) -> Numbers:
     offsets = new_numbers("i8", count + 1)
     offsets[0] = 0
     return offsets
+
+
+def shortened(numbers: Numbers, count: int) -> Numbers:
+    """Return the first numbers of an array that nothing else has, and give the rest of its memory back."""
+    if has_numpy:
+        numbers.resize(count, refcheck=False)
+    return numbers
 
 
 def less_the_least(offsets: memoryview) -> Tuple[bytes, int]:

@@ -70,7 +70,7 @@ def _write(kind: Kind, options: Tuple[int, int, int], it: Levels) -> ColumnEncod
     data = new_numbers("u1", size)
     again = _wkb.column_from_coordinates(given, kind, it.dimension, options, (data, offsets, statuses))
     expect_same(again == size)
-    return ColumnEncodings._of_form(options[1], statuses, offsets, data)
+    return ColumnEncodings._made(statuses, offsets, data, _form=int(options[1]), _metadata=it.metadata)
 
 
 def column_from_coordinates(

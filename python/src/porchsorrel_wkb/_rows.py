@@ -1,8 +1,8 @@
 """Columns of rows that aren't in one piece."""
-import array
-import itertools
+import json
 from typing import Any, Iterable, List, NamedTuple, Optional
 
+from . import _wkb
 from ._buffers import Buffer, view_of
 
 
@@ -16,11 +16,10 @@ class Pieces(NamedTuple):
     rows: int = 0
     offset_size: int = 8
     owner: Any = None  # what the memory lives by
+    metadata: Optional[bytes] = None  # what GeoArrow's type says of the rows
 
 
 def _bytes_of_row(i: int, row: Any) -> bytes:
-    if row is None:
-        return b""
     try:
         return bytes(view_of(row))
     except TypeError:
@@ -39,6 +38,7 @@ def bits_of(flags: List[bool]) -> Optional[bytes]:
 def pieces_of(rows: Iterable[Optional[Buffer]]) -> Pieces:
     """Return the rows in one piece of memory."""
     column: Any = rows
+    metadata = _metadata_of(getattr(column, "crs", None))
     if isinstance(column, (str, bytes, bytearray, memoryview)):
         raise TypeError(f"a column is made of many rows, and this is one {type(column).__name__}")
     if getattr(column, "ndim", 1) != 1:
@@ -49,7 +49,19 @@ def pieces_of(rows: Iterable[Optional[Buffer]]) -> Pieces:
         column = column.to_wkb()
     items = list(column)
     if hasattr(column, "isna"):
-        items = [None if is_missing else row for row, is_missing in zip(items, column.isna())]
-    blobs = [row if isinstance(row, bytes) else _bytes_of_row(i, row) for i, row in enumerate(items)]
-    offsets = array.array("q", itertools.accumulate(map(len, blobs), initial=0))
-    return Pieces(b"".join(blobs), offsets, bits_of([row is not None for row in items]), rows=len(items))
+        import numpy
+
+        for i in numpy.flatnonzero(column.isna()).tolist():
+            items[i] = None
+    joined = _wkb.join(items)
+    if joined is None:
+        joined = _wkb.join([row if row is None else _bytes_of_row(i, row) for i, row in enumerate(items)])
+    assert joined is not None  # each row is bytes or None
+    return Pieces(*joined, rows=len(items), metadata=metadata)
+
+
+def _metadata_of(crs: Any) -> Optional[bytes]:
+    """Return what GeoArrow's types say of a CRS of pyproj, as geopandas has it."""
+    if not hasattr(crs, "to_json_dict"):
+        return None
+    return json.dumps({"crs": crs.to_json_dict(), "crs_type": "projjson"}).encode()

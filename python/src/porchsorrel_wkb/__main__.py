@@ -1,0 +1,13 @@
+"""The program wkb_dump: `python -m porchsorrel_wkb --help`."""
+import os
+import signal
+import sys
+
+from . import _wkb
+
+if __name__ == "__main__":
+    # It reads and writes by itself, as a program in C: an interrupt and a closed pipe end it.
+    signal.signal(signal.SIGINT, signal.SIG_DFL)
+    if hasattr(signal, "SIGPIPE"):
+        signal.signal(signal.SIGPIPE, signal.SIG_DFL)
+    sys.exit(_wkb.dump_program([os.fsencode(word) for word in sys.argv]))

@@ -1,0 +1,83 @@
+"""What GeoParquet says of a column of geometries."""
+import json
+from typing import Any, Dict, List, NamedTuple, Optional
+
+from . import _wkb
+from ._columns import Column
+from ._enums import Dimension, Kind, Status
+from ._results import ColumnBounds, Facts
+
+VERSION = "1.1.0"
+WAY_OUT = "Column.from_arrow(column.write()) is a column of ISO WKB alone"
+# The names of kinds, and what a dimension adds to them; those with an m are left out.
+NAMES = {
+    Kind.POINT: "Point", Kind.LINE_STRING: "LineString", Kind.POLYGON: "Polygon", Kind.MULTI_POINT: "MultiPoint",
+    Kind.MULTI_LINE_STRING: "MultiLineString", Kind.MULTI_POLYGON: "MultiPolygon",
+    Kind.GEOMETRY_COLLECTION: "GeometryCollection",
+}
+SIGNS = {Dimension.XY: "", Dimension.XYZ: " Z"}
+
+
+class GeoParquet(NamedTuple):
+    """What a writer of GeoParquet needs beside the column.
+
+    :ivar metadata: what the file says under its key `geo`, as JSON: `json.dumps(metadata)`
+    :ivar bounds: the covering, records of xmin, ymin, xmax and ymax, where one is asked for: an array for Arrow's
+        packages
+    """
+
+    metadata: Dict[str, Any]
+    bounds: Optional[ColumnBounds]
+
+
+def geoparquet(column: Column, name: str = "geometry", covering: Optional[str] = None) -> GeoParquet:
+    """Return what GeoParquet 1.1.0 says of a file with this column, as it is, under a name.
+
+    `covering` is the name of a second column, of the bounds of each row. The CRS is that of `column.metadata`; where
+    that has none, the file says that none is known. A null row counts as none. Raise `ValueError` where the file would
+    not be GeoParquet: a row is refused, has an m, is EWKB or has bytes behind its geometry, or the CRS isn't PROJJSON.
+    """
+    facts = column.facts()
+    _expect_rows(column, facts)
+    about: Dict[str, Any] = {
+        "encoding": "WKB",
+        "geometry_types": [NAMES[kind] + SIGNS[dimension] for kind, dimension in facts.types],
+        **_crs_of(column.metadata),
+    }
+    ranges = [it for it in (facts.box.x, facts.box.y, facts.box.z) if it.count]
+    if len(ranges) >= 2:
+        about["bbox"] = [it.least for it in ranges] + [it.greatest for it in ranges]
+    if covering is not None:
+        axes = "xy" + "z" * bool(facts.box.z.count)
+        ends: List[str] = [axis + end for end in ("min", "max") for axis in axes]
+        about["covering"] = {"bbox": {end: [covering, end] for end in ends}}
+    metadata = {"version": VERSION, "primary_column": name, "columns": {name: about}}
+    return GeoParquet(metadata, None if covering is None else column.bounds())
+
+
+def _expect_rows(column: Column, facts: Facts) -> None:
+    """Raise an error for the first row that GeoParquet can't have."""
+    statuses, offsets, table = column.parts()
+    for i, status in enumerate(bytes(statuses) if facts.refused else b""):
+        if status not in (Status.OK, Status.NULL_ROW):
+            raise ValueError(f"row {i} is refused: {_wkb.status_text(status)}")
+    for i, found in enumerate(column.found().found if facts.srids - {None} else ()):
+        if found.srid is not None:
+            raise ValueError(f"row {i} has SRID {found.srid}, and GeoParquet takes none: {WAY_OUT}")
+    for kind, dimension in facts.types:
+        if dimension not in SIGNS:
+            raise ValueError(f"a {kind.name} is {dimension.name}, and GeoParquet {VERSION} has no m")
+    row = _wkb.first_not_iso(column._arguments(), statuses, offsets, table._memory)
+    if row < len(column):
+        raise ValueError(f"row {row} is EWKB, or has bytes behind its geometry: {WAY_OUT}")
+
+
+def _crs_of(text: Optional[str]) -> Dict[str, Any]:
+    """Return what GeoParquet says of a CRS and of edges that GeoArrow's metadata has."""
+    held = {} if text is None else json.loads(text)
+    crs, edges = held.get("crs"), held.get("edges")
+    if crs is not None and not isinstance(crs, dict):
+        raise ValueError(f"the CRS is {crs!r}, and GeoParquet takes PROJJSON alone: set column.metadata")
+    if edges not in (None, "planar", "spherical"):
+        raise ValueError(f"edges of GeoParquet are planar or spherical, and not {edges!r}")
+    return {"crs": crs, **({"edges": edges} if edges else {})}

@@ -1,0 +1,277 @@
+"""What the calls for columns return, and its ways out: rows of bytes, and arrays of Arrow."""
+import array
+import functools
+import itertools
+from typing import Any, Iterator, List, NamedTuple, Optional, Sequence, Set, Tuple, Type, TypeVar, Union, overload
+
+from . import _wkb
+from ._buffers import Numbers, has_numpy, new_numbers, view_of
+from ._enums import Dimension, Form, Kind
+from ._export import (
+    LISTS, NARROW, NULLABLE, boxes_of, coordinates_of, exported, metadata_of, narrow, records, through, validity_of,
+    wanted, wanted_inside,
+)
+from ._records import Box, Found, Part, Table
+
+# Rows become bytes so many at a time.
+SOME = 4096
+Self = TypeVar("Self", bound="_Result")
+
+
+class _Result:
+    """What results share: beside their arrays they know something of their rows, and two are compared as a whole."""
+
+    _metadata: Optional[bytes] = None
+
+    @classmethod
+    def _made(cls: Type[Self], *arrays: Any, **known: Any) -> Self:
+        """Return a result of these arrays, of whose rows this is known."""
+        it = cls(*arrays)
+        it.__dict__.update(known)
+        return it
+
+    def _replace(self: Self, **changes: Any) -> Self:
+        """Return a result with other arrays in the place of some."""
+        it: Self = super()._replace(**changes)  # type: ignore[misc]
+        it.__dict__.update(self.__dict__)
+        return it
+
+    def __eq__(self, other: object) -> bool:
+        ours: Any = self
+        theirs: Any = other
+        return type(ours) is type(theirs) and all(
+            a == b if isinstance(a, Table) else _same(a, b) for a, b in zip(ours, theirs)
+        )
+
+    def __ne__(self, other: object) -> bool:
+        return not self == other
+
+    __hash__ = None  # type: ignore[assignment]
+
+
+def _same(ours: Numbers, theirs: Numbers) -> bool:
+    """Return whether two arrays have the same numbers, bit for bit."""
+    return bytes(view_of(ours)) == bytes(view_of(theirs))
+
+
+class _Bounds(NamedTuple):
+    statuses: Numbers
+    boxes: Table[Box]
+
+
+class ColumnBounds(_Result, _Bounds):  # type: ignore[misc]
+    """The bounds of each row; those of a row that is refused have no numbers.
+
+    Arrow's packages take this object as an array of type geoarrow.box: records of xmin, ymin, xmax and ymax, also of
+    zmin, mmin, zmax and mmax where a row has a z or an m. A row that is null or refused is null, and one without
+    coordinates has infinity as its least numbers, and minus infinity as its greatest ones.
+
+    :ivar statuses: a `Status` for each row
+    :ivar boxes: a table with a `Box` for each row
+    """
+
+    def __arrow_c_array__(self, requested_schema: Any = None) -> Tuple[Any, Any]:
+        """Return the boxes as an array of Arrow."""
+        bits, nulls = validity_of(self.statuses)
+        metadata = metadata_of("geoarrow.box", self._metadata)
+        return exported(records(b"", metadata, len(self.statuses), nulls, bits, boxes_of(self.boxes._memory)))
+
+
+class _Found(NamedTuple):
+    statuses: Numbers
+    found: Table[Found]
+
+
+class ColumnFound(_Result, _Found):  # type: ignore[misc]
+    """What is at the front of each row. Of a row that is null or refused all numbers are 0.
+
+    :ivar statuses: a `Status` for each row
+    :ivar found: a table with a `Found` for each row; `numpy.asarray` makes it a structured array
+    """
+
+
+class Facts(NamedTuple):
+    """What the rows of a column have together.
+
+    :ivar rows: how many there are
+    :ivar nulls: how many of them are null
+    :ivar refused: how many are refused, or have bad offsets
+    :ivar types: the kinds that occur, each with its dimension
+    :ivar srids: the SRIDs that occur; None for rows without one
+    :ivar box: the bounds of all rows
+    """
+
+    rows: int
+    nulls: int
+    refused: int
+    types: List[Tuple[Kind, Dimension]]
+    srids: Set[Optional[int]]
+    box: Box
+
+
+class _Parts(NamedTuple):
+    statuses: Numbers
+    offsets: Numbers
+    parts: Table[Part]
+
+
+class ColumnParts(_Result, _Parts):  # type: ignore[misc]
+    """The parts of all rows, those of row i from offsets[i] up to offsets[i + 1].
+
+    :ivar statuses: a `Status` for each row
+    :ivar offsets: in parts; one more than there are rows
+    :ivar parts: a table of parts, each with bytes counted from the front of its row
+    """
+
+
+class Rows(Sequence[Optional[bytes]]):
+    """The encodings of rows as bytes, each made when it is asked for; None for a row that has none."""
+
+    def __init__(self, encodings: "ColumnEncodings"):
+        self._of = encodings
+
+    def __len__(self) -> int:
+        return len(self._of.statuses)
+
+    @overload
+    def __getitem__(self, index: int) -> Optional[bytes]: ...
+
+    @overload
+    def __getitem__(self, index: slice) -> List[Optional[bytes]]: ...
+
+    def __getitem__(self, index: Union[int, slice]) -> Union[None, bytes, List[Optional[bytes]]]:
+        place = range(len(self))[index]
+        if isinstance(place, int):
+            return self._some(place, place + 1)[0]
+        return self._some(place.start, place.stop) if place.step == 1 else [self[i] for i in place]
+
+    def __iter__(self) -> Iterator[Optional[bytes]]:
+        count = len(self)
+        return itertools.chain.from_iterable(self._some(i, min(i + SOME, count)) for i in range(0, count, SOME))
+
+    def _some(self, first: int, end: int) -> List[Optional[bytes]]:
+        """Return the rows from one up to another one."""
+        if end <= first:
+            return []
+        return _wkb.split(self._of.data, self._of.offsets, self._of.statuses, first, end)
+
+    def __repr__(self) -> str:
+        return f"<{len(self)} encodings>"
+
+
+class _Encodings(NamedTuple):
+    statuses: Numbers
+    offsets: Numbers
+    data: Numbers
+
+
+class ColumnEncodings(_Result, _Encodings):  # type: ignore[misc]
+    """The encodings of all rows, that of row i from offsets[i] up to offsets[i + 1]; none where the row is refused.
+
+    `rows` is a sequence of them. Arrow's packages take this object as an array of large binary without a copy, or of
+    binary where they ask for that and it fits, in which a row without an encoding is null. It is one of type
+    geoarrow.wkb where the form is ISO, with the metadata of the column.
+
+    :ivar statuses: a `Status` for each row
+    :ivar offsets: in bytes; one more than there are rows
+    :ivar data: the bytes of all encodings
+    """
+
+    _form: Optional[int] = None
+
+    @property
+    def rows(self) -> Sequence[Optional[bytes]]:
+        """A sequence of the rows as bytes, and of None for those without an encoding."""
+        return Rows(self)
+
+    def __arrow_c_array__(self, requested_schema: Any = None) -> Tuple[Any, Any]:
+        """Return the rows as an array of Arrow."""
+        bits, nulls = validity_of(self.statuses)
+        is_narrow = wanted(requested_schema) == b"z" and self.offsets[-1] < NARROW
+        offsets = narrow(self.offsets) if is_narrow else view_of(self.offsets)
+        metadata = metadata_of("geoarrow.wkb" if self._form == Form.ISO else None, self._metadata)
+        views = bits, offsets, view_of(self.data)
+        return exported((b"z" if is_narrow else b"Z", b"", metadata, NULLABLE, len(self.statuses), nulls, views, ()))
+
+
+class _Coordinates(NamedTuple):
+    statuses: Numbers
+    row_offsets: Numbers
+    single_offsets: Numbers
+    ring_offsets: Numbers
+    coordinates: Numbers
+
+
+class ColumnCoordinates(_Result, _Coordinates):  # type: ignore[misc]
+    """The coordinates of all rows, in levels as GeoArrow has them: rows, singles (points, line strings and polygons, by
+    themselves or inside others), rings, and coordinates. The offsets of a level begin with 0, and have one more for
+    each item.
+
+    With numpy and rows of one kind, the offsets of GeoArrow's lists are, from the outermost on:
+
+        line strings, multi points    ring_offsets[single_offsets[row_offsets]]
+        polygons                      single_offsets[row_offsets]; ring_offsets
+        multi line strings            row_offsets; ring_offsets
+        multi polygons                row_offsets; single_offsets; ring_offsets
+        points                        none, but a coordinate for each row: of NaNs where it is null
+
+    Arrow's packages take this object as an array of lists of interleaved coordinates, with offsets of 32 bits, or of 64
+    where they ask for large lists or 32 don't do. That of `separated()`, or where they ask for records, has records of
+    x and y in their place. Where all rows have one kind, from point to multi polygon, the type is GeoArrow's
+    (geoarrow.point and so on), with the metadata of the column, else three lists in one another without a name. A row
+    that is null or refused is null.
+
+    :ivar statuses: a `Status` for each row
+    :ivar row_offsets: in singles
+    :ivar single_offsets: in rings; a point or a line string is one
+    :ivar ring_offsets: in coordinates
+    :ivar coordinates: a numpy array with a row for each; without numpy one number after another
+    """
+
+    _kinds = 0
+    _dimension = Dimension.XY
+    _is_separated = False
+
+    def separated(self) -> "ColumnCoordinates":
+        """Return these coordinates as ones that go out to Arrow as records of x and y, each number in its own array."""
+        it = self._replace()
+        it._is_separated = True
+        return it
+
+    def __arrow_c_array__(self, requested_schema: Any = None) -> Tuple[Any, Any]:
+        """Return the rows as an array of Arrow."""
+        bits, nulls = validity_of(self.statuses)
+        kind = next((it for it in Kind if self._kinds == 1 << it and it in (Kind.POINT, *LISTS)), None)
+        extension = None if kind is None else f"geoarrow.{kind.name.lower().replace('_', '')}"
+        metadata = metadata_of(extension, self._metadata)
+        is_separated = self._is_separated or wanted_inside(requested_schema) == b"+s"
+        if kind == Kind.POINT:
+            words = self._one_for_each_row() if nulls else self.coordinates
+            return exported(coordinates_of(words, self._dimension, is_separated, b"", metadata, nulls, bits))
+        lists = LISTS[kind or Kind.MULTI_POLYGON]
+        is_wide = wanted(requested_schema) == b"+L" or max(it[-1] for it in self[1:4]) >= NARROW
+        node = coordinates_of(self.coordinates, self._dimension, is_separated, lists[-1][0])
+        for depth in reversed(range(len(lists))):
+            offsets = functools.reduce(through, (self[level] for level in lists[depth][1]))
+            form, held = (b"+L", view_of(offsets)) if is_wide else (b"+l", narrow(offsets))
+            count = len(offsets) - 1
+            if depth:
+                node = form, lists[depth - 1][0], None, 0, count, 0, (None, held), (node,)
+            else:
+                node = form, b"", metadata, NULLABLE, count, nulls, (bits, held), (node,)
+        return exported(node)
+
+    def _one_for_each_row(self) -> Numbers:
+        """Return the coordinates of points, with NaNs for rows that have none: lists of one size have no gaps."""
+        width = self._dimension.width
+        words = new_numbers("f8", width * len(self.statuses))
+        given, at = view_of(self.coordinates).cast("B").cast("d"), 0
+        held = view_of(words)
+        for i, status in enumerate(bytes(view_of(self.statuses))):
+            place = slice(width * i, width * i + width)
+            if status:
+                held[place] = array.array("d", width * [float("nan")])
+            else:
+                held[place] = given[at : at + width]
+                at += width
+        return words

@@ -1,0 +1,61 @@
+"""The bytes of a geometry line by line: the worked cases of wkb_dump, its program, and what Python adds."""
+import pathlib
+import re
+import subprocess
+import sys
+import tempfile
+import unittest
+
+import porchsorrel_wkb as wkb
+from samples import POINT
+
+# The tests of the library are beside the package in the repository, above it in the source package.
+TOP = pathlib.Path(__file__).resolve().parents[2]
+TESTS = (TOP / "c" if (TOP / "c").exists() else TOP) / "test"
+DUMP = """\
+       0  01                                    little endian
+       1  01 00 00 00                           code 1: point, xy
+       5  00 00 00 00 00 00 f0 3f               x 1
+      13  00 00 00 00 00 00 00 40               y 2
+      21  the end
+"""
+
+
+class Dump(unittest.TestCase):
+    def test_point(self):
+        self.assertEqual(wkb.dump(POINT), DUMP)
+        self.assertEqual(wkb.dump(memoryview(bytearray(POINT))), DUMP)
+
+    @unittest.skipUnless(TESTS.exists(), "only the repository and the source package have the cases")
+    def test_cases(self):
+        cases = re.split(r"(?m)^> ", (TESTS / "dump.cases").read_text(encoding="utf-8"))[1:]
+        for case in cases:
+            head, _, expected = case.partition("\n")
+            _, items, lines, text = head.split(" ", 3)
+            data = bytes.fromhex(re.sub(r"^\s*(\\x|0x)", "", text))
+            with self.subTest(head):
+                self.assertEqual(wkb.dump(data, int(items), int(lines)), expected)
+        self.assertGreater(len(cases), 20)
+
+    def test_arguments(self):
+        for items, lines in ((-1, 0), (2**32, 0), (0, -1), (0, 2**64)):
+            self.assertRaisesRegex(ValueError, "are not from 0", wkb.dump, POINT, items, lines)
+        self.assertRaises(TypeError, wkb.dump, None)
+        self.assertRaises(ValueError, wkb._wkb.dump_program, [])
+        self.assertRaises(TypeError, wkb._wkb.dump_program, [b"wkb_dump", "x"])
+
+
+class Program(unittest.TestCase):
+    @unittest.skipUnless(TESTS.exists(), "only the repository and the source package have the tests")
+    def test_program(self):
+        """What the tests of the program in C ask of it."""
+        with tempfile.TemporaryDirectory() as folder:
+            ran = subprocess.run(["sh", TESTS / "alone/program_test", folder, sys.executable, "-m", "porchsorrel_wkb"],
+                                 stdout=subprocess.PIPE, stderr=subprocess.STDOUT)
+        self.assertEqual(ran.returncode, 0, ran.stdout.decode())
+
+    def test_closed(self):
+        """A pipe that is closed ends it without a word."""
+        command = f"echo {POINT.hex()} | {sys.executable} -m porchsorrel_wkb | true"
+        ran = subprocess.run(["sh", "-c", command], stdout=subprocess.PIPE, stderr=subprocess.STDOUT)
+        self.assertEqual((ran.returncode, ran.stdout), (0, b""))

@@ -1,0 +1,158 @@
+"""What is found in each row of a column, what rows have together, and what GeoParquet says of them."""
+import json
+import math
+import struct
+import unittest
+
+import porchsorrel_wkb as wkb
+from capsules import Arrow
+from porchsorrel_wkb import Column, Dimension, Kind, Order, Range, Status
+from samples import BIG_POINT, EMPTY_POINT, LINE, POINT, POINTS, POLYGON, ROWS, STATUSES, geometry
+
+try:
+    import numpy
+except ImportError:
+    numpy = None
+
+NONE = Range(math.inf, -math.inf, 0)
+Z_POINT = geometry(1, 1)
+
+
+class Found(unittest.TestCase):
+    def test_rows(self):
+        statuses, found = Column.of(ROWS).found()
+        self.assertEqual(list(statuses), STATUSES)
+        self.assertEqual((found[0], found[3]), (wkb.check(POINT), wkb.check(POLYGON)))
+        point = wkb.Found(21, 1, 1, 5, 1, None, Kind.POINT, Dimension.XY, Order.LITTLE)
+        polygon = wkb.Found(33, 2, 1, 13, 1, 4326, Kind.POLYGON, Dimension.XY, Order.BIG)
+        self.assertEqual((found[0], found[3], len(found)), (point, polygon, 5))
+        self.assertEqual(bytes(found._memory[64:192]), bytes(128))  # null and refused rows are zeros
+
+    def test_each(self):
+        """Each kind, dimension, order and form, and an SRID that needs 32 bits."""
+        for kind in list(Kind)[1:]:
+            for dimension in Dimension:
+                for order in "><":
+                    for form in (0, 1000):
+                        row = geometry(kind, dimension, order, form)
+                        with_srid = wkb.write(row, srid=2**32 - 1)
+                        first, second = Column.of([row, with_srid]).found().found
+                        expected = kind, dimension, len(row), Order("><".index(order)), None
+                        self.assertEqual((first.kind, first.dimension, first.size, first.order, first.srid), expected)
+                        self.assertEqual((second.srid, second.size), (2**32 - 1, len(row) + 4))
+                        self.assertEqual((first.coordinates, second.count), (1, 1))
+
+    def test_none(self):
+        self.assertEqual((len(Column.of([]).found().found), list(Column.of([None]).found().statuses)), (0, [16]))
+
+    @unittest.skipUnless(numpy, "numpy is not here")
+    def test_numpy(self):
+        table = numpy.asarray(Column.of(ROWS).found().found)
+        self.assertEqual(table["kind"].tolist(), [1, 0, 0, 3, 0])
+        self.assertEqual(table["srid"].tolist(), [0, 0, 0, 4326, 0])
+
+
+class Together(unittest.TestCase):
+    def test_facts(self):
+        facts = Column.of([*ROWS, LINE, EMPTY_POINT, wkb.write(POINT, srid=7), geometry(1, 3)]).facts()
+        self.assertEqual((facts.rows, facts.nulls, facts.refused, facts.srids), (9, 1, 2, {None, 4326, 7}))
+        self.assertEqual(facts.types, [(Kind.POINT, Dimension.XY), (Kind.POLYGON, Dimension.XY),
+                                       (Kind.LINE_STRING, Dimension.XYZ), (Kind.POINT, Dimension.XYZM)])
+        # Points of (1, 2) three times, the polygon's, and (1, 2, 3), (5, NaN, -7) of the line.
+        self.assertEqual(facts.box.x, Range(1.0, 5.0, 6))
+        self.assertEqual(facts.box.y, Range(2.0, 2.0, 5))
+        self.assertEqual(facts.box.z, Range(-7.0, 3.0, 3))
+        self.assertEqual(facts.box.m, Range(4.0, 4.0, 1))
+
+    def test_none(self):
+        for rows in ([], [None], [b""]):
+            facts = Column.of(rows).facts()
+            self.assertEqual((facts.types, facts.srids, facts.box), ([], set(), wkb.Box(NONE, NONE, NONE, NONE)))
+
+    def test_each_type(self):
+        for kind in list(Kind)[1:]:
+            for dimension in Dimension:
+                self.assertEqual(Column.of([geometry(kind, dimension)]).facts().types, [(kind, dimension)])
+
+
+class Whole(unittest.TestCase):
+    """Results are compared as a whole, and tables show their first rows."""
+
+    def test_equal(self):
+        for call in (Column.bounds, Column.found, Column.parts, Column.write, Column.coordinates):
+            ours, again, other = call(Column.of(ROWS)), call(Column.of(ROWS)), call(Column.of([LINE]))
+            self.assertIs(ours == again, True)
+            self.assertIs(ours != again, False)
+            self.assertIs(ours == other, False)
+            self.assertIs(ours == tuple(ours), False)
+            self.assertRaises(TypeError, hash, ours)
+        self.assertIs(wkb.parts(POINTS) == wkb.parts(POINTS), True)
+        self.assertIs(wkb.parts(POINTS) == list(wkb.parts(POINTS)), False)
+
+    def test_shown(self):
+        table = wkb.parts(struct.pack("<BII", 1, 4, 6) + 6 * POINT)
+        lines = repr(table).splitlines()
+        self.assertEqual((lines[0], lines[5], lines[6], len(lines)), ("<table of 7 Part>", f"  {table[4]}", "  ..", 7))
+        html = table._repr_html_()
+        self.assertEqual((html.count("<tr>"), html.count("<th>begin</th>"), "7 rows" in html), (6, 1, True))
+        self.assertIn("<td>MULTI_POINT</td><td>XY</td><td>LITTLE</td>", html)
+        self.assertEqual(repr(wkb.parts(POINT)), f"<table of 1 Part>\n  {wkb.parts(POINT)[0]}")
+
+
+CRS = {"type": "GeographicCRS", "name": "WGS 84"}
+
+
+class GeoParquet(unittest.TestCase):
+    def test_metadata(self):
+        """As the specification of 1.1.0 has it: types without order, the box of x and y, no CRS told by null."""
+        column = Column.of([POINT, None, geometry(6), geometry(2, order=">"), POINTS])
+        metadata, bounds = wkb.geoparquet(column)
+        self.assertIsNone(bounds)
+        self.assertEqual(json.loads(json.dumps(metadata)), {
+            "version": "1.1.0", "primary_column": "geometry", "columns": {"geometry": {
+                "encoding": "WKB", "geometry_types": ["Point", "LineString", "MultiPoint", "MultiPolygon"],
+                "crs": None, "bbox": [1.0, 2.0, 1.0, 2.0]}}})
+
+    def test_covering(self):
+        column = Column.of([POINT, Z_POINT])
+        column.metadata = json.dumps({"crs": CRS, "edges": "spherical"})
+        metadata, bounds = wkb.geoparquet(column, "shape", "bbox")
+        self.assertEqual(metadata["columns"], {"shape": {
+            "encoding": "WKB", "geometry_types": ["Point", "Point Z"], "crs": CRS, "edges": "spherical",
+            "bbox": [1.0, 2.0, 3.0, 1.0, 2.0, 3.0],
+            "covering": {"bbox": {it: ["bbox", it] for it in ("xmin", "ymin", "zmin", "xmax", "ymax", "zmax")}}}})
+        self.assertEqual(bounds, column.bounds())
+
+    def test_each_type(self):
+        names = "Point LineString Polygon MultiPoint MultiLineString MultiPolygon GeometryCollection".split()
+        for kind, name in enumerate(names, 1):
+            for dimension, sign in ((0, ""), (1, " Z")):
+                metadata, _ = wkb.geoparquet(Column.of([geometry(kind, dimension)]))
+                self.assertEqual(metadata["columns"]["geometry"]["geometry_types"], [name + sign])
+
+    def test_without_coordinates(self):
+        for rows in ([], [None], [EMPTY_POINT], [geometry(2)[:5] + bytes(4)]):
+            self.assertNotIn("bbox", wkb.geoparquet(Column.of(rows)).metadata["columns"]["geometry"])
+
+    def test_refused(self):
+        inside = struct.pack("<BII", 1, 1007, 1) + geometry(1, 1, form=0)
+        for row, text in (
+            (b"\2", "row 1 is refused: "), (POLYGON, "row 1 has SRID 4326"), (geometry(1, 2), "a POINT is XYM"),
+            (geometry(7, 3), "a GEOMETRY_COLLECTION is XYZM"), (geometry(1, 1, form=0), "row 1 is EWKB"),
+            (geometry(5, 1, ">", form=0), "row 1 is EWKB"), (inside, "row 1 is EWKB"),
+            (BIG_POINT + b"\0", "row 1 .*bytes"),
+        ):
+            self.assertRaisesRegex(ValueError, text, wkb.geoparquet, Column.of([POINT, row]))
+        written = Column.of([POINT, POLYGON, geometry(1, 1, form=0), BIG_POINT + b"\0"]).write()
+        self.assertTrue(wkb.geoparquet(Column(written.data, written.offsets)))
+        for text, expected in (('{"crs": "EPSG:4326"}', "PROJJSON alone"), ('{"edges": "vincenty"}', "'vincenty'")):
+            column = Column.of([POINT])
+            column.metadata = text
+            self.assertRaisesRegex(ValueError, expected, wkb.geoparquet, column)
+
+    def test_bad_rows(self):
+        """Offsets that fall are refused, and read nothing."""
+        source = Arrow(rows=[POINT, POINT])
+        column = Column.from_arrow(source)
+        column._offsets = memoryview(struct.pack("=3i", 0, 42, 21)).cast("i")
+        self.assertRaisesRegex(ValueError, "row 1 is refused", wkb.geoparquet, column)

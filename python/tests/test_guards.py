@@ -1,0 +1,166 @@
+"""The extension called directly, with buffers that are too short, missing, read-only or late: each is an error, since
+the package's own tests of its arguments may not be the last ones before memory is written."""
+import array
+import importlib.machinery
+import importlib.util
+import itertools
+import unittest
+
+import porchsorrel_wkb as wkb
+from porchsorrel_wkb import Kind, _columns, _wkb
+from samples import POINT, POLYGON
+
+OFFSETS = array.array("q", [0, 21, 42])
+TWO = (2 * POINT, OFFSETS, None, 8, 0, 2)
+PLAIN, NOTHING = (1, 0, 0), (None, None, None)
+
+
+def room(size):
+    return bytearray(size)
+
+
+def column(call, *results, of=TWO):
+    return _wkb.column(call, of, PLAIN, results, Kind.MULTI_POINT, 0)
+
+
+class Results(unittest.TestCase):
+    """Memory for results is as long as the rows need, and can be written."""
+
+    # Of each call the bytes of its results that are not to be shorter.
+    NEEDED = {_columns.CHECK: (0, 0, 2), _columns.BOUNDS: (2 * 96, 0, 2), _columns.PARTS: (0, 24, 2),
+              _columns.WRITE: (0, 24, 2), _columns.KINDS: (0, 0, 2), _columns.COLLECT: (0, 40, 0),
+              _columns.FIND: (2 * 64, 0, 2)}
+
+    def test_column(self):
+        for call, sizes in self.NEEDED.items():
+            self.assertIsInstance(column(call, *map(room, sizes)), int)
+            for i, size in enumerate(sizes):
+                for shorter in (room(size - 1), None) if size else ():
+                    results = [*map(room, sizes)]
+                    results[i] = shorter
+                    with self.subTest((call, i)), self.assertRaisesRegex(ValueError, "too few for 2 rows"):
+                        column(call, *results)
+                if size:
+                    results = [*map(room, sizes)]
+                    results[i] = bytes(size)
+                    self.assertRaises(BufferError, column, call, *results)
+
+    def test_coordinates(self):
+        sizes = 32, 24, 24, 24, 2
+        self.assertEqual(_wkb.column_coordinates(TWO, 0, (*map(room, sizes),)), (2, 2, 2))
+        for i, least in ((3, 24), (4, 2)):
+            for shorter in (room(least - 1), None):
+                results = [*map(room, sizes)]
+                results[i] = shorter
+                self.assertRaisesRegex(ValueError, "too few", _wkb.column_coordinates, TWO, 0, (*results,))
+        for i in range(3):  # no room is no error, but one that the statuses tell
+            results = [*map(room, sizes)]
+            results[i] = room(8)
+            _wkb.column_coordinates(TWO, 0, (*results,))
+            self.assertEqual(list(results[4]), [wkb.Status.NO_ROOM] * 2)
+
+    def test_from_coordinates(self):
+        levels = array.array("d", [1, 2, 3, 4]), None, None, None, None, 0
+        made = lambda *results: _wkb.column_from_coordinates(levels, Kind.POINT, 0, PLAIN, results)
+        self.assertEqual(made(room(42), room(24), room(2)), 42)
+        for results in ((None, room(23), room(2)), (None, room(24), room(1)), (None, None, room(2)),
+                        (None, room(24), None)):
+            self.assertRaisesRegex(ValueError, "too few", made, *results)
+        self.assertEqual(made(room(41), room(24), room(2)), 42)
+
+
+class Inputs(unittest.TestCase):
+    """A column is as long as its rows say, and so is a table."""
+
+    def test_column(self):
+        call = lambda of: column(_columns.CHECK, None, None, room(9), of=of)
+        for of in ((2 * POINT, OFFSETS, None, 8, 0, 3), (2 * POINT, OFFSETS, None, 8, 1, 2),
+                   (2 * POINT, OFFSETS, None, 3, 0, 2), (2 * POINT, OFFSETS, None, 8, -1, 2),
+                   (2 * POINT, OFFSETS, None, 8, 0, -1), (2 * POINT, OFFSETS, None, 8, 2**62, 2**62),
+                   (2 * POINT, OFFSETS, b"", 8, 0, 2), (2 * POINT, OFFSETS, b"\3", 8, 7, 2), (b"", b"", None, 8, 0, 1)):
+            self.assertRaises(ValueError, call, of)
+        for of in ((None, OFFSETS, None, 8, 0, 2), (b"", None, None, 8, 0, 2), (b"", OFFSETS)):
+            self.assertRaises(TypeError, call, of)
+
+    def test_records(self):
+        table = bytes(2 * wkb.Part.LAYOUT.size - 1)
+        for index in (-1, 1, 2**62):
+            self.assertRaises(IndexError, _wkb.read_record, wkb.Part, table, index)
+        for other in (wkb.Range, wkb.Status, None):
+            self.assertRaises(IndexError, _wkb.read_record, other, table, 0)
+        # Numbers that nothing has, as a table that was pickled may have them.
+        for record in (wkb.Found, wkb.Part, wkb.Fault):
+            self.assertRaises(IndexError, _wkb.read_record, record, b"\xff" * record.LAYOUT.size, 0)
+
+    def test_rows(self):
+        """Rows that are not where their offsets say are none."""
+        for first, end in ((-1, 1), (1, 0), (0, 3), (2**62, 2**62)):
+            self.assertRaises(IndexError, _wkb.split, 2 * POINT, OFFSETS, bytes(2), first, end)
+        self.assertRaises(IndexError, _wkb.split, 2 * POINT, OFFSETS, bytes(1), 0, 2)
+        for offsets, expected in (
+            ([0, 21, 42], [POINT, POINT]), ([0, 43, 42], [None, None]), ([-1, 21, 21], [None, b""]),
+            ([21, 42, 0], [POINT, None]), ([2**62, -(2**62), 21], [None, None]),
+        ):
+            self.assertEqual(_wkb.split(2 * POINT, array.array("q", offsets), bytes(2), 0, 2), expected)
+        self.assertEqual(_wkb.split(2 * POINT, OFFSETS, b"\0\1", 0, 2), [POINT, None])
+        self.assertEqual(_wkb.join([POINT, None, b""]), (POINT, array.array("q", [0, 21, 21, 21]).tobytes(), b"\5"))
+        self.assertEqual((_wkb.join([b""]), _wkb.join([POINT, bytearray(POINT)])), ((b"", bytes(16), None), None))
+
+    def test_parts(self):
+        """A part may have any values, and the bytes have those of one."""
+        ring = wkb.parts(POLYGON)[1]
+        values = {name: getattr(ring, name) for name in ring.__match_args__}
+        numbers = -1, 0, 5, 2**31, 2**32, 2**63, 2**64, None
+        for name, value in itertools.product(("begin", "offset", "count"), numbers):
+            if value != values[name]:
+                self.assertIsNone(_wkb.coordinates(POLYGON, wkb.Part(**dict(values, **{name: value}))), (name, value))
+        for name, value in (("kind", 9), ("kind", -1), ("dimension", 4), ("order", 2), ("order", None)):
+            self.assertIsNone(_wkb.coordinates(POLYGON, wkb.Part(**dict(values, **{name: value}))), (name, value))
+        for size in range(len(POLYGON)):
+            self.assertIsNone(_wkb.coordinates(POLYGON[:size], ring))
+        self.assertEqual(_wkb.place_of_words(POLYGON + b"\0", ring), (17, 33))
+        for other in (None, 1, POLYGON, wkb.Range(1.0, 2.0, 3)):
+            self.assertRaisesRegex(TypeError, "a Part of parts", _wkb.coordinates, POLYGON, other)
+
+
+    def test_facts(self):
+        found, boxes, parts = bytes(2 * 64), bytes(2 * 96), bytes(2 * 64)
+        ends = array.array("q", [0, 1, 2])
+        for given in ((bytes(2), found[:-1], boxes), (bytes(2), found, boxes[:-1]), (bytes(3), found, boxes)):
+            self.assertRaisesRegex(ValueError, "too few", _wkb.facts, *given)
+        self.assertEqual(_wkb.first_not_iso(TWO, bytes(2), ends, wkb.Column.of(2 * [POINT]).parts().parts._memory), 2)
+        for statuses, offsets in ((bytes(1), ends), (bytes(2), ends[:2])):
+            self.assertRaisesRegex(ValueError, "too few", _wkb.first_not_iso, TWO, statuses, offsets, parts)
+        for offsets in ([0, 1, 3], [1, 0, 0], [2**62, 2**63 - 1, 0], [0, 0, 0]):
+            self.assertEqual(_wkb.first_not_iso(TWO, bytes(2), array.array("q", offsets), parts), 0)
+
+
+class Late(unittest.TestCase):
+    """An extension that the package has given no types yet, and one that gets others."""
+
+    @staticmethod
+    def fresh():
+        loader = importlib.machinery.ExtensionFileLoader("_wkb", _wkb.__file__)
+        return importlib.util.module_from_spec(importlib.util.spec_from_loader("_wkb", loader))
+
+    def test_without_types(self):
+        other = self.fresh()
+        other.__loader__.exec_module(other)
+        for call in (other.check, other.bounds):
+            for data in (POINT, b""):
+                self.assertRaisesRegex(RuntimeError, "not given its types", call, data)
+        self.assertEqual(other.write(POINT, 1, None, None), POINT)
+        self.assertRaises(SystemError, other.write, POINT, 9, None, None)
+        self.assertRaises(TypeError, other.coordinates, POINT, wkb.check(POINT))
+        self.assertRaises(IndexError, other.read_record, wkb.Part, bytes(80), 0)
+
+    def test_other_types(self):
+        other = self.fresh()
+        other.__loader__.exec_module(other)
+        for given in ((), (1,), 6 * (int,) + (int,), 6 * (int,) + 5 * ((),) + (1,)):
+            self.assertRaises((TypeError, IndexError), other.give, *given)
+
+    def test_arguments(self):
+        for call in (_wkb.same, _wkb.write, _wkb.coordinates, _wkb.place_of_words):
+            for count in (0, 1, 3, 5):
+                self.assertRaises(TypeError, call, *[POINT] * count)

@@ -1,0 +1,159 @@
+"""Arrays of Arrow that are handed out: what they show lies in one piece, and is as long as they say. Arrays that are
+handed over twice, and sub-interpreters, which no call hangs in."""
+import array
+import ctypes
+import subprocess
+import sys
+import unittest
+
+import porchsorrel_wkb as wkb
+from capsules import RELEASE, Arrow, Lists, Records, address_of
+from samples import POINT, ROWS
+from porchsorrel_wkb import Column, Dimension, Kind, column_from_coordinates
+
+try:
+    import numpy
+except ImportError:
+    numpy = None
+try:
+    import _testcapi
+except ImportError:
+    _testcapi = None
+
+
+def handed_out_twice(source):
+    """An object that hands out the same capsules again."""
+    pair = source.__arrow_c_array__()
+    return type("Twice", (), {"__arrow_c_array__": lambda self: pair})()
+
+
+class Twice(unittest.TestCase):
+    """The schema of the second time is released, and its texts may be gone."""
+
+    def test_arrays(self):
+        written = Column.of([POINT]).write()
+        for source in (Arrow(), Records(Arrow(name=b"shape"), length=len(ROWS)), written):
+            name, it = "shape" if isinstance(source, Records) else None, handed_out_twice(source)
+            Column.from_arrow(it, name)
+            self.assertRaisesRegex(ValueError, "is released already", Column.from_arrow, it, name)
+
+    def test_coordinates(self):
+        for source in (Lists([], [(1.0, 2.0)]), Column.of([POINT]).coordinates()):
+            it = handed_out_twice(source)
+            self.assertEqual(list(column_from_coordinates(Kind.POINT, it).rows), [POINT])
+            self.assertRaisesRegex(ValueError, "is released already", column_from_coordinates, Kind.POINT, it)
+
+    def test_inside(self):
+        """Of records and lists a child may be released by itself."""
+        column = Arrow(name=b"shape")
+        records = Records(column, length=len(ROWS))
+        column.release("schema", column.schema)
+        self.assertRaisesRegex(ValueError, "is released already", Column.from_arrow, records, "shape")
+
+    def test_asked(self):
+        """The type that a consumer asks for may be released, too: none is asked for."""
+        asked = Arrow(format=b"z")
+        capsule, _ = asked.__arrow_c_array__()
+        asked.release("schema", asked.schema)
+        self.assertEqual(len(Column.of([POINT]).write().__arrow_c_array__(capsule)), 2)
+
+
+class Changed(unittest.TestCase):
+    """Results with other arrays in them go out only if what is shown is there."""
+
+    ENCODINGS = Column.of(2 * [POINT]).write()
+    LINE_BYTES = bytes.fromhex("010200000001000000") + POINT[5:]
+    LINE = Column.of([LINE_BYTES]).coordinates()
+
+    def refused(self, it, error=ValueError, text="don't fit together"):
+        self.assertRaisesRegex(error, text, it.__arrow_c_array__)
+
+    def test_offsets(self):
+        for offsets in ([0, 21], [0, 21, 43], [0, 22, 21], [-1, 21, 42], [1, 0, 42], [0, 2**62, 42], []):
+            self.refused(self.ENCODINGS._replace(offsets=array.array("q", offsets)))
+        for code in "iB":
+            self.refused(self.ENCODINGS._replace(offsets=array.array(code, [0, 21, 42, 0, 0, 0])))
+        kept = self.ENCODINGS._replace(offsets=array.array("q", [0, 21, 42, 42]))
+        self.assertEqual(list(Column.from_arrow(kept).check()), [0, 0])
+
+    def test_lengths(self):
+        self.refused(self.ENCODINGS._replace(data=bytes(41)))
+        self.refused(self.ENCODINGS._replace(statuses=bytes(3)))
+        self.refused(self.LINE._replace(coordinates=array.array("d", [])))
+
+    def test_types(self):
+        for code in "fi":
+            self.refused(self.LINE._replace(coordinates=array.array(code, [0] * 8)))
+
+    def test_pieces(self):
+        """What isn't in one piece has no address that lasts."""
+        every_second = memoryview(array.array("q", [0, 9, 21, 9, 42]))[::2]
+        for it in (self.ENCODINGS._replace(data=memoryview(bytes(84))[::2]),
+                   self.ENCODINGS._replace(offsets=every_second)):
+            self.refused(it, BufferError, "numpy.ascontiguousarray")
+        if numpy:
+            for words in (numpy.zeros((2, 3))[:, :2], numpy.asfortranarray(numpy.zeros((3, 2)))):
+                self.refused(self.LINE._replace(coordinates=words), BufferError, "numpy.ascontiguousarray")
+
+    @unittest.skipUnless(numpy, "numpy is not here")
+    def test_less(self):
+        """Without its z a coordinate has two numbers, and goes out as such; with other widths there is none."""
+        line = bytes.fromhex("01ea03000001000000") + POINT[5:] + bytes(8)
+        levels = Column.of([line]).coordinates(Dimension.XYZ)
+        self.assertEqual(levels.coordinates.tolist(), [[1.0, 2.0, 0.0]])
+        flat = levels._replace(coordinates=levels.coordinates[:, :2].copy())
+        self.assertEqual(list(column_from_coordinates(Kind.LINE_STRING, flat).rows), [self.LINE_BYTES])
+        self.refused(levels._replace(coordinates=numpy.zeros((1, 5))), text="5 numbers")
+
+    def test_guards(self):
+        """The extension by itself takes no array that isn't whole."""
+        offsets, words = memoryview(array.array("q", [0, 1])), memoryview(array.array("d", [0]))
+        leaf = b"g", b"", None, 0, 1, 0, (None, words), ()
+        for node in (
+            (b"Z", b"", None, 0, 1, 0, (None, offsets), ()),
+            (b"Z", b"", None, 0, 1, 0, (None, None, words), ()),
+            (b"+w:0", b"", None, 0, 1, 0, (None,), (leaf,)),
+            (b"+w:2", b"", None, 0, 1, 0, (None,), (leaf,)),
+            (b"+l", b"", None, 0, -1, 0, (None, offsets), (leaf,)),
+            (b"+l", b"", None, 0, 1, 0, (None, offsets), (leaf[:4],)),
+            (b"+s", b"", None, 0, 2, 0, (None,), (leaf,)),
+            (b"+s", b"", None, 0, 1, 0, (None,), 9 * (leaf,)),
+            (b"g", b"", None, 0, 2**62, 0, (None, words), ()),
+            (b"g", b"", None, 0, 1, 0, 4 * (words,), ()),
+            (b"g", b"", None, 0, 9, 0, (memoryview(b"1"), words), ()),
+        ):
+            with self.subTest(node[0]), self.assertRaises((ValueError, IndexError)):
+                wkb._wkb.export(node, True)
+
+
+# A sub-interpreter hands arrays out, which end there: by the package, and by somebody who holds the lock.
+INSIDE = """
+import ctypes, gc, sys
+sys.path[:] = {path!r}
+import porchsorrel_wkb as wkb
+from capsules import Array, Schema, address_of
+column = wkb.Column.of([{point!r}])
+wkb.Column.from_arrow(column.write()).check()
+kept = bytearray({point!r})
+it = wkb.ColumnEncodings(b"\\0", memoryview(bytes(8) + b"\\x15" + bytes(7)).cast("q"), kept)
+capsules = it.__arrow_c_array__()
+for capsule, name, struct in zip(capsules, (b"arrow_schema", b"arrow_array"), (Schema, Array)):
+    held = struct.from_address(address_of(id(capsule), name))
+    ctypes.PYFUNCTYPE(None, ctypes.c_void_p)(held.release)(ctypes.addressof(held))
+    assert held.release is None
+del capsules, capsule, held
+column.write().__arrow_c_array__()
+gc.collect()
+del it
+kept.append(1)  # nothing holds it any more
+"""
+
+
+class SubInterpreter(unittest.TestCase):
+    @unittest.skipUnless(_testcapi, "this Python can't make sub-interpreters")
+    def test_ends(self):
+        # numpy can't be imported in a second interpreter of a process.
+        inside = "import sys; sys.modules['numpy'] = None\n" + INSIDE.format(path=sys.path, point=POINT)
+        program = f"import _testcapi; raise SystemExit(sum(_testcapi.run_in_subinterp({inside!r}) for _ in range(3)))"
+        ran = subprocess.run([sys.executable, "-c", program], stderr=subprocess.PIPE, timeout=30)
+        self.assertEqual((ran.returncode, ran.stderr.decode()), (0, ""))

@@ -1,0 +1,172 @@
+"""What GeoArrow's types say of their rows stays with them, in and out; coordinates go out interleaved or separated, and
+boxes as records."""
+import json
+import math
+import pickle
+import struct
+import types
+import unittest
+
+from capsules import Arrow, Lists, Records, Stream, Views
+from porchsorrel_wkb import Column, Dimension, Form, Kind, column_from_coordinates
+from samples import EMPTY_POINT, LINE, POINT, ROWS, geometry
+from test_arrow_out import Schema, asked_for, ctypes, extension_of, items_of, numbers_at, read, structs_of
+
+CRS = b'{"crs": "EPSG:3857", "edges": "spherical"}'
+
+
+def encoded(name=b"geoarrow.wkb", text=CRS):
+    """The metadata of a type that is an extension of Arrow's: how many pairs, and each text behind its length."""
+    texts = b"other", b"1", b"ARROW:extension:name", name, b"ARROW:extension:metadata", text
+    return struct.pack("=i", 3) + b"".join(struct.pack("=i", len(it)) + it for it in texts)
+
+
+def told_of(source, name=None, metadata=None):
+    """An array of others whose type says this of its rows."""
+    source.schema.metadata = metadata or encoded()
+    source.schema.name = name
+    return source
+
+
+def metadata_of(of, asked=None):
+    """What the type of an array that goes out says of its rows: its name, and the text."""
+    capsules = of.__arrow_c_array__(asked)
+    schema, _ = structs_of(capsules)
+    at = ctypes.c_void_p.from_address(ctypes.addressof(schema) + Schema.metadata.offset).value
+    texts = texts_at(at) if at else 4 * [b""]
+    return texts[1].decode(), texts[3]
+
+
+def texts_at(at):
+    (count,), texts, at = numbers_at(at, "i", 1), [], at + 4
+    for _ in range(2 * count):
+        (size,) = numbers_at(at, "i", 1)
+        texts.append(ctypes.string_at(at + 4, size))
+        at += 4 + size
+    return texts
+
+
+class Metadata(unittest.TestCase):
+    def test_in(self):
+        for source in (Arrow(), Arrow(b"Z"), Views(ROWS, 1), Arrow(rows=[])):
+            self.assertEqual(Column.from_arrow(told_of(source)).metadata, CRS.decode())
+        records = Records(Arrow(name=b"a"), told_of(Arrow(), b"b"), length=len(ROWS))
+        self.assertEqual(Column.from_arrow(records, "b").metadata, CRS.decode())
+        chunks = Column.chunks_from_arrow(Stream(told_of(Arrow()), [Arrow(), Arrow()]))
+        self.assertEqual([it.metadata for it in chunks], [CRS.decode()] * 2)
+
+    def test_other_types(self):
+        for name, expected in ((b"geoarrow.wkb", CRS), (b"ogc.wkb", CRS), (b"arrow.uuid", None), (b"geoarrow", None)):
+            found = Column.from_arrow(told_of(Arrow(), metadata=encoded(name))).metadata
+            self.assertEqual(found, expected and expected.decode())
+        for held in (struct.pack("=i", 0), struct.pack("=i", -1), struct.pack("=ii", 1, -5),
+                     struct.pack("=ii", 1, 2**31 - 1)):
+            self.assertIsNone(Column.from_arrow(told_of(Arrow(), metadata=held)).metadata)
+        self.assertIsNone(Column.from_arrow(Arrow()).metadata)
+
+    def test_out(self):
+        column = pickle.loads(pickle.dumps(Column.from_arrow(told_of(Arrow(rows=[POINT, None])))))
+        for it, name in ((column.write(), "geoarrow.wkb"), (column.coordinates(), "geoarrow.point"),
+                         (column.coordinates().separated(), "geoarrow.point"), (column.bounds(), "geoarrow.box")):
+            for held in (it, pickle.loads(pickle.dumps(it)), it._replace(statuses=bytes(2))):
+                self.assertEqual(metadata_of(held), (name, CRS))
+        self.assertEqual(metadata_of(column.write(form=Form.EWKB_WITHOUT_SRID)), ("", b""))
+        levels = column_from_coordinates(Kind.POINT, column.coordinates())
+        self.assertEqual(metadata_of(levels), ("geoarrow.wkb", CRS))
+        self.assertEqual(metadata_of(Column.of([POINT]).write()), ("geoarrow.wkb", b"{}"))
+
+    def test_set(self):
+        column = Column.of([POINT])
+        column.metadata = '{"crs": 1}'
+        self.assertEqual(metadata_of(column.write()), ("geoarrow.wkb", b'{"crs": 1}'))
+        column.metadata = None
+        self.assertEqual(metadata_of(column.write()), ("geoarrow.wkb", b"{}"))
+
+    def test_crs(self):
+        """A column of geopandas has a CRS of pyproj."""
+        frame = type("Series", (list,), {"crs": types.SimpleNamespace(to_json_dict=lambda: {"id": 7})})([POINT])
+        self.assertEqual(json.loads(Column.of(frame).metadata), {"crs": {"id": 7}, "crs_type": "projjson"})
+        frame.crs = None
+        self.assertIsNone(Column.of(frame).metadata)
+
+
+def nested(kind, value):
+    """The value of a geometry of one coordinate in GeoArrow's lists."""
+    for _ in range({1: 0, 2: 1, 3: 2, 4: 1, 5: 2, 6: 3}[kind]):
+        value = [value]
+    return value
+
+
+class Coordinates(unittest.TestCase):
+    def test_each_dimension(self):
+        """Each kind, with the codes of ISO and the flags of EWKB, in each dimension that is asked for."""
+        for kind in range(1, 7):
+            for dimension in Dimension:
+                for order in "><":
+                    for form in (0, 1000):
+                        row = geometry(kind, dimension, order, form)
+                        values, names, extension = read(Column.of([row]).coordinates(dimension))
+                        name = Kind(kind).name.lower().replace("_", "")
+                        self.assertEqual(extension, f"geoarrow.{name}", (row, dimension))
+                        self.assertEqual(values, [nested(kind, [1.0, 2.0, 3.0, 4.0][: dimension.width])])
+                        self.assertEqual(names[-1], ("g", dimension.name.lower()))
+
+    def test_separated(self):
+        for kind in range(1, 7):
+            for dimension in Dimension:
+                levels = Column.of([geometry(kind, dimension)]).coordinates(dimension)
+                self.check_separated(levels.separated().__arrow_c_array__(), kind, dimension)
+                again = column_from_coordinates(Kind(kind), levels.separated())
+                self.assertEqual(list(again.rows), [geometry(kind, dimension)])
+                names = [f"+w:{dimension.width}", "g"]
+                self.assertEqual([form for form, _ in read(levels)[1]][-2:], names)  # the first one is as it was
+
+    def check_separated(self, capsules, kind, dimension):
+        schema, it = structs_of(capsules)
+        self.assertEqual(items_of(schema, it), [nested(kind, (1.0, 2.0, 3.0, 4.0)[: dimension.width])])
+        while schema.format != b"+s":
+            schema = type(schema).from_address(schema.children[0])
+        leaves = [type(schema).from_address(schema.children[i]) for i in range(schema.n_children)]
+        self.assertEqual([(leaf.format.decode(), leaf.name.decode()) for leaf in leaves],
+                         [("g", axis) for axis in dimension.name.lower()])
+
+    def test_asked(self):
+        """A consumer asks by the schema that it wants."""
+        line, point = Column.of([geometry(2)]).coordinates(), Column.of([POINT]).coordinates()
+        separate = Lists([(0, 1)], [(1.0,), (2.0,)], "xy")
+        self.check_separated(line.__arrow_c_array__(separate.__arrow_c_array__()[0]), 2, Dimension.XY)
+        self.check_separated(point.__arrow_c_array__(asked_for(b"+s")), 1, Dimension.XY)
+        together = Lists([(0, 1)], [(1.0, 2.0)]).__arrow_c_array__()[0]
+        self.assertEqual(read(line, together)[1], [("+l", ""), ("+w:2", "vertices"), ("g", "xy")])
+
+    def test_null_rows(self):
+        for rows in ([POINT, None], [None, EMPTY_POINT, b"\2"]):
+            capsules = Column.of(rows).coordinates().separated().__arrow_c_array__()
+            values = items_of(*structs_of(capsules))
+            self.assertEqual([it is None for it in values], [row in (None, b"\2") for row in rows])
+
+
+class Boxes(unittest.TestCase):
+    def boxes(self, rows):
+        capsules = Column.of(rows).bounds().__arrow_c_array__()
+        schema, it = structs_of(capsules)
+        self.assertEqual(extension_of(schema), "geoarrow.box")
+        names = [type(schema).from_address(schema.children[i]).name.decode() for i in range(schema.n_children)]
+        return names, items_of(schema, it)
+
+    def test_axes(self):
+        ends = ["xmin", "ymin", "xmax", "ymax"]
+        self.assertEqual(self.boxes([POINT, None, b"\2"]), (ends, [(1.0, 2.0, 1.0, 2.0), None, None]))
+        names, (box,) = self.boxes([LINE])
+        self.assertEqual(names, ["xmin", "ymin", "zmin", "xmax", "ymax", "zmax"])
+        self.assertEqual(box, (1.0, 2.0, -7.0, 5.0, 2.0, 3.0))
+        names, (box,) = self.boxes([geometry(1, 2)])
+        self.assertEqual((names, box), (["xmin", "ymin", "mmin", "xmax", "ymax", "mmax"], (1.0, 2.0, 3.0) * 2))
+        names, boxes = self.boxes([geometry(1, 3), POINT])
+        self.assertEqual(names, [axis + end for end in ("min", "max") for axis in "xyzm"])
+        flat = 1.0, 2.0, math.inf, math.inf, 1.0, 2.0, -math.inf, -math.inf
+        self.assertEqual(boxes, [(1.0, 2.0, 3.0, 4.0) * 2, flat])
+
+    def test_without_coordinates(self):
+        self.assertEqual(self.boxes([EMPTY_POINT])[1], [(math.inf, math.inf, -math.inf, -math.inf)])
+        self.assertEqual(self.boxes([]), (["xmin", "ymin", "xmax", "ymax"], []))
