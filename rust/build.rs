@@ -1,5 +1,7 @@
-//! Compiles the C library, two files, with the C compiler: `CC`, or else `cc`, and `AR`, or else `ar`.
+//! Compiles the C library, two files, with the C compiler: `CC`, or else `cc`, and `AR`, or else `ar`. As for the crate
+//! `cc`, each variable may name a target: `CC_aarch64_unknown_linux_gnu`, or `TARGET_CC` where that isn't this system.
 use std::env;
+use std::fs;
 use std::path::{Path, PathBuf};
 use std::process::Command;
 
@@ -7,15 +9,31 @@ fn variable(name: &str) -> String {
     env::var(name).unwrap_or_else(|_| panic!("cargo sets {name}"))
 }
 
-/// The program that a variable names, of the target's own toolchain where it is another system than this one.
-fn program(name: &str, usual: &str) -> String {
-    println!("cargo:rerun-if-env-changed={name}");
-    let given = env::var(name).ok();
-    let is_native = variable("TARGET") == variable("HOST");
-    given.unwrap_or_else(|| {
-        assert!(is_native, "to build for {}, set {name} to a program for it", variable("TARGET"));
-        usual.to_owned()
-    })
+/// The names of a variable for a target, the closest first.
+fn names(variable: &str, target: &str, is_native: bool) -> [String; 4] {
+    let whose = if is_native { "HOST" } else { "TARGET" };
+    let underscored = target.replace('-', "_");
+    [
+        format!("{variable}_{target}"),
+        format!("{variable}_{underscored}"),
+        format!("{whose}_{variable}"),
+        variable.into(),
+    ]
+}
+
+/// The program that a variable names, with its first arguments. Another target than this system has to have one.
+fn program(name: &str, usual: &str) -> Command {
+    let target = variable("TARGET");
+    let is_native = target == variable("HOST");
+    let names = names(name, &target, is_native);
+    names.iter().for_each(|it| println!("cargo:rerun-if-env-changed={it}"));
+    let given = names.iter().find_map(|it| env::var(it).ok());
+    assert!(given.is_some() || is_native, "to build for {target}, set {} to a program for it", names[1]);
+    let words = given.unwrap_or_default();
+    let mut words = words.split_whitespace();
+    let mut command = Command::new(words.next().unwrap_or(usual));
+    command.args(words);
+    command
 }
 
 fn run(command: &mut Command) {
@@ -24,24 +42,32 @@ fn run(command: &mut Command) {
 }
 
 /// Compiles a file of the library. The assembly takes another file of that folder in.
-fn object(name: &str, library: &Path, compiler: &str, out: &Path) -> PathBuf {
+fn object(name: &str, library: &Path, out: &Path) -> PathBuf {
     let object = out.join(name).with_extension("o");
-    let mut command = Command::new(compiler);
+    let mut command = program("CC", "cc");
     command.args(["-std=c11", "-O2", "-fPIC", "-c", "-I"]).arg(library).arg(library.join(name));
     run(command.arg("-o").arg(&object));
     object
 }
 
+/// What the two files are made of.
+fn sources(library: &Path) -> Vec<PathBuf> {
+    let folder = library.join("proved");
+    let entries = fs::read_dir(&folder).unwrap_or_else(|why| panic!("{}: {why}", folder.display()));
+    let assemblies = entries.map(|it| it.expect("an entry of a folder").path());
+    let assemblies = assemblies.filter(|it| it.extension().map_or(false, |end| end == "s"));
+    ["wkb.c", "wkb.h", "wkb_raw.h", "wkb_proved.S"].into_iter().map(|it| library.join(it)).chain(assemblies).collect()
+}
+
 fn main() {
-    let library = Path::new(&variable("CARGO_MANIFEST_DIR")).join("../c");
+    let library = Path::new(&variable("CARGO_MANIFEST_DIR")).join("c");
     let out = PathBuf::from(variable("OUT_DIR"));
-    let compiler = program("CC", "cc");
-    let objects = ["wkb.c", "wkb_proved.S"].map(|it| object(it, &library, &compiler, &out));
+    let objects = ["wkb.c", "wkb_proved.S"].map(|it| object(it, &library, &out));
     let archive = out.join("libporchsorrel_c.a");
-    run(Command::new(program("AR", "ar")).arg("crs").arg(&archive).args(&objects));
+    run(program("AR", "ar").arg("crs").arg(&archive).args(objects));
     println!("cargo:rustc-link-search=native={}", out.display());
     println!("cargo:rustc-link-lib=static=porchsorrel_c");
-    for it in ["wkb.c", "wkb.h", "wkb_raw.h", "wkb_proved.S", "proved"] {
-        println!("cargo:rerun-if-changed={}", library.join(it).display());
+    for it in sources(&library) {
+        println!("cargo:rerun-if-changed={}", it.display());
     }
 }

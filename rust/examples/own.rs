@@ -15,14 +15,14 @@ fn main() -> Result<(), NotCollected> {
     let words = [0.0, 0.0, 1.0, 1.0, 5.0, 5.0, 6.0, 6.0];
     let lines = Levels { words: &words, ring_ends: Some(&[2, 4]), ..Levels::default() };
     let rows = lines.encode(Kind::LineString, Dimension::Xy, &options);
-    for row in 0..rows.ends.len() {
-        match rows.row(row) {
+    for (row, status) in rows.rows().zip(&rows.statuses) {
+        match row {
             Some(encoding) => print("linestring", encoding),
-            None => println!("{}", rows.statuses[row]),
+            None => println!("{status}"),
         }
     }
 
-    let both = Rows::of((0..rows.ends.len()).map(|row| rows.row(row)));
+    let both = Rows::of(rows.rows());
     print("multilinestring", &both.column().collect(Kind::MultiLineString, Dimension::Xy, &options)?);
 
     // One polygon of two rings, the exterior of five coordinates and the interior of four.

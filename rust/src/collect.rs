@@ -1,8 +1,9 @@
 //! Rows of a column as one geometry.
 use crate::{raw, Column, Dimension, Kind, Options, Refused, Status};
-use std::error::Error;
-use std::fmt;
-use std::ptr;
+use alloc::vec;
+use alloc::vec::Vec;
+use core::fmt;
+use core::ptr;
 
 /// Why rows are no members of one geometry: the first row that can't be one, counted from 0.
 #[derive(Clone, Copy, Debug, Eq, PartialEq)]
@@ -19,6 +20,7 @@ pub enum NotCollected {
 
 impl NotCollected {
     /// What became of the row, or of all of them.
+    #[must_use]
     pub fn status(&self) -> Status {
         match self {
             NotCollected::TooManyRows => Status::TOO_MANY_ROWS,
@@ -39,7 +41,8 @@ impl fmt::Display for NotCollected {
     }
 }
 
-impl Error for NotCollected {}
+#[cfg(feature = "std")]
+impl std::error::Error for NotCollected {}
 
 impl Column<'_> {
     /// The one encoding under the options of the geometry of this kind and dimension whose members are the geometries
@@ -56,6 +59,10 @@ impl Column<'_> {
     /// assert_eq!(points[9..30], point);
     /// # Ok::<(), NotCollected>(())
     /// ```
+    ///
+    /// # Errors
+    ///
+    /// The first row that can't be a member, and why.
     ///
     /// # Panics
     ///

@@ -1,6 +1,9 @@
 //! Columns of encodings, as Arrow has them.
 use crate::{raw, Bounds, Dimension, Options, Status};
-use std::ptr;
+use alloc::vec;
+use alloc::vec::Vec;
+use core::ops::Range;
+use core::ptr;
 
 /// The offsets of a column: one more than there are rows, of 32 bits (binary) or 64 (large binary).
 #[derive(Clone, Copy, Debug)]
@@ -21,23 +24,63 @@ pub struct Column<'a> {
 /// The encodings of rows, one after another. A row without one ends where it begins, and its status says why.
 #[derive(Clone, Debug, Default, PartialEq)]
 pub struct Encodings {
+    /// The bytes of all encodings.
     pub data: Vec<u8>,
     /// Where each row ends in the data.
     pub ends: Vec<u64>,
+    /// What became of each row.
     pub statuses: Vec<Status>,
 }
 
 impl Encodings {
     /// The encoding of a row, where it has one.
+    ///
+    /// # Panics
+    ///
+    /// If there is no such row.
+    #[must_use]
     pub fn row(&self, row: usize) -> Option<&[u8]> {
         let begin = if row == 0 { 0 } else { self.ends[row - 1] };
         self.statuses[row].is_ok().then(|| &self.data[begin as usize..self.ends[row] as usize])
     }
+
+    /// The encoding of each row, where it has one.
+    #[must_use]
+    pub fn rows(&self) -> impl ExactSizeIterator<Item = Option<&[u8]>> {
+        (0..self.ends.len()).map(move |row| self.row(row))
+    }
 }
 
 /// The coordinates of rows, in levels as GeoArrow has them: a row has singles (points, line strings and polygons), a
-/// single has rings, a ring has coordinates. Each end counts from the front of the column. GeoArrow's offsets are a 0
-/// and then the ends.
+/// single has rings, a ring has coordinates. Each end counts from the front of the column.
+///
+/// Let `rows`, `singles` and `rings` be a 0 and then the ends of a level. Of rows of one kind, GeoArrow's offsets are
+/// these, from the outermost list on:
+///
+/// | rows | offsets |
+/// |---|---|
+/// | line strings, multi points | `rings[singles[rows[i]]]` |
+/// | polygons | `singles[rows[i]]`; `rings` |
+/// | multi line strings | `rows`; `rings` |
+/// | multi polygons | `rows`; `singles`; `rings` |
+///
+/// A row whose status isn't OK is null and has an empty list. Points have no lists: there a null row takes a coordinate
+/// too, of not-a-numbers.
+///
+/// ```
+/// use porchsorrel_wkb::{Dimension, Rows};
+///
+/// let mut line = vec![1, 2, 0, 0, 0, 2, 0, 0, 0];
+/// line.extend([1.0, 2.0, 3.0, 4.0].iter().flat_map(|word: &f64| word.to_le_bytes()));
+/// let rows = Rows::of([Some(&line), None, Some(&line)]);
+/// let found = rows.column().coordinates(Dimension::Xy);
+///
+/// let behind_zero = |ends: &[u64]| [&[0], ends].concat();
+/// let (rows, singles, rings) =
+///     (behind_zero(&found.row_ends), behind_zero(&found.single_ends), behind_zero(&found.ring_ends));
+/// let offsets: Vec<u64> = rows.iter().map(|row| rings[singles[*row as usize] as usize]).collect();
+/// assert_eq!(offsets, [0, 2, 2, 4]);
+/// ```
 #[derive(Clone, Debug, Default, PartialEq)]
 pub struct Coordinates {
     /// One coordinate after another.
@@ -48,6 +91,7 @@ pub struct Coordinates {
     pub single_ends: Vec<u64>,
     /// For each row, its end in singles.
     pub row_ends: Vec<u64>,
+    /// What became of each row.
     pub statuses: Vec<Status>,
 }
 
@@ -57,26 +101,82 @@ impl<'a> Column<'a> {
     }
 
     /// A column with offsets of 32 bits. There is a row less than there are offsets.
+    #[must_use]
     pub fn binary(data: &'a [u8], offsets: &'a [i32]) -> Self {
         Column::new(data, Offsets::Small(offsets))
     }
 
     /// A column with offsets of 64 bits.
+    #[must_use]
     pub fn large_binary(data: &'a [u8], offsets: &'a [i64]) -> Self {
         Column::new(data, Offsets::Large(offsets))
     }
 
-    /// The same column with a bit a row, from the lowest of a byte on, 0 for a null row. The first row's bit is `first`.
-    /// None where there are fewer bits than rows.
+    /// The same column with a bit a row, from the lowest of a byte on, 0 for a null row. The first row's bit is
+    /// `first`. None where there are fewer bits than rows.
+    #[must_use]
     pub fn with_validity(self, bits: &'a [u8], first: usize) -> Option<Self> {
         let needed = first.checked_add(self.rows())?;
         (needed <= bits.len().saturating_mul(8)).then_some(Column { validity: Some((bits, first)), ..self })
     }
 
+    /// How many rows there are.
+    #[must_use]
     pub fn rows(&self) -> usize {
         match self.offsets {
             Offsets::Small(offsets) => offsets.len().saturating_sub(1),
             Offsets::Large(offsets) => offsets.len().saturating_sub(1),
+        }
+    }
+
+    /// The rows of a range as a column. A row that begins before the end of an earlier one has bad offsets in columns
+    /// that have both.
+    ///
+    /// # Panics
+    ///
+    /// If there are fewer rows.
+    #[must_use]
+    pub fn slice(&self, rows: Range<usize>) -> Column<'a> {
+        assert!(rows.start <= rows.end && rows.end <= self.rows(), "rows {rows:?} of {}", self.rows());
+        let validity = self.validity.map(|(bits, first)| (bits, first + rows.start));
+        // There may be no offset at all, where there is no row.
+        let offsets = match self.offsets {
+            Offsets::Small(all) => Offsets::Small(all.get(rows.start..=rows.end).unwrap_or_default()),
+            Offsets::Large(all) => Offsets::Large(all.get(rows.start..=rows.end).unwrap_or_default()),
+        };
+        Column { data: self.data, offsets, validity }
+    }
+
+    /// The column as so many columns of about as many rows, one after another: threads can share them.
+    ///
+    /// ```
+    /// use porchsorrel_wkb::{Facts, Rows};
+    ///
+    /// let rows = Rows::of(vec![Some(b"\x01\x02\0\0\0\0\0\0\0"); 1000]);
+    /// let mut all = Facts::default();
+    /// std::thread::scope(|scope| {
+    ///     let each: Vec<_> = rows.column().split(4).map(|it| scope.spawn(move || it.facts())).collect();
+    ///     each.into_iter().for_each(|it| all.add(&it.join().unwrap()));
+    /// });
+    /// assert_eq!((all.rows, all.accepted), (1000, 1000));
+    /// ```
+    ///
+    /// # Panics
+    ///
+    /// If there should be none.
+    #[must_use]
+    pub fn split(&self, columns: usize) -> impl ExactSizeIterator<Item = Column<'a>> {
+        assert!(columns > 0, "rows have to be in a column");
+        let (whole, each, longer) = (*self, self.rows() / columns, self.rows() % columns);
+        let begin = move |column: usize| each * column + column.min(longer);
+        (0..columns).map(move |column| whole.slice(begin(column)..begin(column + 1)))
+    }
+
+    /// Whether no offset is below the one before it.
+    pub(crate) fn is_in_order(&self) -> bool {
+        match self.offsets {
+            Offsets::Small(offsets) => offsets.windows(2).all(|it| it[0] <= it[1]),
+            Offsets::Large(offsets) => offsets.windows(2).all(|it| it[0] <= it[1]),
         }
     }
 
@@ -99,6 +199,7 @@ impl<'a> Column<'a> {
     }
 
     /// What [`check`](crate::check) finds of each row.
+    #[must_use]
     pub fn check(&self) -> Vec<Status> {
         let mut statuses = vec![0; self.rows()];
         // SAFETY: the column has its slices' lengths, and there is a status for each row.
@@ -107,6 +208,7 @@ impl<'a> Column<'a> {
     }
 
     /// What [`bounds`](crate::bounds) finds of each row: those of no coordinate where it has none.
+    #[must_use]
     pub fn bounds(&self) -> (Vec<Bounds>, Vec<Status>) {
         let (mut bounds, mut statuses) = (vec![Bounds::EMPTY; self.rows()], vec![0; self.rows()]);
         // SAFETY: the column has its slices' lengths, and there are bounds and a status for each row.
@@ -115,6 +217,7 @@ impl<'a> Column<'a> {
     }
 
     /// What [`write`](crate::write) makes of each row.
+    #[must_use]
     pub fn write(&self, options: &Options) -> Encodings {
         // Rows that are read don't overlap, and an encoding is at most four bytes longer than its row.
         let mut data = vec![0; self.data.len() + 4 * self.rows()];
@@ -130,6 +233,7 @@ impl<'a> Column<'a> {
 
     /// The coordinates of each row. Words that the dimension doesn't name are left out, and a word that a geometry
     /// doesn't have is a not-a-number.
+    #[must_use]
     pub fn coordinates(&self, dimension: Dimension) -> Coordinates {
         let (mut row_ends, mut statuses) = (vec![0; self.rows()], vec![0; self.rows()]);
         let column = self.raw();
@@ -192,6 +296,8 @@ impl Rows {
         made
     }
 
+    /// The rows as a column.
+    #[must_use]
     pub fn column(&self) -> Column<'_> {
         Column { validity: Some((&self.validity, 0)), ..Column::large_binary(&self.data, &self.offsets) }
     }

@@ -1,7 +1,9 @@
 //! A geometry as the table of its parts.
 use crate::{check, raw, Dimension, Found, Kind, Order, Refused};
-use std::iter::FusedIterator;
-use std::slice::ChunksExact;
+use alloc::vec::Vec;
+use core::iter::FusedIterator;
+use core::ops::{Deref, Range};
+use core::slice::ChunksExact;
 
 /// A geometry, or a ring of a polygon. Its rings or members follow it in the table, each followed by its own.
 #[repr(C)]
@@ -21,35 +23,50 @@ pub struct Part {
 }
 
 impl Part {
+    /// What it is.
+    #[must_use]
     pub fn kind(&self) -> Kind {
         Kind::of(self.kind)
     }
 
+    /// Its own dimension, which members of a collection may differ in.
+    #[must_use]
     pub fn dimension(&self) -> Dimension {
         Dimension::of(self.dimension)
     }
 
     /// The order of its own numbers.
+    #[must_use]
     pub fn order(&self) -> Order {
         Order::of(self.order)
     }
 
     /// Its own SRID.
+    #[must_use]
     pub fn srid(&self) -> Option<u32> {
         (self.has_srid == 1).then_some(self.srid)
     }
 
     /// How many coordinates, rings or members it has. A point has one coordinate, an empty point one of not-a-numbers.
+    #[must_use]
     pub fn count(&self) -> usize {
         self.count as usize
     }
 
+    /// Where its own coordinates, rings or members begin in the input.
+    #[must_use]
+    pub fn offset(&self) -> usize {
+        self.offset as usize
+    }
+
     /// Its own bytes in the input. Those of a geometry are a well-formed input by themselves.
-    pub fn bytes(&self) -> std::ops::Range<usize> {
+    #[must_use]
+    pub fn bytes(&self) -> Range<usize> {
         self.begin as usize..self.end as usize
     }
 
     /// The index in the table after those of its own rings and members.
+    #[must_use]
     pub fn next(&self) -> usize {
         self.next as usize
     }
@@ -84,22 +101,32 @@ impl Part {
 /// assert_eq!(geometry.words(whole).collect::<Vec<_>>(), [1.0, 2.0]);
 /// # Ok::<(), porchsorrel_wkb::Refused>(())
 /// ```
-#[derive(Debug, Default)]
+#[derive(Clone, Debug, Default)]
 pub struct Reader {
     table: Vec<Part>,
 }
 
 impl Reader {
     /// The geometry at the front of an input. The bytes after it are not looked at.
-    pub fn read<'a>(&'a mut self, bytes: &'a [u8]) -> Result<Geometry<'a>, Refused> {
-        let found = check(bytes)?;
+    ///
+    /// # Errors
+    ///
+    /// As [`check`] refuses the input.
+    pub fn read<'b>(&mut self, bytes: &'b [u8]) -> Result<Geometry<'_, 'b>, Refused> {
         self.table.clear();
+        let found = check(bytes)?;
         if found.parts == 1 && found.kind.has_coordinates() {
             self.table.push(Part::alone(&found));
         } else {
             self.fill(bytes, found.parts);
         }
         Ok(Geometry { bytes, parts: &self.table })
+    }
+
+    /// The table of the parts of the input that was read last, or none if that was refused.
+    #[must_use]
+    pub fn parts(&self) -> &[Part] {
+        &self.table
     }
 
     fn fill(&mut self, bytes: &[u8], many: usize) {
@@ -115,16 +142,31 @@ impl Reader {
 }
 
 /// A geometry of an input, and all its parts in preorder: itself first, and then its rings or members, each followed by
-/// its own.
+/// its own. The table of the parts lives as long as the reader's loan `'t`, the words as long as the input `'b`.
 #[derive(Clone, Copy, Debug)]
-pub struct Geometry<'a> {
-    bytes: &'a [u8],
-    parts: &'a [Part],
+pub struct Geometry<'t, 'b> {
+    bytes: &'b [u8],
+    parts: &'t [Part],
 }
 
-impl<'a> Geometry<'a> {
-    pub fn parts(&self) -> &'a [Part] {
+impl<'t, 'b> Geometry<'t, 'b> {
+    /// The table of all parts in preorder.
+    #[must_use]
+    pub fn parts(&self) -> &'t [Part] {
         self.parts
+    }
+
+    /// The geometry itself, as one of its parts.
+    #[must_use]
+    pub fn whole(&self) -> View<'t, 'b> {
+        View { geometry: *self, index: 0 }
+    }
+
+    /// All parts in preorder, each with what belongs to it.
+    #[must_use]
+    pub fn views(&self) -> impl ExactSizeIterator<Item = View<'t, 'b>> {
+        let geometry = *self;
+        (0..self.parts.len()).map(move |index| View { geometry, index })
     }
 
     /// The words of the coordinates of a ring, a point or a line string, one coordinate after another. Other parts have
@@ -133,7 +175,8 @@ impl<'a> Geometry<'a> {
     /// # Panics
     ///
     /// If the part is of another geometry, and this one has no bytes at its place.
-    pub fn words(&self, part: &Part) -> Words<'a> {
+    #[must_use]
+    pub fn words(&self, part: &Part) -> Words<'b> {
         let count = if part.kind().has_coordinates() { part.count() * part.dimension().width() } else { 0 };
         let begin = part.offset as usize;
         let bytes = &self.bytes[begin..begin + 8 * count];
@@ -141,26 +184,142 @@ impl<'a> Geometry<'a> {
     }
 }
 
+/// A part of a geometry, with its words and its rings or members. What it is by itself says its [`Part`], which it
+/// dereferences to.
+///
+/// ```
+/// use porchsorrel_wkb::{Kind, Reader};
+///
+/// // A multi point of (1, 2) and (3, 4).
+/// let mut input = vec![1, 4, 0, 0, 0, 2, 0, 0, 0];
+/// for words in [[1.0_f64, 2.0], [3.0, 4.0]] {
+///     input.extend([1, 1, 0, 0, 0]);
+///     input.extend(words.iter().flat_map(|it| it.to_le_bytes()));
+/// }
+/// let mut reader = Reader::default();
+/// let points = reader.read(&input)?.whole();
+/// assert_eq!((points.kind(), points.members().len()), (Kind::MultiPoint, 2));
+/// let x: Vec<f64> = points.members().filter_map(|it| it.words().next()).collect();
+/// assert_eq!(x, [1.0, 3.0]);
+/// # Ok::<(), porchsorrel_wkb::Refused>(())
+/// ```
+#[derive(Clone, Copy, Debug)]
+pub struct View<'t, 'b> {
+    geometry: Geometry<'t, 'b>,
+    index: usize,
+}
+
+impl<'t, 'b> View<'t, 'b> {
+    /// The part's entry in the table.
+    #[must_use]
+    pub fn part(&self) -> &'t Part {
+        &self.geometry.parts[self.index]
+    }
+
+    /// The words of its coordinates, as [`Geometry::words`] has them.
+    #[must_use]
+    pub fn words(&self) -> Words<'b> {
+        self.geometry.words(self.part())
+    }
+
+    /// Its rings or members. A point and a line string have none.
+    #[must_use]
+    pub fn members(&self) -> Members<'t, 'b> {
+        let left = if self.kind().has_coordinates() { 0 } else { self.count() };
+        Members { next: View { index: self.index + 1, ..*self }, left }
+    }
+}
+
+impl Deref for View<'_, '_> {
+    type Target = Part;
+
+    fn deref(&self) -> &Part {
+        self.part()
+    }
+}
+
+/// The rings or members of a part.
+#[derive(Clone, Debug)]
+pub struct Members<'t, 'b> {
+    next: View<'t, 'b>,
+    left: usize,
+}
+
+impl<'t, 'b> Iterator for Members<'t, 'b> {
+    type Item = View<'t, 'b>;
+
+    #[inline]
+    fn next(&mut self) -> Option<View<'t, 'b>> {
+        self.left = self.left.checked_sub(1)?;
+        let found = self.next;
+        self.next.index = found.part().next();
+        Some(found)
+    }
+
+    fn size_hint(&self) -> (usize, Option<usize>) {
+        (self.left, Some(self.left))
+    }
+}
+
+impl ExactSizeIterator for Members<'_, '_> {}
+impl FusedIterator for Members<'_, '_> {}
+
 /// The words of a part.
 #[derive(Clone, Debug)]
-pub struct Words<'a> {
-    bytes: ChunksExact<'a, u8>,
+pub struct Words<'b> {
+    bytes: ChunksExact<'b, u8>,
     is_big: bool,
+}
+
+/// The word in eight bytes.
+#[inline]
+fn word(is_big: bool, bytes: &[u8]) -> f64 {
+    let mut word = [0; 8];
+    word.copy_from_slice(bytes);
+    f64::from_bits(if is_big { u64::from_be_bytes(word) } else { u64::from_le_bytes(word) })
 }
 
 impl Iterator for Words<'_> {
     type Item = f64;
 
+    #[inline]
     fn next(&mut self) -> Option<f64> {
-        let bytes = <[u8; 8]>::try_from(self.bytes.next()?).ok()?;
-        let word = if self.is_big { u64::from_be_bytes(bytes) } else { u64::from_le_bytes(bytes) };
-        Some(f64::from_bits(word))
+        self.bytes.next().map(|it| word(self.is_big, it))
+    }
+
+    #[inline]
+    fn nth(&mut self, n: usize) -> Option<f64> {
+        self.bytes.nth(n).map(|it| word(self.is_big, it))
     }
 
     fn size_hint(&self) -> (usize, Option<usize>) {
         self.bytes.size_hint()
     }
+
+    #[inline]
+    fn fold<B, F: FnMut(B, f64) -> B>(self, first: B, mut call: F) -> B {
+        let is_big = self.is_big;
+        self.bytes.fold(first, |sum, it| call(sum, word(is_big, it)))
+    }
 }
 
-impl ExactSizeIterator for Words<'_> {}
+impl DoubleEndedIterator for Words<'_> {
+    #[inline]
+    fn next_back(&mut self) -> Option<f64> {
+        self.bytes.next_back().map(|it| word(self.is_big, it))
+    }
+
+    #[inline]
+    fn nth_back(&mut self, n: usize) -> Option<f64> {
+        self.bytes.nth_back(n).map(|it| word(self.is_big, it))
+    }
+}
+
+impl ExactSizeIterator for Words<'_> {
+    #[inline]
+    fn len(&self) -> usize {
+        self.bytes.len()
+    }
+}
+
 impl FusedIterator for Words<'_> {}

@@ -1,9 +1,12 @@
 //! Encodings of one's own coordinates.
 use crate::{raw, Dimension, Encodings, Kind, Options, Status};
-use std::ptr;
+use alloc::vec;
+use alloc::vec::Vec;
+use core::ptr;
 
 /// Rows of one kind and dimension, as [`Coordinates`](crate::Coordinates) has them. Where the ends of a level are left
-/// out, item i has item i of the next level: points need no ends.
+/// out, item i has item i of the next level: points need no ends, line strings `ring_ends`, polygons `single_ends` too,
+/// and multi geometries `row_ends` besides what their members need.
 ///
 /// ```
 /// use porchsorrel_wkb::{check, Dimension, Kind, Levels, Options};
@@ -38,6 +41,7 @@ impl Levels<'_> {
     /// # Panics
     ///
     /// If the kind is a ring or a collection, which rows can't have.
+    #[must_use]
     pub fn encode(&self, kind: Kind, dimension: Dimension, options: &Options) -> Encodings {
         assert!(!matches!(kind, Kind::Ring | Kind::GeometryCollection), "rows of a {kind:?}");
         let rings = self.ring_ends.map_or(self.words.len() / dimension.width(), <[u64]>::len);
@@ -83,6 +87,7 @@ impl Levels<'_> {
 /// # Panics
 ///
 /// If there are more or fewer words than the dimension has.
+#[must_use]
 pub fn encode_point(words: &[f64], dimension: Dimension, options: &Options) -> Vec<u8> {
     assert_eq!(words.len(), dimension.width(), "the words of a point in {dimension:?}");
     Levels { words, ..Levels::default() }.encode(Kind::Point, dimension, options).data

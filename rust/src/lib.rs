@@ -1,24 +1,14 @@
-//! Reads and writes Well-Known Binary (WKB) and EWKB, by the C library of Porchsorrel, whose calls are proved correct
-//! for every input. What this crate adds to them is tested, and not proved: it passes slices, and makes results.
-//!
-//! An input may hold any bytes; those after its geometry are not looked at. No call copies it.
-//!
-//! ```
-//! use porchsorrel_wkb::{check, write, Form, Kind, Options, Order};
-//!
-//! let point = [1, 1, 0, 0, 0, 0, 0, 0, 0, 0, 0, 0xf0, 0x3f, 0, 0, 0, 0, 0, 0, 0, 0x40];
-//! let found = check(&point)?;
-//! assert_eq!((found.kind, found.size, found.srid), (Kind::Point, 21, None));
-//!
-//! let options = Options { order: Order::BigEndian, form: Form::EwkbWithSrid(4326) };
-//! assert_eq!(write(&point, &options)?[..9], [0, 0x20, 0, 0, 1, 0, 0, 0x10, 0xe6]);
-//!
-//! let refused = check(&point[..20]).unwrap_err();
-//! assert_eq!(refused.to_string(), "the input ends inside a point, in part 0 at byte 0, which would end at 21 of 20");
-//! # Ok::<(), porchsorrel_wkb::Refused>(())
-//! ```
+#![doc = include_str!("../README.md")]
+#![no_std]
+#![deny(missing_docs, unsafe_op_in_unsafe_fn)]
+
+extern crate alloc;
+#[cfg(feature = "std")]
+extern crate std;
+
 mod collect;
 mod column;
+mod facts;
 mod geometry;
 mod levels;
 mod raw;
@@ -27,10 +17,14 @@ mod types;
 
 pub use collect::NotCollected;
 pub use column::{Column, Coordinates, Encodings, Rows};
-pub use geometry::{Geometry, Part, Reader, Words};
+pub use facts::{Facts, FoundRows};
+pub use geometry::{Geometry, Members, Part, Reader, View, Words};
 pub use levels::{encode_point, Levels};
 pub use status::{Refused, Status};
 pub use types::{Bounds, Dimension, Form, Kind, Options, Order, Range};
+
+use alloc::vec::Vec;
+use core::fmt;
 
 /// The geometry at the front of an input.
 #[derive(Clone, Copy, Debug, Eq, PartialEq)]
@@ -47,7 +41,9 @@ pub struct Found {
     pub count: usize,
     /// Its own SRID.
     pub srid: Option<u32>,
+    /// What it is.
     pub kind: Kind,
+    /// Its own dimension, which members of a collection may differ in.
     pub dimension: Dimension,
     /// The order of its own numbers.
     pub order: Order,
@@ -70,6 +66,7 @@ impl Found {
 }
 
 /// The version of the C library: a million times the major one, a thousand times the minor one, and the patch.
+#[must_use]
 pub fn version() -> u32 {
     // SAFETY: the call takes nothing.
     unsafe { raw::wkb_version() }
@@ -77,6 +74,10 @@ pub fn version() -> u32 {
 
 /// Whether a geometry of the grammar is at the front of the input, with at most 128 collections inside one another.
 /// Nothing is allocated.
+///
+/// # Errors
+///
+/// The first fault of the input.
 pub fn check(bytes: &[u8]) -> Result<Found, Refused> {
     let (mut found, mut fault) = (raw::Found::default(), raw::Fault::default());
     // SAFETY: the input is `bytes`.
@@ -89,6 +90,10 @@ pub fn check(bytes: &[u8]) -> Result<Found, Refused> {
 }
 
 /// The bounds of the input's geometry. Nothing is allocated.
+///
+/// # Errors
+///
+/// As [`check`] refuses the input.
 pub fn bounds(bytes: &[u8]) -> Result<Bounds, Refused> {
     let (mut bounds, mut fault) = (Bounds::EMPTY, raw::Fault::default());
     // SAFETY: the input is `bytes`.
@@ -101,6 +106,10 @@ pub fn bounds(bytes: &[u8]) -> Result<Bounds, Refused> {
 }
 
 /// The one encoding of the input's geometry under the options.
+///
+/// # Errors
+///
+/// As [`check`] refuses the input.
 pub fn write(bytes: &[u8], options: &Options) -> Result<Vec<u8>, Refused> {
     let mut out = Vec::new();
     write_into(bytes, options, &mut out)?;
@@ -108,6 +117,10 @@ pub fn write(bytes: &[u8], options: &Options) -> Result<Vec<u8>, Refused> {
 }
 
 /// The same in a vector that keeps its memory. Of a refused input nothing is left in it.
+///
+/// # Errors
+///
+/// As [`check`] refuses the input.
 pub fn write_into(bytes: &[u8], options: &Options, out: &mut Vec<u8>) -> Result<(), Refused> {
     out.clear();
     // An encoding is at most four bytes longer than its input.
@@ -132,12 +145,14 @@ pub fn write_into(bytes: &[u8], options: &Options, out: &mut Vec<u8>) -> Result<
 /// Which input of [`same`] is refused, and why.
 #[derive(Clone, Copy, Debug, Eq, PartialEq)]
 pub enum RefusedInput {
+    /// The first one is refused, whatever the second is.
     First(Refused),
+    /// The first one is a geometry, and the second one is refused.
     Second(Refused),
 }
 
-impl std::fmt::Display for RefusedInput {
-    fn fmt(&self, f: &mut std::fmt::Formatter<'_>) -> std::fmt::Result {
+impl fmt::Display for RefusedInput {
+    fn fmt(&self, f: &mut fmt::Formatter<'_>) -> fmt::Result {
         match self {
             RefusedInput::First(why) => write!(f, "the first input: {why}"),
             RefusedInput::Second(why) => write!(f, "the second input: {why}"),
@@ -145,10 +160,15 @@ impl std::fmt::Display for RefusedInput {
     }
 }
 
+#[cfg(feature = "std")]
 impl std::error::Error for RefusedInput {}
 
 /// Whether both inputs begin with geometries of one value: the same kinds, dimensions and coordinates, bit for bit,
 /// whatever their SRIDs and byte orders are. Nothing is allocated.
+///
+/// # Errors
+///
+/// As [`check`] refuses the first input, or else the second.
 pub fn same(a: &[u8], b: &[u8]) -> Result<bool, RefusedInput> {
     let (mut equal, mut which, mut fault) = (0, 0, raw::Fault::default());
     let (first, second) = (a.as_ptr().cast(), b.as_ptr().cast());

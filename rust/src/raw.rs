@@ -1,10 +1,9 @@
 //! The calls and structs of `c/wkb.h`, which says what they do.
-use std::ffi::c_void;
-use std::mem::size_of;
-use std::os::raw::c_char;
+use core::ffi::c_void;
+use core::mem::size_of;
 
 #[repr(C)]
-#[derive(Default)]
+#[derive(Clone, Debug, Default)]
 pub struct Found {
     pub size: u64,
     pub parts: u64,
@@ -84,10 +83,26 @@ const _: () = assert!(size_of::<Found>() == 64 && size_of::<Fault>() == 40 && si
 const _: () = assert!(size_of::<crate::Part>() == 64 && size_of::<crate::Bounds>() == 96);
 const _: () = assert!(size_of::<Column>() == 56 && size_of::<Coordinates>() == 80 && size_of::<Levels>() == 80);
 
+/// A text of the library.
+///
+/// # Safety
+///
+/// There is a string in ASCII, which ends with a 0 and never changes.
+pub unsafe fn text(front: *const u8) -> &'static str {
+    let mut len = 0;
+    // SAFETY: no byte before this one is 0, so the string goes on.
+    while unsafe { *front.add(len) } != 0 {
+        len += 1;
+    }
+    // SAFETY: so many bytes are before the 0.
+    core::str::from_utf8(unsafe { core::slice::from_raw_parts(front, len) }).unwrap_or_default()
+}
+
 extern "C" {
     pub fn wkb_version() -> u32;
-    pub fn wkb_status_text(status: u32) -> *const c_char;
-    pub fn wkb_fault_text(fault: *const Fault, out: *mut c_char, room: usize) -> usize;
+    pub fn wkb_status_text(status: u32) -> *const u8;
+    pub fn wkb_kind_text(kind: u32) -> *const u8;
+    pub fn wkb_fault_text(fault: *const Fault, out: *mut u8, room: usize) -> usize;
     pub fn wkb_check(buf: *const c_void, len: usize, found: *mut Found, fault: *mut Fault) -> u32;
     pub fn wkb_bounds(buf: *const c_void, len: usize, bounds: *mut crate::Bounds, fault: *mut Fault) -> u32;
     pub fn wkb_write(
@@ -117,6 +132,7 @@ extern "C" {
         fault: *mut Fault,
     ) -> u32;
     pub fn wkb_column_check(column: *const Column, statuses: *mut u8);
+    pub fn wkb_column_found(column: *const Column, found: *mut Found, statuses: *mut u8);
     pub fn wkb_column_bounds(column: *const Column, bounds: *mut crate::Bounds, statuses: *mut u8);
     pub fn wkb_column_write(
         column: *const Column,

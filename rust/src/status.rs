@@ -1,8 +1,7 @@
 //! Why an input is refused, and what became of the rows of a column.
 use crate::raw;
-use std::error::Error;
-use std::ffi::CStr;
-use std::fmt;
+use alloc::vec::Vec;
+use core::fmt;
 
 /// What became of an input or of a row. The constants are those of this version; later ones add more inside the
 /// classes, so ask for the class.
@@ -11,6 +10,7 @@ use std::fmt;
 pub struct Status(u8);
 
 impl Status {
+    /// The input is a geometry of the grammar, or the row has its result.
     pub const OK: Status = Status(0);
     pub(crate) const NO_ROOM: Status = Status(2);
     /// There are 2^32 rows or more, and a count has four bytes.
@@ -22,14 +22,24 @@ impl Status {
     pub const BAD_OFFSETS: Status = Status(17);
     /// The row's levels don't fit its kind or each other.
     pub const BAD_LEVELS: Status = Status(18);
+    /// The input ends inside a header or before a count.
     pub const SHORT_HEADER: Status = Status(32);
+    /// An order byte is neither 0 nor 1.
     pub const INVALID_BYTE_ORDER: Status = Status(33);
+    /// A geometry type code is unknown.
     pub const CODE_OUT_OF_RANGE: Status = Status(34);
+    /// A member has another kind or dimension than its multi geometry takes, or a point of a multi point has an
+    /// SRID.
     pub const INCORRECT_TYPE: Status = Status(35);
+    /// A collection is inside 128 others.
     pub const NESTING_DEPTH_EXCEEDED: Status = Status(36);
+    /// The input ends inside a point.
     pub const SHORT_POINT: Status = Status(48);
+    /// The input ends inside a line string.
     pub const SHORT_LINE_STRING: Status = Status(49);
+    /// The input ends inside a multi point.
     pub const SHORT_MULTI_POINT: Status = Status(50);
+    /// The input ends inside a ring.
     pub const SHORT_LINEAR_RING: Status = Status(51);
 
     /// The status with a number that the library has returned: all fit a byte.
@@ -42,29 +52,39 @@ impl Status {
     }
 
     /// The number of `wkb_status` in `c/wkb.h`.
+    #[must_use]
     pub fn number(self) -> u8 {
         self.0
     }
 
+    /// Whether the input is a geometry, or the row has its result.
+    #[must_use]
     pub fn is_ok(self) -> bool {
         self == Status::OK
     }
 
     /// Whether the input is refused.
+    #[must_use]
     pub fn is_refusal(self) -> bool {
         self.0 >= 32
     }
 
-    /// Whether the input is refused because it ends too early.
+    /// Whether the input ends before its geometry does, so that bytes are missing.
+    #[must_use]
     pub fn is_short(self) -> bool {
+        self == Status::SHORT_HEADER || self.tells_ends()
+    }
+
+    /// Whether a fault with this status says how many bytes its part needs.
+    fn tells_ends(self) -> bool {
         self.0 >= 48
     }
 
     /// The text of the status, in one line.
+    #[must_use]
     pub fn text(self) -> &'static str {
         // SAFETY: the library returns a static string in ASCII for every number.
-        let text = unsafe { CStr::from_ptr(raw::wkb_status_text(self.0.into())) };
-        text.to_str().unwrap_or_default()
+        unsafe { raw::text(raw::wkb_status_text(self.0.into())) }
     }
 }
 
@@ -76,20 +96,21 @@ impl fmt::Debug for Status {
 
 impl fmt::Display for Status {
     fn fmt(&self, f: &mut fmt::Formatter<'_>) -> fmt::Result {
-        f.write_str(self.text())
+        f.pad(self.text())
     }
 }
 
 /// The first fault of an input, and where it is.
 #[derive(Clone, Copy, Debug, Eq, PartialEq)]
 pub struct Refused {
+    /// What is wrong.
     pub status: Status,
     /// How many parts come before the refused one, in preorder: 0 is the whole geometry.
     pub part: u64,
     /// Where the refused part begins, in bytes from the front of the input.
     pub offset: usize,
-    /// Of an input that ends too early: where the part would end and where the input ends, in bytes from the part's
-    /// first one.
+    /// Where the input ends before the part does: how many bytes the part needs, and how many there are from its first
+    /// one on. Of an input that ends in a header or before a count there is no such number.
     pub ends: Option<(u64, u64)>,
     /// Of `CODE_OUT_OF_RANGE`: all bits of the code.
     pub code: Option<u32>,
@@ -102,7 +123,7 @@ impl Refused {
             status,
             part: fault.part,
             offset: fault.offset as usize,
-            ends: status.is_short().then_some((fault.end, fault.len)),
+            ends: status.tells_ends().then_some((fault.end, fault.len)),
             code: (status == Status::CODE_OUT_OF_RANGE).then_some(fault.code),
         }
     }
@@ -118,9 +139,10 @@ impl fmt::Display for Refused {
     fn fmt(&self, f: &mut fmt::Formatter<'_>) -> fmt::Result {
         let mut out = [0u8; raw::FAULT_TEXT_ROOM];
         // SAFETY: `out` has so much room.
-        let len = unsafe { raw::wkb_fault_text(&self.fault(), out.as_mut_ptr().cast(), out.len()) };
-        f.write_str(out.get(..len).and_then(|text| std::str::from_utf8(text).ok()).unwrap_or_default())
+        let len = unsafe { raw::wkb_fault_text(&self.fault(), out.as_mut_ptr(), out.len()) };
+        f.write_str(out.get(..len).and_then(|text| core::str::from_utf8(text).ok()).unwrap_or_default())
     }
 }
 
-impl Error for Refused {}
+#[cfg(feature = "std")]
+impl std::error::Error for Refused {}

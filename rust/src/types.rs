@@ -1,17 +1,26 @@
 //! What geometries are made of: kinds, dimensions, orders, and what is written besides the geometry itself.
 use crate::raw;
+use core::fmt;
 
 /// The kind of a geometry, or a ring of a polygon, by its number in the codes.
-#[derive(Clone, Copy, Debug, Eq, Hash, PartialEq)]
+#[derive(Clone, Copy, Debug, Eq, Hash, Ord, PartialEq, PartialOrd)]
 #[repr(u32)]
 pub enum Kind {
+    /// A ring of a polygon, which is no geometry by itself.
     Ring = 0,
+    /// One coordinate, or an empty point.
     Point = 1,
+    /// A list of coordinates.
     LineString = 2,
+    /// A list of rings, the first of which is the exterior.
     Polygon = 3,
+    /// A list of points.
     MultiPoint = 4,
+    /// A list of line strings.
     MultiLineString = 5,
+    /// A list of polygons.
     MultiPolygon = 6,
+    /// A list of geometries of any kind and dimension.
     GeometryCollection = 7,
 }
 
@@ -33,18 +42,36 @@ impl Kind {
     }
 
     /// Whether a part of this kind has coordinates of its own: a ring, a point and a line string has.
+    #[must_use]
     pub fn has_coordinates(self) -> bool {
         matches!(self, Kind::Ring | Kind::Point | Kind::LineString)
+    }
+
+    /// The name in lower case, such as `linestring`.
+    #[must_use]
+    pub fn text(self) -> &'static str {
+        // SAFETY: the library returns a static string in ASCII for every number.
+        unsafe { raw::text(raw::wkb_kind_text(self as u32)) }
+    }
+}
+
+impl fmt::Display for Kind {
+    fn fmt(&self, f: &mut fmt::Formatter<'_>) -> fmt::Result {
+        f.pad(self.text())
     }
 }
 
 /// The words of a coordinate, by the thousands of ISO codes.
-#[derive(Clone, Copy, Debug, Eq, Hash, PartialEq)]
+#[derive(Clone, Copy, Debug, Eq, Hash, Ord, PartialEq, PartialOrd)]
 #[repr(u32)]
 pub enum Dimension {
+    /// Two words: x and y.
     Xy = 0,
+    /// Three words: x, y and z.
     Xyz = 1,
+    /// Three words: x, y and m.
     Xym = 2,
+    /// Four words: x, y, z and m.
     Xyzm = 3,
 }
 
@@ -56,6 +83,7 @@ impl Dimension {
     }
 
     /// How many words a coordinate has: 2, 3 or 4.
+    #[must_use]
     pub fn width(self) -> usize {
         match self {
             Dimension::Xy => 2,
@@ -69,7 +97,9 @@ impl Dimension {
 #[derive(Clone, Copy, Debug, Eq, Hash, PartialEq)]
 #[repr(u32)]
 pub enum Order {
+    /// The highest byte first, XDR.
     BigEndian = 0,
+    /// The lowest byte first, NDR.
     LittleEndian = 1,
 }
 
@@ -96,7 +126,9 @@ pub enum Form {
 /// What is written besides the geometry itself. The default is ISO codes in little endian.
 #[derive(Clone, Copy, Debug, Eq, Hash, PartialEq)]
 pub struct Options {
+    /// The byte order of all numbers.
     pub order: Order,
+    /// The codes, and which SRID.
     pub form: Form,
 }
 
@@ -133,19 +165,42 @@ pub struct Range {
 impl Range {
     /// The range of no number.
     pub const EMPTY: Range = Range { least: f64::INFINITY, greatest: f64::NEG_INFINITY, count: 0 };
+
+    fn add(&mut self, other: &Range) {
+        // No end is a not-a-number, and of the others -0 is below +0 in this order.
+        if other.least.total_cmp(&self.least).is_lt() {
+            self.least = other.least;
+        }
+        if other.greatest.total_cmp(&self.greatest).is_gt() {
+            self.greatest = other.greatest;
+        }
+        self.count += other.count;
+    }
 }
 
 /// The bounds of a geometry, over all its rings: z of coordinates that have a z, m of those that have an m.
 #[repr(C)]
 #[derive(Clone, Copy, Debug, PartialEq)]
 pub struct Bounds {
+    /// Of every coordinate's first word.
     pub x: Range,
+    /// Of every coordinate's second word.
     pub y: Range,
+    /// Of the coordinates that have a z.
     pub z: Range,
+    /// Of the coordinates that have an m.
     pub m: Range,
 }
 
 impl Bounds {
     /// The bounds of a geometry without coordinates.
     pub const EMPTY: Bounds = Bounds { x: Range::EMPTY, y: Range::EMPTY, z: Range::EMPTY, m: Range::EMPTY };
+
+    /// Widens the bounds by others, so that they are those of both geometries together.
+    pub fn add(&mut self, other: &Bounds) {
+        self.x.add(&other.x);
+        self.y.add(&other.y);
+        self.z.add(&other.z);
+        self.m.add(&other.m);
+    }
 }

@@ -35,6 +35,28 @@ fn nested(depth: usize) -> Vec<u8> {
     made
 }
 
+/// Geometries of each kind in both byte orders, with each sort of header, and inside one another. P stands for two
+/// words, W for one.
+const WHOLE: [&str; 17] = [
+    "01 01000000 P",
+    "00 00000001 P",
+    "01 01000020 e6100000 P",
+    "00 a0000001 000010e6 P W",
+    "01 02000000 02000000 P P",
+    "00 60000bba 000010e6 00000001 P P",
+    "01 03000000 02000000 01000000 P 02000000 P P",
+    "00 00000003 00000002 00000000 00000001 P",
+    "01 04000000 02000000 01 01000000 P 00 00000001 P",
+    "00 00000004 00000001 01 01000000 P",
+    "01 05000000 02000000 00 00000002 00000000 01 02000000 01000000 P",
+    "00 20000005 000010e6 00000001 00 20000002 000010e6 00000001 P",
+    "01 06000000 01000000 00 00000003 00000001 00000001 P",
+    "00 00000006 00000002 01 03000000 00000000 01 03000000 01000000 01000000 P",
+    "01 07000000 00000000",
+    "01 07000000 02000000 00 00000007 00000001 01 05000000 01000000 01 02000000 01000000 P 01 e9030000 P W",
+    "00 00000007 00000002 00 00000006 00000001 00 00000003 00000001 00000001 P 01 04000000 01000000 00 00000001 P",
+];
+
 fn status_of(hex: &str) -> Status {
     check(&bytes(hex)).unwrap_err().status
 }
@@ -64,7 +86,8 @@ fn refused() {
 
     let refused = check(&bytes("01 08000000")).unwrap_err();
     assert_eq!((refused.code, refused.ends), (Some(8), None));
-    assert_eq!(refused.to_string(), "unknown geometry type code 8, in part 0 at byte 0");
+    let curve = "unknown geometry type code 8, a circular string, which this library does not read, at byte 0 (part 0)";
+    assert_eq!(refused.to_string(), curve);
     let refused = check(&polygon()[..113]).unwrap_err();
     assert_eq!((refused.part, refused.offset, refused.ends, refused.code), (2, 97, Some((84, 16)), None));
 }
@@ -73,17 +96,25 @@ fn refused() {
 fn classes() {
     assert!(Status::OK.is_ok() && !Status::OK.is_refusal());
     assert!(!Status::BAD_LEVELS.is_refusal() && Status::SHORT_HEADER.is_refusal());
-    assert!(!Status::NESTING_DEPTH_EXCEEDED.is_short() && Status::SHORT_POINT.is_short());
+    let short = [Status::SHORT_HEADER, Status::SHORT_POINT, Status::SHORT_LINE_STRING, Status::SHORT_MULTI_POINT];
+    assert!(short.iter().all(|it| it.is_short()) && Status::SHORT_LINEAR_RING.is_short());
+    assert!(!Status::INVALID_BYTE_ORDER.is_short() && !Status::CODE_OUT_OF_RANGE.is_short());
+    assert!(!Status::INCORRECT_TYPE.is_short() && !Status::NESTING_DEPTH_EXCEEDED.is_short());
+    assert!(!Status::OK.is_short() && !Status::NULL_ROW.is_short() && !Status::BAD_LEVELS.is_short());
     assert_eq!((Status::NULL_ROW.number(), Status::NULL_ROW.text()), (16, "the row is null"));
     assert_eq!(version(), 1_000_000);
 }
 
 #[test]
 fn every_cut_is_refused() {
-    for whole in [point(), srid_point(), polygon(), collection(), nested(128)] {
+    let each_kind = WHOLE.map(|it| bytes(&it.replace('P', ONE_TWO).replace('W', "0000000000000840")));
+    for whole in [point(), srid_point(), polygon(), collection(), nested(128)].into_iter().chain(each_kind) {
+        assert_eq!(check(&whole).map(|found| found.size), Ok(whole.len()));
         for len in 0..whole.len() {
             let refused = check(&whole[..len]).unwrap_err();
-            assert!(refused.status.is_refusal(), "{len} bytes: {refused}");
+            assert!(refused.status.is_refusal() && refused.status.is_short(), "{len} bytes: {refused}");
+            let lacks = refused.ends.map_or(true, |(needed, there)| needed > there);
+            assert_eq!((lacks, refused.ends.is_none()), (true, refused.status == Status::SHORT_HEADER));
             assert_eq!(bounds(&whole[..len]), Err(refused));
             assert_eq!(write(&whole[..len], &Options::default()), Err(refused));
             assert_eq!(Reader::default().read(&whole[..len]).err(), Some(refused));
@@ -121,22 +152,34 @@ fn same_values() {
         bytes("01 01000000 0000000000000000 0000000000000080")
     });
     assert_eq!(same(&zero, &minus_zero), Ok(false));
+    let of_first = same(&[2], &point()).unwrap_err().to_string();
+    let of_second = same(&point(), &[2]).unwrap_err().to_string();
+    assert!(of_first.starts_with("the first input: a byte order is neither 0 nor 1"), "{of_first}");
+    assert!(of_second.starts_with("the second input: a byte order is neither 0 nor 1"), "{of_second}");
+}
+
+fn three(parts: &[Part]) -> (&Part, &Part, &Part) {
+    match parts {
+        [a, b, c] => (a, b, c),
+        _ => panic!("three parts"),
+    }
 }
 
 #[test]
 fn parts() {
     let (input, mut reader) = (polygon(), Reader::default());
     let geometry = reader.read(&input).unwrap();
-    let [whole, exterior, interior] = geometry.parts() else { panic!("three parts") };
+    let (whole, exterior, interior) = three(geometry.parts());
     assert_eq!((whole.kind(), whole.count(), whole.next(), whole.srid()), (Kind::Polygon, 2, 3, Some(4326)));
     assert_eq!((exterior.kind(), exterior.bytes(), exterior.next()), (Kind::Ring, 13..97, 2));
+    assert_eq!((whole.offset(), exterior.offset()), (13, 17));
     assert_eq!(geometry.words(whole).len(), 0);
     let words: Vec<f64> = geometry.words(interior).collect();
     assert_eq!((words.len(), &words[..2]), (10, &[2.0, 2.0][..]));
 
     let input = collection();
     let geometry = reader.read(&input).unwrap();
-    let [_, point, line] = geometry.parts() else { panic!("three parts") };
+    let (_, point, line) = three(geometry.parts());
     assert_eq!((point.dimension(), point.order()), (Dimension::Xyz, Order::LittleEndian));
     assert_eq!(geometry.words(point).collect::<Vec<_>>(), [1.0, 2.0, 3.0]);
     assert_eq!((line.kind(), line.order()), (Kind::LineString, Order::BigEndian));
@@ -150,6 +193,15 @@ fn parts() {
         (1, 0..33, Some(4326))
     );
     assert_eq!(geometry.words(&geometry.parts()[0]).collect::<Vec<_>>(), [1.0, 2.0, 3.0]);
+}
+
+#[test]
+fn a_reader_has_the_parts_of_its_last_input() {
+    let mut reader = Reader::default();
+    assert_eq!(reader.parts(), []);
+    let parts = reader.read(&polygon()).unwrap().parts().to_vec();
+    assert_eq!(reader.parts(), parts);
+    assert!(reader.read(&polygon()[..20]).is_err() && reader.parts().is_empty());
 }
 
 #[test]

@@ -58,7 +58,7 @@ fn refused() {
     let bad = multi_point(Column::binary(&good, &[0, 21, 20]));
     assert_eq!((bad, bad.status()), (NotCollected::BadOffsets(1), Status::BAD_OFFSETS));
     let cut = Rows::of([&good[..], &good[..20]].map(Some));
-    let text = "row 1: the input ends inside a point, in part 0 at byte 0, which would end at 21 of 20";
+    let text = "row 1: the input ends inside a point, at byte 0 (part 0): it needs 21 bytes and has 20";
     assert_eq!(multi_point(cut.column()).to_string(), text);
     assert_eq!(multi_point(cut.column()), NotCollected::Refused(1, check(&good[..20]).unwrap_err()));
     for (kind, dimension) in [(Kind::MultiLineString, Dimension::Xy), (Kind::MultiPoint, Dimension::Xyz)] {

@@ -92,11 +92,11 @@ fn multi_polygons() {
 #[test]
 #[should_panic(expected = "rows of a GeometryCollection")]
 fn rows_are_no_collections() {
-    Levels::default().encode(Kind::GeometryCollection, Dimension::Xy, &Options::default());
+    let _ = Levels::default().encode(Kind::GeometryCollection, Dimension::Xy, &Options::default());
 }
 
 #[test]
 #[should_panic(expected = "the words of a point")]
 fn a_point_has_the_words_of_its_dimension() {
-    encode_point(&[1.0], Dimension::Xy, &Options::default());
+    let _ = encode_point(&[1.0], Dimension::Xy, &Options::default());
 }

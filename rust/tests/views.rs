@@ -1,0 +1,87 @@
+//! Views of parts, their members and words, and what prints.
+use porchsorrel_wkb::*;
+
+fn point(words: &[f64], dimension: Dimension) -> Vec<u8> {
+    encode_point(words, dimension, &Options { order: Order::BigEndian, form: Form::Iso })
+}
+
+/// A collection of a point with a z, a multi polygon of a polygon with two rings and one without, and a point.
+fn collection() -> Vec<u8> {
+    let words: Vec<f64> = (0..14).map(f64::from).collect();
+    let levels = Levels { words: &words, ring_ends: Some(&[4, 7]), single_ends: Some(&[2, 2]), row_ends: Some(&[2]) };
+    let polygons = levels.encode(Kind::MultiPolygon, Dimension::Xy, &Options::default()).data;
+    let rows = [point(&[1.0, 2.0, 3.0], Dimension::Xyz), polygons, point(&[4.0, 5.0], Dimension::Xy)];
+    let column = Rows::of(rows.iter().map(Some));
+    column.column().collect(Kind::GeometryCollection, Dimension::Xy, &Options::default()).unwrap()
+}
+
+#[test]
+fn members() {
+    let (input, mut reader) = (collection(), Reader::default());
+    let geometry = reader.read(&input).unwrap();
+    let whole = geometry.whole();
+    let kinds: Vec<Kind> = whole.members().map(|it| it.kind()).collect();
+    assert_eq!(kinds, [Kind::Point, Kind::MultiPolygon, Kind::Point]);
+    assert_eq!((whole.members().len(), whole.members().size_hint()), (3, (3, Some(3))));
+    let polygons = whole.members().nth(1).unwrap();
+    let rings: Vec<usize> = polygons.members().map(|it| it.members().len()).collect();
+    assert_eq!(rings, [2, 0]);
+    let lens = polygons.members().flat_map(|it| it.members()).map(|it| it.words().len());
+    assert_eq!(lens.collect::<Vec<_>>(), [8, 6]);
+    let mut points = whole.members().last().unwrap().members();
+    assert_eq!((points.len(), points.next().is_none(), points.next().is_none()), (0, true, true));
+}
+
+/// Each part before its own members, as the table has them.
+fn preorder(view: View, found: &mut Vec<Part>) {
+    found.push(*view.part());
+    view.members().for_each(|it| preorder(it, found));
+}
+
+#[test]
+fn views() {
+    let (input, mut reader) = (collection(), Reader::default());
+    let geometry = reader.read(&input).unwrap();
+    let views: Vec<View> = geometry.views().collect();
+    assert_eq!((views.len(), geometry.views().len()), (8, 8));
+    assert!(views.iter().zip(geometry.parts()).all(|(view, part)| view.part() == part && view.bytes() == part.bytes()));
+    let mut found = vec![];
+    preorder(geometry.whole(), &mut found);
+    assert_eq!(found, geometry.parts());
+}
+
+#[test]
+fn words() {
+    for order in [Order::BigEndian, Order::LittleEndian] {
+        let words = [1.5, -2.5, 3.5, 4.5, 5.5, 6.5];
+        let levels = Levels { words: &words, ring_ends: Some(&[3]), ..Levels::default() };
+        let line = levels.encode(Kind::LineString, Dimension::Xy, &Options { order, form: Form::Iso }).data;
+        let mut reader = Reader::default();
+        let read = reader.read(&line).unwrap().whole().words();
+        assert_eq!((read.len(), read.clone().count(), read.clone().sum::<f64>()), (6, 6, 19.0));
+        assert_eq!(read.clone().rev().collect::<Vec<_>>(), [6.5, 5.5, 4.5, 3.5, -2.5, 1.5]);
+        let mut some = read.clone();
+        assert_eq!((some.nth(1), some.len(), some.nth_back(1), some.len()), (Some(-2.5), 4, Some(5.5), 2));
+        assert_eq!((some.nth(2), some.len(), some.next(), some.next_back()), (None, 0, None, None));
+    }
+}
+
+/// Words that are kept after the reader has read another input, and after it is gone.
+#[test]
+fn words_live_as_long_as_the_input() {
+    let inputs = [point(&[1.0, 2.0], Dimension::Xy), point(&[3.0, 4.0], Dimension::Xy)];
+    let kept: Vec<Words> = {
+        let mut reader = Reader::default();
+        inputs.iter().map(|it| reader.read(it).unwrap().whole().words()).collect()
+    };
+    assert_eq!(kept.into_iter().flatten().collect::<Vec<_>>(), [1.0, 2.0, 3.0, 4.0]);
+}
+
+#[test]
+fn texts() {
+    let kinds = [Kind::Ring, Kind::LineString, Kind::GeometryCollection];
+    assert_eq!(kinds.map(|it| it.to_string()), ["ring", "linestring", "geometrycollection"]);
+    assert_eq!(format!("{:>6}|{:<6}|", Kind::Point, Kind::Ring), " point|ring  |");
+    assert_eq!(format!("{:>17}", Status::NULL_ROW), "  the row is null");
+    assert_eq!(format!("{:?}", Status::NULL_ROW), "Status(16: the row is null)");
+}
