@@ -19,6 +19,33 @@ insert into rows values
   (12, '\x01ea03000002000000000000000000f87f0000000000000040000000000000f0bf'
        '000000000000f03f000000000000f87f0000000000001040');
 select id, wkb_well_formed(wkb), wkb_fault(wkb) from rows order by id;
+-- Geometries of each kind in both byte orders and inside one another. Whatever is cut lacks bytes.
+create temp table whole (wkb bytea);
+insert into whole values
+  ('\x0101000000000000000000f03f0000000000000040'),
+  ('\x0000000001000000000000f03f0000000000000040'),
+  ('\x0101000020e6100000000000000000f03f0000000000000040'),
+  ('\x00a0000001000010e6000000000000f03f0000000000000040000000000000f03f'),
+  ('\x010200000002000000000000000000f03f0000000000000040000000000000f03f0000000000000040'),
+  ('\x0060000bba000010e600000001000000000000f03f0000000000000040000000000000f03f0000000000000040'),
+  ('\x01030000000200000001000000000000000000f03f000000000000004002000000000000000000f03f00000000000000'
+   '40000000000000f03f0000000000000040'),
+  ('\x0000000003000000020000000000000001000000000000f03f0000000000000040'),
+  ('\x0104000000020000000101000000000000000000f03f00000000000000400000000001000000000000f03f0000000000'
+   '000040'),
+  ('\x0000000004000000010101000000000000000000f03f0000000000000040'),
+  ('\x010500000002000000000000000200000000010200000001000000000000000000f03f0000000000000040'),
+  ('\x0020000005000010e6000000010020000002000010e600000001000000000000f03f0000000000000040'),
+  ('\x01060000000100000000000000030000000100000001000000000000f03f0000000000000040'),
+  ('\x00000000060000000201030000000000000001030000000100000001000000000000000000f03f0000000000000040'),
+  ('\x010700000000000000'),
+  ('\x010700000002000000000000000700000001010500000001000000010200000001000000000000000000f03f00000000'
+   '0000004001e9030000000000000000f03f0000000000000040000000000000f03f'),
+  ('\x00000000070000000200000000060000000100000000030000000100000001000000000000f03f000000000000004001'
+   '04000000010000000000000001000000000000f03f0000000000000040');
+select count(*) filter (where wkb_well_formed(wkb)), sum(octet_length(wkb)) from whole;
+select count(*), count(*) filter (where wkb_fault(substring(wkb for size)) like 'the input ends inside %')
+  from whole, generate_series(0, octet_length(wkb) - 1) as size;
 -- The functions that read a geometry are asked of rows that have one at their front.
 create view geometries as
   select * from rows where wkb_well_formed(wkb) or wkb_fault(wkb) like 'bytes after%' order by id;
@@ -33,6 +60,27 @@ insert into points values
   (4, '\x01b90b0000000000000000f03f000000000000004000000000000008400000000000001040');
 select id, wkb_xmin(wkb), wkb_ymin(wkb), wkb_xmax(wkb), wkb_ymax(wkb), wkb_box(wkb) from points order by id;
 select id, wkb_zmin(wkb), wkb_zmax(wkb), wkb_mmin(wkb), wkb_mmax(wkb) from points order by id;
+-- The bytes of a point with an SRID, and of the cut point.
+select wkb_dump(wkb) from rows where id in (3, 6) order by id;
+-- What is in them. A multi polygon with z, the last SRID, and a polygon with a ring and one of no coordinates beside an
+-- empty polygon; a multi point with m, one of whose points is empty; a collection without z of an empty one with z and
+-- m and of a line string with m; a line string with z, m and the first SRID that a signed number has not; an empty
+-- multi line string with m.
+create table counted (id int primary key, wkb bytea);
+insert into counted values
+  (1, '\x00a0000006ffffffff00000002010300008002000000'
+      '04000000' || decode(repeat('00', 96), 'hex') || '\x00000000'
+      '00000003eb00000000'),
+  (2, '\x01d407000003000000'
+      '01d1070000' || decode(repeat('00', 24), 'hex') || '\x00000007d1' || decode(repeat('00', 24), 'hex') ||
+      '\x01d1070000000000000000f87f000000000000f87f000000000000f87f'),
+  (3, '\x0107000000020000000000000bbf00000000010200004002000000' || decode(repeat('00', 48), 'hex')),
+  (4, '\x00e00000028000000000000001' || decode(repeat('00', 32), 'hex')),
+  (5, '\x010500004000000000');
+select id, wkb_kind(wkb), wkb_srid(wkb), wkb_ndims(wkb), wkb_zmflag(wkb), wkb_num_coordinates(wkb),
+  wkb_num_members(wkb), wkb_num_parts(wkb) from counted order by id;
+select id, wkb_ndims(wkb), wkb_zmflag(wkb), wkb_num_coordinates(wkb), wkb_num_members(wkb), wkb_num_parts(wkb)
+  from geometries;
 -- The key, and as EWKB with its own SRID and with another.
 select id, wkb_canonical(wkb), wkb_ewkb(wkb), wkb_ewkb(wkb, 3857) from rows where id in (2, 3, 7) order by id;
 select wkb_ewkb(wkb, 4294967295), wkb_ewkb(wkb, null) from rows where id = 1;
@@ -110,9 +158,20 @@ select length(wkb), wkb_box(wkb), wkb_xmax(wkb), wkb_ymin(wkb) from (
 -- A collection of a million empty line strings.
 select wkb_well_formed(wkb), wkb_kind(wkb), wkb_xmin(wkb), length(wkb_canonical(wkb)) from
   (select '\x010700000040420f00'::bytea || decode(repeat('010200000000000000', 1000000), 'hex') as wkb) as huge;
--- Each of the seventeen functions is strict, immutable and safe in parallel, and has a comment.
-select count(*), count(*) filter (where proisstrict and provolatile = 'i' and proparallel = 's'),
-  count(obj_description(oid, 'pg_proc')) from pg_proc where proname like 'wkb\_%';
+-- The bounds of a value are kept for the next one alone: a cut value behind the whole one has none, nor has one that
+-- differs in its last byte, and one that is too long to be kept is not kept.
+create view ways as
+  select decode('0102000000ff000000' || repeat('000000000000f03f0000000000000040', 255), 'hex') as wkb;
+select wkb_xmax(wkb), wkb_ymin(wkb) from ways;
+select wkb_xmax(wkb), wkb_ymin(substring(wkb for 4088)) from ways;
+select wkb_xmax(wkb), wkb_ymin(set_byte(wkb, 4088, 193)), wkb_ymin(wkb) from ways;
+select count(*), sum(wkb_xmax(longer)), sum(wkb_ymin(longer)) from ways, generate_series(0, 200) as more,
+  lateral (select wkb || decode(repeat('00', more), 'hex') as longer) as behind;
+-- All that the database keeps of the functions: each is immutable, safe in parallel and strict, those that raise no
+-- error over their argument are leakproof, and each has its cost and a comment.
+select proname, pg_get_function_arguments(oid), prorettype::regtype, provolatile, proparallel, proisstrict,
+    proleakproof, procost, obj_description(oid, 'pg_proc')
+  from pg_proc where proname like 'wkb\_%' order by proname, pronargs;
 -- Their calls, as texts, with null in one place, or in none, which is place 0. One that has null is null.
 create view calls as
   select proname, place, prorettype, format('%I(%s)', proname, (
@@ -134,6 +193,7 @@ end $$;
 -- three of them, it leaves little memory in use until the row ends. A server before version 14 doesn't tell.
 create table large as
   select '\x0107000000a0860100'::bytea || decode(repeat('010200000000000000', 100000), 'hex') as wkb;
+select wkb_ndims(wkb), wkb_zmflag(wkb), wkb_num_coordinates(wkb), wkb_num_members(wkb), wkb_num_parts(wkb) from large;
 create function in_use(call text) returns bigint language plpgsql as $$
 declare
   before bigint;
@@ -151,7 +211,13 @@ select call from calls
 \endif
 drop view calls;
 drop function in_use;
--- They are the extension's, and go with it.
+-- They are the extension's, can move to another schema with all that uses them, and go with it.
+create schema elsewhere;
+alter extension wkb set schema elsewhere;
+insert into places values ('\x02');
+select elsewhere.wkb_kind(wkb) from places limit 1;
+alter extension wkb set schema public;
+drop schema elsewhere;
 select extversion, count(*) from pg_extension e join pg_depend d on d.refobjid = e.oid and d.deptype = 'e'
   where extname = 'wkb' group by 1;
 drop extension wkb;

@@ -1,20 +1,22 @@
-/* Well-Known Binary in PostgreSQL, over bytea, and so over a geometry of PostGIS that is cast to bytea. The file of SQL
- * beside it says what each function returns. The library keeps nothing between calls and asks for no memory, so an
+/* Well-Known Binary in PostgreSQL, over bytea, and so over a geometry of PostGIS, which is cast to bytea. The file of
+ * SQL beside it says what each function returns. The library keeps nothing between calls and doesn't allocate, so an
  * error can be raised after any call. */
 #include "postgres.h"
 
 #include "fmgr.h"
+#include "lib/stringinfo.h"
 #include "miscadmin.h"
 #include "utils/builtins.h"
 #include "utils/geo_decls.h"
 #include "utils/memutils.h"
 #include "wkb.h"
+#include "wkb_dump.h"
 
 PG_MODULE_MAGIC;
 
 #define BYTES(v) VARDATA_ANY(v), VARSIZE_ANY_EXHDR(v)
 
-/* What is refused, as a text. */
+/* Returns why the input is rejected, as text. */
 static const char *text_of(const wkb_fault *fault) {
   char *text = palloc(WKB_FAULT_TEXT_ROOM);
   wkb_fault_text(fault, text, WKB_FAULT_TEXT_ROOM);
@@ -41,8 +43,8 @@ static bytea *argument(FunctionCallInfo fcinfo, int n) {
   return v;
 }
 
-/* The geometry at the front of the argument; an error where there is none. The copy that a large value is read into is
- * freed at once, here and below. */
+/* Returns what the geometry at the start of the argument is, or raises an error if there is none. The copy that a large
+ * value is read into is freed at once, here and below. */
 static wkb_found found_in(FunctionCallInfo fcinfo) {
   bytea *v = argument(fcinfo, 0);
   wkb_found found;
@@ -75,6 +77,21 @@ Datum wkb_fault_sql(PG_FUNCTION_ARGS) {
       cstring_to_text(psprintf("bytes after the geometry, from %llu on", (unsigned long long)found.size)));
 }
 
+static int append(void *text, const char *line, size_t length) {
+  appendBinaryStringInfo(text, line, (int)length);
+  return 0;
+}
+
+PG_FUNCTION_INFO_V1(wkb_dump_sql);
+Datum wkb_dump_sql(PG_FUNCTION_ARGS) {
+  bytea *v = argument(fcinfo, 0);
+  StringInfoData text;
+  initStringInfo(&text);
+  wkb_dump(BYTES(v), NULL, append, &text, NULL);
+  PG_FREE_IF_COPY(v, 0);
+  PG_RETURN_TEXT_P(cstring_to_text_with_len(text.data, text.len - 1));
+}
+
 PG_FUNCTION_INFO_V1(wkb_kind_sql);
 Datum wkb_kind_sql(PG_FUNCTION_ARGS) { PG_RETURN_TEXT_P(cstring_to_text(wkb_kind_text(found_in(fcinfo).kind))); }
 
@@ -84,6 +101,21 @@ Datum wkb_srid_sql(PG_FUNCTION_ARGS) {
   if (!found.has_srid) PG_RETURN_NULL();
   PG_RETURN_INT64(found.srid);
 }
+
+/* The function of a number that is found, which is less than the bytes of the argument. PostGIS's flags for z and m are
+ * those of ISO's dimensions, exchanged. */
+#define NUMBER(name, number)                             \
+  PG_FUNCTION_INFO_V1(name);                             \
+  Datum name(PG_FUNCTION_ARGS) {                         \
+    wkb_found found = found_in(fcinfo);                  \
+    PG_RETURN_INT32((int32)(number));                    \
+  }
+
+NUMBER(wkb_ndims_sql, found.width)
+NUMBER(wkb_zmflag_sql, found.dimension % 2 * 2 + found.dimension / 2)
+NUMBER(wkb_num_coordinates_sql, found.coordinates)
+NUMBER(wkb_num_members_sql, found.kind >= WKB_KIND_MULTI_POINT ? found.count : 0)
+NUMBER(wkb_num_parts_sql, found.parts)
 
 /* The encoding of the first argument, in so much room as it can need, or as a bytea can have. */
 static Datum rewritten(FunctionCallInfo fcinfo, const wkb_options *options) {
@@ -135,9 +167,9 @@ Datum wkb_same_sql(PG_FUNCTION_ARGS) {
 
 /* The value whose bounds were found last, if it is small: a query often asks for several sides of one value. */
 static struct {
-  char bytes[4096];
   size_t size; /* 0 where there is none yet */
   wkb_box box;
+  char bytes[4096]; /* at the end, where a check of the compiler's sees that more are copied */
 } last;
 
 /* The bounds of the argument; an error where there is no geometry. */

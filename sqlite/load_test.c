@@ -1,8 +1,9 @@
 /* load_test EXTENSION: lets loads of the extension fail, and sees that each says why, that the connection goes on, that
  * the next load succeeds, that all memory is freed, and that no byte past an allocation is written. A load fails where
  * SQLite lacks memory, each of its allocations in turn, and where a statement is open while a function of the same name
- * is there. Names that begin with ST_ are defined by their own entry point alone: a load replaces none of them, and any
- * of them can be defined for one argument later, also while a statement is open. */
+ * is there. Calls that lack memory are an error, and give no other answer. Names that begin with ST_ are defined by
+ * their own entry point alone: a load replaces none of them, and any of them can be defined for one argument later,
+ * also while a statement is open. */
 #include <sqlite3.h>
 #include <stdbool.h>
 #include <stdio.h>
@@ -72,27 +73,39 @@ static sqlite3 *opened(void) {
   return db;
 }
 
-/* Whether a query returns 1. */
-static bool holds(sqlite3 *db, const char *text) {
+/* Asks a query for a number; SQLITE_ROW says that there is one. */
+static int ask(sqlite3 *db, const char *text, int *number) {
   sqlite3_stmt *query;
-  if (sqlite3_prepare_v2(db, text, -1, &query, NULL) != SQLITE_OK) return false;
-  bool found = sqlite3_step(query) == SQLITE_ROW && sqlite3_column_int(query, 0) == 1;
-  return sqlite3_finalize(query) == SQLITE_OK && found;
+  int status = sqlite3_prepare_v2(db, text, -1, &query, NULL);
+  if (status == SQLITE_OK) status = sqlite3_step(query);
+  if (status == SQLITE_ROW) *number = sqlite3_column_int(query, 0);
+  sqlite3_finalize(query);
+  return status;
 }
 
-/* Whether the extension's functions answer: of a point p, a byte b that is no geometry, and a collection g of a point,
- * with a GeoPackage's header. */
-static bool answers(sqlite3 *db) {
-  return holds(db,
-               "select wkb_well_formed(g) and wkb_fault(b) is not null and wkb_fault(g) is null"
-               " and wkb_kind(p) = 'point' and wkb_srid(g) = 4326 and wkb_canonical(p) = p and wkb_canonical(b) is null"
-               " and wkb_ewkb(p) = p"
-               " and length(wkb_ewkb(p, 3857)) = 25 and wkb_gpkg(g) <> g and length(wkb_gpkg(p, 3857)) = 29"
-               " and wkb_same(p, p) and wkb_xmin(g) = 1.0 and wkb_mmax(p) is null and ST_MinX(p) = 1.0"
-               " and ST_MaxY(p) = 2.0 and not ST_IsEmpty(p) from (select x'01' as b,"
-               " x'0101000000000000000000f03f0000000000000040' as p,"
-               " x'47500001e61000000107000000010000000101000000000000000000f03f0000000000000040' as g)");
+/* Whether a query returns 1. */
+static bool holds(sqlite3 *db, const char *text) {
+  int number = 0;
+  return ask(db, text, &number) == SQLITE_ROW && number == 1;
 }
+
+/* Asks the extension's functions of a point p, a byte b that is no geometry, and, with a GeoPackage's header, a point e
+ * of EWKB and a collection g of a point. */
+static const char CALLS[] =
+    "select wkb_well_formed(g) and wkb_fault(b) is not null and wkb_fault(g) is null and wkb_fault(e) is not null"
+    " and wkb_dump(p) like '% 2' || char(10) || '%the end' and wkb_dump(b) like '%refused: the%'"
+    " and wkb_dump(e) like '%refused: EWKB%'"
+    " and wkb_kind(p) = 'point' and wkb_srid(g) = 4326 and wkb_canonical(p) = p and wkb_canonical(b) is null"
+    " and wkb_ndims(e) = 3 and wkb_num_parts(g) = 2 and wkb_ewkb(p) = p"
+    " and length(wkb_ewkb(p, 3857)) = 25 and wkb_gpkg(g) <> g and length(wkb_gpkg(p, 3857)) = 29"
+    " and wkb_same(p, p) and wkb_xmin(g) = 1.0 and wkb_mmax(p) is null and ST_MinX(p) = 1.0"
+    " and ST_MaxY(p) = 2.0 and not ST_IsEmpty(p) from (select x'01' as b,"
+    " x'0101000000000000000000f03f0000000000000040' as p,"
+    " x'47500001e61000000101000080000000000000f03f00000000000000400000000000000840' as e,"
+    " x'47500001e61000000107000000010000000101000000000000000000f03f0000000000000040' as g)";
+
+/* Whether they answer. */
+static bool answers(sqlite3 *db) { return holds(db, CALLS); }
 
 /* Loads the extension by both entry points and returns the status; where this fails, the text says why, if there is
  * memory for it. */
@@ -127,6 +140,23 @@ static bool try_without_memory(int n, bool again) {
   if (status == SQLITE_OK) expect(answers(db), "the functions don't answer", n);
   sqlite3_free(text);
   go_on(db, again, n);
+  return was_refused;
+}
+
+/* Refuses the Nth allocation of the calls: they answer nonetheless, or there is the error that memory is lacking, and
+ * afterwards they answer. Returns whether they had as many. */
+static bool try_calls_without_memory(int n) {
+  char *text;
+  int number = 1;
+  sqlite3 *db = opened();
+  expect(load(db, &text) == SQLITE_OK, "the load fails", n);
+  left = n;
+  int status = ask(db, CALLS, &number);
+  bool was_refused = left == 0;
+  left = 0;
+  expect(status == SQLITE_NOMEM ? was_refused : status == SQLITE_ROW, "the error is another one", n);
+  expect(number == 1, "a call that lacks memory answers otherwise", n);
+  go_on(db, true, n);
   return was_refused;
 }
 
@@ -194,7 +224,7 @@ static void try_default_alone(void) {
 }
 
 int main(int count, char **words) {
-  int refused = 0;
+  int refused = 0, refused_of_calls = 0;
   if (count != 2) return 2;
   extension = words[1];
   install_memory();
@@ -211,7 +241,9 @@ int main(int count, char **words) {
     try_with_statement("wkb_mmax", 1, again);
     for (int n = 1; try_without_memory(n, again); n++) refused++;
   }
-  printf("sqlite: a load fails by one of %d refused allocations, or by a statement, and can be tried again\n",
-         refused / 2);
+  while (try_calls_without_memory(refused_of_calls + 1)) refused_of_calls++;
+  printf("sqlite: a load fails by one of %d refused allocations, or by a statement, and can be tried again; calls fail"
+         " by one of %d\n",
+         refused / 2, refused_of_calls);
   return 0;
 }

@@ -18,6 +18,34 @@ insert into rows (wkb) values
         x'000000000000f03f000000000000f87f0000000000001040' as blob));
 select id, wkb_well_formed(wkb), wkb_kind(wkb), wkb_srid(wkb), wkb_fault(wkb) from rows;
 select id, wkb_xmin(wkb), wkb_ymin(wkb), wkb_xmax(wkb), wkb_ymax(wkb), wkb_zmin(wkb), wkb_mmax(wkb) from rows;
+-- Geometries of each kind in both byte orders and inside one another. Whatever is cut lacks bytes.
+create temp table whole (wkb blob);
+insert into whole (wkb) values
+  (x'0101000000000000000000f03f0000000000000040'),
+  (x'0000000001000000000000f03f0000000000000040'),
+  (x'0101000020e6100000000000000000f03f0000000000000040'),
+  (x'00a0000001000010e6000000000000f03f0000000000000040000000000000f03f'),
+  (x'010200000002000000000000000000f03f0000000000000040000000000000f03f0000000000000040'),
+  (x'0060000bba000010e600000001000000000000f03f0000000000000040000000000000f03f0000000000000040'),
+  (cast(x'01030000000200000001000000000000000000f03f000000000000004002000000000000000000f03f00000000000000' ||
+        x'40000000000000f03f0000000000000040' as blob)),
+  (x'0000000003000000020000000000000001000000000000f03f0000000000000040'),
+  (cast(x'0104000000020000000101000000000000000000f03f00000000000000400000000001000000000000f03f0000000000' ||
+        x'000040' as blob)),
+  (x'0000000004000000010101000000000000000000f03f0000000000000040'),
+  (x'010500000002000000000000000200000000010200000001000000000000000000f03f0000000000000040'),
+  (x'0020000005000010e6000000010020000002000010e600000001000000000000f03f0000000000000040'),
+  (x'01060000000100000000000000030000000100000001000000000000f03f0000000000000040'),
+  (x'00000000060000000201030000000000000001030000000100000001000000000000000000f03f0000000000000040'),
+  (x'010700000000000000'),
+  (cast(x'010700000002000000000000000700000001010500000001000000010200000001000000000000000000f03f00000000' ||
+        x'0000004001e9030000000000000000f03f0000000000000040000000000000f03f' as blob)),
+  (cast(x'00000000070000000200000000060000000100000000030000000100000001000000000000f03f000000000000004001' ||
+        x'04000000010000000000000001000000000000f03f0000000000000040' as blob));
+select sum(wkb_well_formed(wkb)), sum(length(wkb)) from whole;
+with recursive sizes (size) as (values (0) union all select size + 1 from sizes where size < 150)
+  select count(*), sum(wkb_fault(substr(wkb, 1, size)) like 'the input ends inside %')
+  from whole, sizes where size < length(wkb);
 -- A point with x alone, one with y alone, one whose x is infinite, and the point (1, 2, 3, 4).
 create temp table points (id integer primary key, wkb blob);
 insert into points (wkb) values
@@ -27,6 +55,25 @@ insert into points (wkb) values
   (x'01b90b0000000000000000f03f000000000000004000000000000008400000000000001040');
 select id, wkb_xmin(wkb), wkb_ymin(wkb), wkb_xmax(wkb), wkb_ymax(wkb) from points;
 select id, wkb_zmin(wkb), wkb_zmax(wkb), wkb_mmin(wkb), wkb_mmax(wkb) from points;
+-- The bytes of a point with an SRID, and of the cut point; a text has none.
+select wkb_dump(wkb) from rows where id in (3, 6, 10) order by id;
+-- What is in them. A multi polygon with z, the last SRID, and a polygon with a ring and one of no coordinates beside an
+-- empty polygon; a multi point with m, one of whose points is empty; a collection without z of an empty one with z and
+-- m and of a line string with m; a line string with z, m and the first SRID that a signed number has not; an empty
+-- multi line string with m.
+create temp table counted (id integer primary key, wkb blob);
+insert into counted (wkb) values
+  (cast(x'00a0000006ffffffff00000002' || x'010300008002000000' || x'04000000' || zeroblob(96) || x'00000000' ||
+        x'00000003eb00000000' as blob)),
+  (cast(x'01d407000003000000' || x'01d1070000' || zeroblob(24) || x'00000007d1' || zeroblob(24) || x'01d1070000' ||
+        x'000000000000f87f000000000000f87f000000000000f87f' as blob)),
+  (cast(x'010700000002000000' || x'0000000bbf00000000' || x'010200004002000000' || zeroblob(48) as blob)),
+  (cast(x'00e00000028000000000000001' || zeroblob(32) as blob)),
+  (x'010500004000000000');
+select id, wkb_kind(wkb), wkb_srid(wkb), wkb_ndims(wkb), wkb_zmflag(wkb), wkb_num_coordinates(wkb),
+  wkb_num_members(wkb), wkb_num_parts(wkb) from counted;
+select id, wkb_ndims(wkb), wkb_zmflag(wkb), wkb_num_coordinates(wkb), wkb_num_members(wkb), wkb_num_parts(wkb)
+  from rows;
 -- The key, and as EWKB with its own SRID and with another.
 select id, hex(wkb_canonical(wkb)), hex(wkb_ewkb(wkb)), hex(wkb_ewkb(wkb, 3857)) from rows where id in (2, 3, 6, 7);
 select hex(wkb_ewkb(wkb, 4294967295)), wkb_ewkb(wkb, null) from rows where id = 1;
@@ -81,6 +128,12 @@ insert into lines select n, cast(head || replace(hex(zeroblob(n)), '00', x'00000
   from (select 255 as n, x'0102000000ff000000' as head union all select 1000, x'0102000000e8030000');
 select n, length(wkb), wkb_xmin(wkb), wkb_ymax(wkb), wkb_xmax(wkb), length(wkb_canonical(wkb)), wkb_same(wkb, wkb),
   wkb_fault(substr(wkb, 1, 100)) from lines;
+-- The shorter one with as many bytes behind it, so that it is as long as what is kept, or longer; a cut blob behind the
+-- whole one has no bounds.
+with recursive more (n) as (select 0 union all select n + 1 from more where n < 200)
+  select count(*), sum(wkb_xmax(longer)), sum(wkb_ymin(longer)) from (
+    select cast(wkb || zeroblob(more.n) as blob) as longer from more, lines where lines.n = 255);
+select wkb_xmax(wkb), wkb_ymin(substr(wkb, 1, 4088)), wkb_ymin(wkb) from lines where n = 255;
 -- Two lines of 312 points, of 5001 bytes each, which differ in the last one: bounds are kept of a whole blob, or not
 -- at all.
 create temp table ends (n integer primary key, wkb blob);
@@ -89,7 +142,7 @@ insert into ends select value, cast(x'010200000038010000' || replace(hex(zeroblo
     (select 1 as value, x'00000000000010400000000000000040' as last
      union all select 2, x'00000000000014400000000000000040');
 select n, length(wkb), wkb_xmin(wkb), wkb_xmax(wkb), wkb_ymin(wkb), wkb_ymax(wkb) from ends;
--- Each of the 23 functions is deterministic (800 in hex) and innocuous (200000), so that a schema that isn't trusted
+-- Each of the 29 functions is deterministic (800 in hex) and innocuous (200000), so that a schema that isn't trusted
 -- may call it.
 select count(*), sum(flags & 0x200800 = 0x200800) from pragma_function_list
   where name like 'wkb\_%' escape '\' or name like 'st\_%' escape '\';
@@ -120,6 +173,7 @@ insert into flagged (wkb) values
   (x'0106000000010000000103000020e610000000000000'),
   (cast(x'01d407000002000000' || x'01d1070000' || zeroblob(24) || x'0040000001' || zeroblob(24) as blob)),
   (x'0107000000010000000107000000010000000105000000010000000102000020e610000000000000');
+select wkb_dump(cast(x'47500001e6100000' || wkb as blob)) from flagged where id = 2;
 select id, wkb_well_formed(wkb), wkb_well_formed(geom), wkb_kind(geom), wkb_fault(geom)
   from (select id, wkb, cast(x'47500001e6100000' || wkb as blob) as geom from flagged);
 -- A layer of a GeoPackage, its R-tree, and the triggers that keep it, as OGR writes them.

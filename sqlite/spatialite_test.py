@@ -1,6 +1,6 @@
 """Loads both entry points of the extension and SpatiaLite into one connection, in each order and in each way: by
 SQLite's call, as Python's load_extension and the shell's .load do, and by a query, while it runs. The functions of both
-have to answer as where they are alone.
+have to answer as where they are alone. What is in a geometry is also asked of both, in each kind and dimension.
 
     python3 spatialite_test.py EXTENSION
 """
@@ -19,6 +19,21 @@ THEIRS = "select " + ", ".join(
         "x'47500001e61000000101000000000000000000f03f0000000000000040'",
     )
 )
+# In a text of each kind {0} is the dimension, {1} and {2} are two coordinates.
+RING = "({1},{2},{2},{1})"
+SHAPES = [
+    "POINT{0}({1})", "LINESTRING{0}({1},{2})", f"POLYGON{{0}}({RING},{RING})", "MULTIPOINT{0}({1},{2},{1})",
+    "MULTILINESTRING{0}(({1},{2}),({2},{1},{2}))", f"MULTIPOLYGON{{0}}(({RING}),({RING},{RING}))",
+    f"GEOMETRYCOLLECTION{{0}}(POINT{{0}}({{1}}),LINESTRING{{0}}({{2}},{{1}}),POLYGON{{0}}({RING}))",
+]
+DIMENSIONS = {"": ("1 2", "3 4"), "Z": ("1 2 3", "4 5 6"), "M": ("1 2 3", "4 5 6"), "ZM": ("1 2 3 4", "5 6 7 8")}
+COUNTS = """
+    select wkb_ndims(wkb), wkb_zmflag(wkb), wkb_num_coordinates(wkb), wkb_num_members(wkb),
+        ST_NDims(g), case CoordDimension(g) when 'XY' then 0 when 'XYM' then 1 when 'XYZ' then 2 else 3 end,
+        ST_NPoints(g), case when ST_GeometryType(g) like '%MULTI%' or ST_GeometryType(g) like '%COLLECTION%'
+        then ST_NumGeometries(g) else 0 end
+    from (select ST_AsBinary(g) as wkb, g from (select ST_GeomFromText(?) as g))
+"""
 TRIGGERS = "select " + ", ".join(f"{name}({POINT})" for name in TRIGGER_NAMES)
 
 
@@ -82,8 +97,19 @@ def try_order(library, order, ask):
             sys.exit(f"sqlite: {order} by {ways}:\n  expected {expected}\n  returned {returned}")
 
 
+def try_counts(library):
+    """Compare the dimensions and the numbers of coordinates and members that both find in the shapes."""
+    connection = connected([library["wkb"], library["spatialite"]], ["query"] * 2)
+    for shape, (dimension, words) in itertools.product(SHAPES, DIMENSIONS.items()):
+        text = shape.format(dimension, *words)
+        counts = connection.execute(COUNTS, (text,)).fetchone()
+        if None in counts or counts[:4] != counts[4:]:
+            sys.exit(f"sqlite: {text}: the extension counts {counts[:4]}, SpatiaLite {counts[4:]}")
+
+
 def main():
     library = loads(sys.argv[1])
+    try_counts(library)
     try_names(library)
     orders = [order for n in (2, 3) for order in itertools.permutations(library, n)]
     for order, ask in itertools.product(orders, (asked_of_python, asked_of_shell)):

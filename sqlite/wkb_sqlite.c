@@ -1,30 +1,37 @@
 /* Well-Known Binary in SQLite. `make sqlite` in the folder above builds it as sqlite/wkb.so, which `.load ./wkb` loads
  * in that folder. These functions have the names and the meanings of those of the PostgreSQL extension:
  *
- *   wkb_well_formed(b)     1 or 0: whether the blob is one geometry of the grammar, and nothing after it
- *   wkb_fault(b)           why it is not, as a text; NULL where it is
+ *   wkb_well_formed(b)     1 if the blob is exactly one well-formed geometry, without trailing bytes, else 0
+ *   wkb_fault(b)           why it is not, as text; NULL if it is
+ *   wkb_dump(b)            the bytes line by line with what they mean, and where and why they are rejected, as text
  *   wkb_kind(b)            point, linestring, polygon, multipoint, multilinestring, multipolygon, geometrycollection
- *   wkb_srid(b)            its SRID; NULL where it has none
- *   wkb_canonical(b)       its key: one blob for each value, whatever the byte orders and SRIDs are
+ *   wkb_srid(b)            its SRID; NULL if it has none
+ *   wkb_ndims(b)           how many ordinates a coordinate has: 2, 3 or 4
+ *   wkb_zmflag(b)          which these are: 0 for x and y, 1 with m, 2 with z, 3 with z and m
+ *   wkb_num_coordinates(b)
+ *                          how many coordinates it has, with those of members; an empty point has one
+ *   wkb_num_members(b)     how many members a multi geometry or a collection has itself; 0 for another kind
+ *   wkb_num_parts(b)       how many parts it has: itself, and its rings and members at every level
+ *   wkb_canonical(b)       its key: the same blob for equal geometries, whatever their byte orders and SRIDs are
  *   wkb_ewkb(b)            the key as EWKB, with the SRID that it has
  *   wkb_ewkb(b, srid)      the key as EWKB, with this SRID
- *   wkb_same(a, b)         1 or 0: whether the values are equal, SRIDs aside
+ *   wkb_same(a, b)         1 if the geometries are equal, ignoring SRIDs, else 0
  *   wkb_xmin(b), wkb_xmax(b), and likewise for y, z and m
- *                          the bounds; NULL where no coordinate has such a number
+ *                          the bounds, ignoring NaN; NULL if no coordinate has such a number
  *
  * A key has no SRID, neither the geometry's own nor one of a member, and wkb_ewkb adds only the geometry's own. 0 and
  * -0 are two values, so that POINT(0 0) and POINT(-0 0) have two keys.
  *
  * These are for GeoPackages, and for SQLite alone:
  *
- *   wkb_gpkg(b)            the key behind the header of a GeoPackage, with the SRID that it has, or 0
- *   wkb_gpkg(b, srs_id)    the key behind the header of a GeoPackage, with this SRID
+ *   wkb_gpkg(b)            a GeoPackage blob: a header with its SRID (or 0), then the key
+ *   wkb_gpkg(b, srs_id)    a GeoPackage blob: a header with this SRID, then the key
  *
  * These are what the triggers of a GeoPackage's R-tree call. Other extensions, such as SpatiaLite, have functions of
  * the same names, so that these have an entry point of their own: `.load ./wkb sqlite3_wkbst_init`, or, in SQL,
  * `select load_extension('./wkb', 'sqlite3_wkbst_init')`.
  *
- *   ST_IsEmpty(b)          1 or 0: whether it has no bounds in x or in y
+ *   ST_IsEmpty(b)          1 if it has no bounds in x or in y, else 0
  *   ST_MinX(b), ST_MaxX(b), ST_MinY(b), ST_MaxY(b)
  *                          the bounds, as the triggers of an R-tree ask for them
  *
@@ -32,16 +39,17 @@
  * defined for one argument later is called instead of ours, except by statements that were prepared before.
  *
  * All are deterministic and innocuous, so that indexes, CHECK constraints and generated columns take them. Each
- * returns NULL for NULL. All but the first two read the geometry at the front of the blob, whatever comes after it. They return
- * NULL where there is none: wkb_fault says why, also of each argument of wkb_same. An SRID that is not an integer from
- * 0 to 4294967295 is an error, and so is a srs_id that is not an integer of 32 bits.
+ * returns NULL for NULL. All but the first three read the geometry at the start of the blob, and ignore the bytes after
+ * it. They return NULL if there is none: wkb_fault says why, also of each argument of wkb_same. An SRID that is not an
+ * integer from 0 to 4294967295 is an error, and so is a srs_id that is not a 32-bit integer.
  *
  * A blob that begins with "GP" is one of a GeoPackage. Its SRID is the srs_id of its header: wkb_srid returns it also
- * where it is 0 or -1, for "undefined", and wkb_ewkb writes it where it is above 0. A GeoPackage holds ISO WKB, so that
+ * if it is 0 or -1, for "undefined", and wkb_ewkb writes it if it is above 0. A GeoPackage holds ISO WKB, so that
  * EWKB behind such a header, of a member too, is not well formed. The bounds are those of the coordinates: what the
  * header says of them, and whether it says "empty", is not looked at. wkb_gpkg writes bounds into the header unless the
- * geometry is a point or ST_IsEmpty, and the flag "empty" where it is ST_IsEmpty. */
+ * geometry is a point or ST_IsEmpty, and the flag "empty" if it is ST_IsEmpty. */
 #include "wkb.h"
+#include "wkb_dump.h"
 #include <stdbool.h>
 #include <sqlite3ext.h>
 SQLITE_EXTENSION_INIT1
@@ -60,11 +68,10 @@ typedef struct input {
 enum { LITTLE_ENDIAN_HEADER = 1, ENVELOPE_SHIFT = 1, ENVELOPE_MASK = 7, EMPTY = 16, EXTENDED = 32 };
 enum { ENVELOPE_XY = 1, HEADER_ROOM = 40 };
 
-static int32_t srs_id_of(const uint8_t *header) {
-  bool little = header[3] & LITTLE_ENDIAN_HEADER;
-  uint32_t bits = 0;
-  for (int i = 0; i < 4; i++) bits = bits << 8 | header[4 + (little ? 3 - i : i)];
-  return (int32_t)bits;
+static uint32_t number_at(const uint8_t *bytes, bool is_little) {
+  uint32_t number = 0;
+  for (int i = 0; i < 4; i++) number = number << 8 | bytes[is_little ? 3 - i : i];
+  return number;
 }
 
 /* Goes past the header of a GeoPackage: "GP", a version, flags, the srs_id and an envelope. */
@@ -78,7 +85,7 @@ static void skip_header(input *in) {
   }
   unsigned envelope = in->data[3] >> ENVELOPE_SHIFT & ENVELOPE_MASK;
   in->has_srs_id = true;
-  in->srs_id = srs_id_of(in->data);
+  in->srs_id = (int32_t)number_at(in->data + 4, in->data[3] & LITTLE_ENDIAN_HEADER);
   if (in->data[2] != 0)
     in->fault = "unknown version of a GeoPackage header";
   else if (in->data[3] & EXTENDED)
@@ -112,32 +119,48 @@ static input input_of(sqlite3_value *value) {
   return in;
 }
 
-/* Whether a geometry is at the front of the input. */
+/* Returns whether a geometry is at the start of the input. */
 static bool has_geometry(const input *in, wkb_found *found) {
   return in->fault == NULL && wkb_check(in->data, in->size, found, NULL) == WKB_STATUS_OK;
 }
 
-/* Whether the code of a geometry has one of EWKB's flags. */
-static bool is_ewkb(const uint8_t *geometry) {
-  uint8_t highest = geometry[0] == WKB_ORDER_LITTLE ? geometry[4] : geometry[1];
-  return highest & 0xe0;
+/* A walk over the geometries of an accepted input in preorder, without memory: members follow the geometry that
+ * has them, so it is enough to count those that are still to come. */
+typedef struct walk {
+  const uint8_t *at; /* the geometry that is next */
+  uint64_t part;     /* the parts before it */
+  uint64_t to_come;  /* the geometries from it on */
+} walk;
+
+/* Goes past the head of a geometry with a code of ISO, and past its coordinates or rings. */
+static void go_on(walk *it) {
+  static const size_t SIZES[] = {16, 24, 24, 32};
+  bool is_little = it->at[0] == WKB_ORDER_LITTLE;
+  uint32_t code = number_at(it->at + 1, is_little), kind = code % 1000;
+  size_t size = SIZES[code / 1000];
+  it->at += 5, it->part++, it->to_come--;
+  if (kind == WKB_KIND_POINT) {
+    it->at += size;
+    return;
+  }
+  uint32_t count = number_at(it->at, is_little);
+  it->at += 4;
+  if (kind == WKB_KIND_LINE_STRING) {
+    it->at += size * count;
+  } else if (kind == WKB_KIND_POLYGON) {
+    for (it->part += count; count > 0; count--) it->at += 4 + size * number_at(it->at, is_little);
+  } else {
+    it->to_come += count;
+  }
 }
 
-/* Looks for EWKB in the geometry of a GeoPackage. Returns SQLITE_OK where there is none, SQLITE_MISMATCH and which part
- * is the first, or SQLITE_NOMEM. */
-static int look_for_ewkb(const input *in, const wkb_found *found, wkb_fault *where) {
-  size_t count = 0, i = 1;
-  where->part = where->offset = 0;
-  if (!in->has_srs_id) return SQLITE_OK;
-  if (is_ewkb(in->data)) return SQLITE_MISMATCH;
-  if (found->kind <= WKB_KIND_POLYGON) return SQLITE_OK;
-  wkb_part *parts = sqlite3_malloc64(found->parts * sizeof *parts);
-  if (parts == NULL) return SQLITE_NOMEM;
-  wkb_parts(in->data, in->size, parts, found->parts, &count, NULL);
-  while (i < count && (parts[i].kind == WKB_KIND_RING || !is_ewkb(in->data + parts[i].begin))) i++;
-  if (i < count) where->part = i, where->offset = parts[i].begin;
-  sqlite3_free(parts);
-  return i < count ? SQLITE_MISMATCH : SQLITE_OK;
+/* Whether a code in the geometry of a GeoPackage has one of EWKB's flags; the first part that has one is WHERE. */
+static bool has_ewkb(const input *in, wkb_fault *where) {
+  for (walk it = {in->data, 0, in->has_srs_id}; it.to_come > 0; go_on(&it)) {
+    where->part = it.part, where->offset = (uint64_t)(it.at - in->data);
+    if (number_at(it.at + 1, it.at[0] == WKB_ORDER_LITTLE) & 0xe0000000) return true;
+  }
+  return false;
 }
 
 static void well_formed(sqlite3_context *context, int n, sqlite3_value **values) {
@@ -146,14 +169,10 @@ static void well_formed(sqlite3_context *context, int n, sqlite3_value **values)
   if (has_null(n, values)) return;
   input in = input_of(values[0]);
   bool is_whole = has_geometry(&in, &found) && found.size == in.size;
-  int status = is_whole ? look_for_ewkb(&in, &found, &where) : SQLITE_MISMATCH;
-  if (status == SQLITE_NOMEM)
-    sqlite3_result_error_nomem(context);
-  else
-    sqlite3_result_int(context, status == SQLITE_OK);
+  sqlite3_result_int(context, is_whole && !has_ewkb(&in, &where));
 }
 
-/* Why the input has no geometry, as a text to be freed. Its offset is counted from the front of the blob. */
+/* Returns why the input has no geometry, as a text to be freed. Its offset is counted from the start of the blob. */
 static char *refusal_of(const input *in, const wkb_fault *fault) {
   char text[WKB_FAULT_TEXT_ROOM];
   if (in->fault != NULL) return sqlite3_mprintf("%s", in->fault);
@@ -163,32 +182,67 @@ static char *refusal_of(const input *in, const wkb_fault *fault) {
   return sqlite3_mprintf("%s", text);
 }
 
-/* What is wrong with an input that begins with a geometry, likewise; NULL where nothing is, or there is no memory. */
-static char *remark_on(const input *in, const wkb_found *found, bool *lacks_memory) {
-  wkb_fault where;
-  int status = look_for_ewkb(in, found, &where);
-  unsigned long long part = where.part, offset = in->header + where.offset, end = in->header + found->size;
-  char *text = NULL;
-  if (status == SQLITE_MISMATCH)
-    text = sqlite3_mprintf("EWKB in a GeoPackage, in part %llu at byte %llu", part, offset);
-  else if (status == SQLITE_OK && found->size < in->size)
-    text = sqlite3_mprintf("bytes after the geometry, from %llu on", end);
-  *lacks_memory = text == NULL && (status != SQLITE_OK || found->size < in->size);
-  return text;
+/* Says where the input has EWKB behind a header of a GeoPackage. */
+static void tell_ewkb(const input *in, const wkb_fault *where, char text[WKB_FAULT_TEXT_ROOM]) {
+  sqlite3_uint64 part = where->part, offset = in->header + where->offset;
+  sqlite3_snprintf(WKB_FAULT_TEXT_ROOM, text, "EWKB in a GeoPackage, at byte %llu (part %llu)", offset, part);
 }
 
 static void fault(sqlite3_context *context, int n, sqlite3_value **values) {
   wkb_found found;
-  wkb_fault refusal;
+  wkb_fault where;
+  char *text;
   if (has_null(n, values)) return;
   input in = input_of(values[0]);
-  bool is_refused = in.fault != NULL || wkb_check(in.data, in.size, &found, &refusal) != WKB_STATUS_OK;
-  bool lacks_memory = is_refused;
-  char *text = is_refused ? refusal_of(&in, &refusal) : remark_on(&in, &found, &lacks_memory);
+  if (in.fault != NULL || wkb_check(in.data, in.size, &found, &where) != WKB_STATUS_OK) {
+    text = refusal_of(&in, &where);
+  } else if (has_ewkb(&in, &where)) {
+    char ewkb[WKB_FAULT_TEXT_ROOM];
+    tell_ewkb(&in, &where, ewkb);
+    text = sqlite3_mprintf("%s", ewkb);
+  } else if (found.size < in.size) {
+    sqlite3_uint64 end = in.header + found.size;
+    text = sqlite3_mprintf("bytes after the geometry, from %llu on", end);
+  } else {
+    return;
+  }
   if (text != NULL)
     sqlite3_result_text(context, text, -1, sqlite3_free);
-  else if (lacks_memory)
+  else
     sqlite3_result_error_nomem(context);
+}
+
+static int append(void *text, const char *line, size_t length) {
+  sqlite3_str_append(text, line, (int)length);
+  return sqlite3_str_errcode(text);
+}
+
+/* Ends the text of a dump with why the blob is rejected, if the dump doesn't say it. */
+static void append_refusal(sqlite3_str *text, const input *in) {
+  wkb_found found;
+  wkb_fault where;
+  char ewkb[WKB_FAULT_TEXT_ROOM];
+  if (!has_geometry(in, &found) || !has_ewkb(in, &where)) return;
+  tell_ewkb(in, &where, ewkb);
+  sqlite3_str_appendf(text, "%10srefused: %s\n", "", ewkb);
+}
+
+static void dump(sqlite3_context *context, int n, sqlite3_value **values) {
+  if (has_null(n, values)) return;
+  input in = input_of(values[0]);
+  if (sqlite3_value_type(values[0]) != SQLITE_BLOB) {
+    sqlite3_result_text(context, in.fault, -1, SQLITE_STATIC);
+    return;
+  }
+  sqlite3_str *text = sqlite3_str_new(sqlite3_context_db_handle(context));
+  wkb_dump(sqlite3_value_blob(values[0]), (size_t)sqlite3_value_bytes(values[0]), NULL, append, text, NULL);
+  append_refusal(text, &in);
+  int status = sqlite3_str_errcode(text), length = sqlite3_str_length(text);
+  char *whole = sqlite3_str_finish(text);
+  if (status == SQLITE_OK)
+    sqlite3_result_text(context, whole, length - 1, sqlite3_free);
+  else
+    sqlite3_result_error_code(context, status);
 }
 
 static void kind(sqlite3_context *context, int n, sqlite3_value **values) {
@@ -208,6 +262,21 @@ static void srid(sqlite3_context *context, int n, sqlite3_value **values) {
   else if (found.has_srid)
     sqlite3_result_int64(context, found.srid);
 }
+
+/* The function of a number that is found. PostGIS's flags for z and m are those of ISO's dimensions, exchanged. */
+#define NUMBER(name, number)                                                     \
+  static void name(sqlite3_context *context, int n, sqlite3_value **values) {    \
+    wkb_found found;                                                             \
+    if (has_null(n, values)) return;                                             \
+    input in = input_of(values[0]);                                              \
+    if (has_geometry(&in, &found)) sqlite3_result_int64(context, number);        \
+  }
+
+NUMBER(ndims, found.width)
+NUMBER(zmflag, found.dimension % 2 * 2 + found.dimension / 2)
+NUMBER(num_coordinates, (sqlite3_int64)found.coordinates)
+NUMBER(num_members, found.kind >= WKB_KIND_MULTI_POINT ? (sqlite3_int64)found.count : 0)
+NUMBER(num_parts, (sqlite3_int64)found.parts)
 
 /* Returns the input's encoding under the options, behind a header. */
 static void written_behind(sqlite3_context *context, const input *in, const wkb_options *options,
@@ -380,8 +449,14 @@ typedef struct call {
 
 static const call CALLS[] = {{"wkb_well_formed", 1, well_formed},
                              {"wkb_fault", 1, fault},
+                             {"wkb_dump", 1, dump},
                              {"wkb_kind", 1, kind},
                              {"wkb_srid", 1, srid},
+                             {"wkb_ndims", 1, ndims},
+                             {"wkb_zmflag", 1, zmflag},
+                             {"wkb_num_coordinates", 1, num_coordinates},
+                             {"wkb_num_members", 1, num_members},
+                             {"wkb_num_parts", 1, num_parts},
                              {"wkb_canonical", 1, canonical},
                              {"wkb_ewkb", 1, ewkb},
                              {"wkb_ewkb", 2, ewkb_with_srid},
@@ -454,7 +529,7 @@ static int define_all(sqlite3 *db, char **error, const call *calls, size_t count
 #ifdef _WIN32
 #define ENTRY_POINT __declspec(dllexport)
 #else
-#define ENTRY_POINT
+#define ENTRY_POINT __attribute__((visibility("default")))
 #endif
 
 /* SQLite unloads an extension that returns an error here, while the functions that were made before it stay with
