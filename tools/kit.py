@@ -5,16 +5,23 @@
                                        proves crates/NAME, a static library, and builds it into FILE
     tools/kit.py program NAME FILE     proves crates/NAME, a program, and builds it into FILE
     tools/kit.py built NAME            prints the libraries below crates/NAME that are built
+    tools/kit.py take                  takes what `rt ci` has proved of these sources on this machine
 
-`archive` and `program` first prove and build each library below the crate that is not built, or is older than its
-sources, and those above it; as many side by side as RT_JOBS says. TOOLCHAIN stands for the kit's folder of that name;
-TARGET and CPU are a target and a processor of its prover's `build`. What is proved for one target is kept in the
-folder KEPT for the next. BACKEND is llvm, or rattle, which is the kit's own compiler.
+A library is built where the sum beside it, the kit's own `stamp`, is that of its sources and of those below it. `rt ci`
+writes no such sum, and puts what was there before back over what it has proved; but the kit keeps that. So after
+`rt ci`, in this folder or in another one with the same files, `take` gives each crate its library, and the sum beside
+it, with which `rt check` and the scripts begin; and the programs.
+
+`archive` and `program` first prove and build each library below the crate that is not built, and those above it; as
+many side by side as RT_JOBS says. TOOLCHAIN stands for the kit's folder of that name; TARGET and CPU are a target and a
+processor of its prover's `build`. What is proved for one target is kept in the folder KEPT for the next. BACKEND is
+llvm, or rattle, which is the kit's own compiler.
 
 The command is a program and no library, so another kit may have other names inside. BORROWED lists each name that is
 used here, and a name that is missing ends the script with 2 before anything is tried.
 """
 import functools
+import hashlib
 import importlib.machinery
 import importlib.util
 import os
@@ -25,12 +32,12 @@ import subprocess
 import sys
 
 ROOT = pathlib.Path(__file__).resolve().parent.parent
-ADVICE = "`rt ci` builds all libraries; `rt lib` in crates/wkb builds those of wkb"
 # What is used of the command: of itself, of the module `rtlib` that it loads, and of a crate.
 BORROWED = {
-    "rt": "KIT Crate edited handles_of in_lanes need processors rtlib unread",
-    "rtlib": "Crate PARTS RATTLE files_of guarded",
-    "Crate": "allowed below count folder is_program link name rlib words",
+    "rt": "KIT Crate Kept edited handles_of in_lanes kit_sum need processors rtlib unread",
+    "rtlib": "Crate PARTS RATTLE crates_below files_of guarded lock sum_of",
+    "Kept": "give is_built key place",
+    "Crate": "allowed below count folder is_built is_program is_static link name rlib stamp words",
 }
 
 
@@ -59,6 +66,7 @@ def load():
     loader.exec_module(module)
     look(module, "rt")
     look(module.rtlib, "rtlib")
+    look(module.Kept, "Kept")
     # As the command itself does it for `rt ci`: crates below a crate are of the same class.
     module.rtlib.Crate, module.Crate.allowed = module.Crate, module.handles_of(str(ROOT))
     return module
@@ -94,20 +102,14 @@ def crate(name):
     return found
 
 
-def is_built(library):
-    """Whether a library is built, and stands in its place since its sources were last changed.
-
-    `rt ci` may take it from an earlier run, with the times of its files then. When it came here is told by the change
-    time of its folder, which nothing can set.
-    """
-    built = pathlib.Path(library.rlib)
-    sources = map(os.path.getmtime, rt.rtlib.files_of(library.folder))
-    return (built / "format").is_file() and max(sources) < built.stat().st_ctime
+def write_stamp(library, stamp):
+    """Put beside a library the sum of the sources that it was built from, as the command does."""
+    pathlib.Path(library.rlib).with_name("stamp").write_text(stamp, encoding="utf-8")
 
 
-def unbuilt(crates):
-    """The names of the libraries below these crates that are not built."""
-    return sorted({library.name for it in crates for library in it.below() if not is_built(library)})
+def sum_of(crate):
+    """A sum of all that the prover reads when it checks a crate: the kit, the crate's files, and those below it."""
+    return hashlib.sha256(f"{rt.kit_sum()} {crate.stamp()}".encode()).hexdigest()
 
 
 def copy_sources(crate, folder):
@@ -139,7 +141,7 @@ def archive(name, file, *build):
     """Prove a static library, and build it into the file. Return the status."""
     begin()
     library = crate(name)
-    if not prove_below(library):
+    if not prove_below([library]):
         return 1
     words = ("--toolchain", "--target", "--cpu", "--incremental", "--backend")
     given = dict(zip(words, build or (f"{rt.KIT}/toolchain", "x86_64-unknown-linux-gnu", "x86-64")))
@@ -158,8 +160,11 @@ def prove_anew(crate, built, given, _jobs):
     kind = ["--toolchain", f"{rt.KIT}/toolchain", "--backend", "llvm"] if crate.is_program else ["--statements"]
     shutil.rmtree(os.path.dirname(crate.rlib), ignore_errors=True)
     os.makedirs(os.path.dirname(to), exist_ok=True)
+    stamp = crate.stamp()
     ran = prove("build", crate, ["--jobs", "1", *kind, "-o", to], crate.folder)
     print(f"== {crate.name}\n{ran.stdout}", end="", flush=True)
+    if ran.returncode == 0 and not crate.is_program and stamp == crate.stamp():
+        write_stamp(crate, stamp)
     return ran.returncode == 0
 
 
@@ -167,28 +172,88 @@ def built_below(crate):
     """The libraries below a crate that are built, and stand on such alone, by their names."""
     built = {}
     for it in crate.below():
-        built[it.name] = is_built(it) and all(built[dep.name] for dep in it.below())
+        built[it.name] = it.is_built() and all(built[dep.name] for dep in it.below())
     return {name for name, is_here in built.items() if is_here}
 
 
-def prove_below(crate, *last):
-    """Prove the libraries below a crate that are not built, and then the last. Return whether all are proved."""
-    built, tasks = built_below(crate), {}
-    for it in [*crate.below(), *last]:
-        if it.name not in built:
-            below = [dep.name for dep in it.below() if dep.name not in built]
-            given_built = dict.fromkeys(built, True)
-            tasks[it.name] = below, it.count(rb"\n"), rt.need(it), functools.partial(prove_anew, it, given_built)
-    return all(rt.in_lanes(tasks).values())
+def prove_below(crates, last=()):
+    """Prove the libraries below some crates that are not built, and then the last. Return whether all are proved."""
+    every = {it.name: it for crate in crates for it in [*crate.below(), *last]}
+    held = rt.rtlib.lock([*every.values()])
+    built, tasks = set().union(*(built_below(it) for it in crates)), {}
+    for it in [it for it in every.values() if it.name not in built]:
+        needed = [dep.name for dep in it.below() if dep.name not in built]
+        given_built = dict.fromkeys(built, True)
+        tasks[it.name] = needed, it.count(rb"\n"), rt.need(it), functools.partial(prove_anew, it, given_built)
+    are_proved = all(rt.in_lanes(tasks).values())
+    for folder in held:
+        os.close(folder)
+    return are_proved
+
+
+def is_newer(library):
+    """Whether a library was built since its sources and those below it last changed, by times that nothing can set."""
+    built = pathlib.Path(library.rlib)
+    made_of = [*rt.rtlib.files_of(library.folder), *(it.rlib for it in library.below())]
+    return (built / "format").is_file() and max(os.stat(it).st_ctime for it in made_of) < built.stat().st_ctime
+
+
+def take_kept(kept, library):
+    """Give a library the files that the kit keeps of it, where it does. Return whether they stand in its place."""
+    key, stamp = kept.key(library), library.stamp()
+    # Where the kit has no folder to keep anything in, what `rt ci` has built is told by times.
+    if not kept.at and is_newer(library):
+        write_stamp(library, stamp)
+        return True
+    if not os.path.isdir(kept.place(library, False, key)):
+        return False
+    # The kit copies over a file that is there, and that may be one which it keeps.
+    shutil.rmtree(os.path.dirname(library.rlib), ignore_errors=True)
+    if kept.give(library, False, key):
+        write_stamp(library, stamp)
+    return library.is_built()
+
+
+def take_libraries(kept, libraries):
+    """Take the libraries that the kit keeps, the lowest first. Return the names of those that are built then."""
+    here, replaced = set(), set()
+    for it in libraries:
+        below = {dep.name for dep in it.below()}
+        before = rt.rtlib.sum_of(f"{it.rlib}/format")
+        is_taken = below <= here and take_kept(kept, it)
+        # One that was built over another library than now stands below it serves no one.
+        if is_taken or it.is_built() and below <= here - replaced:
+            here.add(it.name)
+        if is_taken and rt.rtlib.sum_of(f"{it.rlib}/format") != before:
+            replaced.add(it.name)
+        kept.is_built(it)
+    return here
+
+
+def take():
+    """Take what `rt ci` has proved, and print of which crates it is not here."""
+    crates = rt.rtlib.crates_below(str(ROOT))
+    libraries = [it for it in crates if not it.is_program and not it.is_static]
+    held = rt.rtlib.lock(crates)
+    kept = rt.Kept(crates)
+    here = take_libraries(kept, libraries)
+    for it in crates:
+        if it.is_program and {dep.name for dep in it.below()} <= here and kept.give(it, False, kept.key(it)):
+            here.add(it.name)
+    for folder in held:
+        os.close(folder)
+    lacking = [it.name for it in crates if not it.is_static and it.name not in here]
+    print(f"not proved by `rt ci` yet: {' '.join(lacking)}" if lacking else "each library and program is here")
+    return 1 if lacking else 0
 
 
 def program(name, file):
     """Prove a program, and the libraries below it that are not built, and build it into the file."""
     begin()
     whole = crate(name)
-    if not prove_below(whole, whole) or whole.link(f"out/{name}.o", f"out/{name}"):
+    if not prove_below([whole], [whole]) or whole.link(f"out/{name}.o", f"out/{name}.linked"):
         return 1
-    shutil.move(f"{whole.folder}/out/{name}", file)
+    shutil.move(f"{whole.folder}/out/{name}.linked", file)
     return 0
 
 
@@ -199,7 +264,7 @@ def built(name):
 
 
 if __name__ == "__main__":
-    verbs = {"built": (built, 3), "archive": (archive, 4, 8, 9), "program": (program, 4)}
+    verbs = {"built": (built, 3), "archive": (archive, 4, 8, 9), "program": (program, 4), "take": (take, 2)}
     verb, *lengths = verbs.get("".join(sys.argv[1:2]), (None,))
     if len(sys.argv) not in lengths:
         stop(__doc__)

@@ -14,17 +14,22 @@ class Absent(Exception):
     """Why the library can't be built."""
 
 
-@functools.lru_cache(maxsize=None)
-def wkb():
-    """The Python package over the library."""
+def build(goal):
+    """Make a goal of c/Makefile."""
     compiler = os.environ.get("CC", "cc")
     for program in (compiler, "make", "objcopy"):
         if not shutil.which(program):
             raise Absent(f"there is no {program}")
+    subprocess.run(["make", "-s", "-C", ROOT / "c", f"CC={compiler}", f"PYTHON={sys.executable}", goal], check=True)
+
+
+@functools.lru_cache(maxsize=None)
+def wkb():
+    """The Python package over the library."""
     if not pathlib.Path(sysconfig.get_path("include"), "Python.h").exists():
         raise Absent(f"there is no Python.h of {sys.executable}")
-    subprocess.run(["make", "-s", "-C", ROOT / "c", f"CC={compiler}", f"PYTHON={sys.executable}", "python"], check=True)
+    build("python")
     sys.path.insert(0, str(ROOT / "c/out/package"))
-    import wkb as package
+    import porchsorrel_wkb as package
 
     return package

@@ -1,4 +1,4 @@
-"""The tables of the pages that list calls: tools/api makes that of Rattle, tools/bindings those of other languages."""
+"""The tables of a page that lists calls, which tools/api makes."""
 import re
 import sys
 import textwrap

@@ -1,4 +1,5 @@
 """What the scripts share that judge pages and sources."""
+import functools
 import pathlib
 import re
 import shutil
@@ -11,7 +12,7 @@ PAGES = [
     for it in [*sorted(ROOT.glob("*.md")), *sorted(ROOT.glob("docs/*.md")), ROOT / "c/package/package.md"]
 ]
 # What a build makes, and what a checkout keeps beside its files.
-NOT_OURS = {".git", "out", "build", "__pycache__", "wkb.so", "wkb_postgres.o"}
+NOT_OURS = {".git", "out", "build", "target", "__pycache__", "wkb.so", "wkb_postgres.o"}
 SPAN = re.compile(r"`([^`\n]+)`")
 # What a command without `$ ` may begin with, besides a file.
 TOOLS = "cd cc ldconfig rt make printf python3 pip".split()
@@ -21,9 +22,15 @@ TOOLS = "cd cc ldconfig rt make printf python3 pip".split()
 PLANTED = {}
 
 
+@functools.lru_cache(maxsize=None)
+def original_of(path):
+    """The text of a file, by its path in the repository."""
+    return (ROOT / path).read_text(encoding="utf-8")
+
+
 def text_of(path):
     """The text of a file, by its path in the repository; in a control the text that is planted there."""
-    return PLANTED[str(path)] if str(path) in PLANTED else (ROOT / path).read_text(encoding="utf-8")
+    return PLANTED[str(path)] if str(path) in PLANTED else original_of(path)
 
 
 def texts(*patterns):
@@ -57,6 +64,16 @@ def ended(found, summary):
     for it in [*dict.fromkeys(found), summary]:
         print(it)
     return 1 if found else 0
+
+
+def program(crate, name=None):
+    """The path of a program that was built of a crate; None where it isn't there, or is older than a source."""
+    built = ROOT / f"crates/{crate}/out/{name or crate}"
+    below = subprocess.run([ROOT / "tools/crates", "below", crate], stdout=subprocess.PIPE, check=True).stdout.decode()
+    folders = [ROOT / f"crates/{it}/{part}" for it in below.split() for part in ("src", "specs", "proofs")]
+    sources = (file for folder in folders for file in folder.rglob("*.*t"))
+    is_new = built.is_file() and all(it.stat().st_mtime <= built.stat().st_mtime for it in sources)
+    return built if is_new else None
 
 
 def lines_of(page):

@@ -1,20 +1,24 @@
-"""The extensions of SQLite and PostgreSQL beside the Python package, over geometries with each byte changed, and cut at
-each byte.
+"""The extensions of SQLite and PostgreSQL beside the Python package, over geometries of each kind, dimension, byte
+order and form, and over some with each byte changed, and cut at each byte.
 
     python3 hostile.py sqlite PACKAGE EXTENSION    # tries all functions, also over the blobs of GeoPackages
     python3 hostile.py rows PACKAGE                # prints what the functions have to return, for postgres/run
 
-The results have to be those of the Python package, which is in the folder PACKAGE, for the same bytes.
+The results have to be those of the Python package, which is in the folder PACKAGE, for the same bytes, and dumps those
+of the program wkb_dump in the folder around it.
 """
+import itertools
 import os
+import re
 import sqlite3
 import struct
+import subprocess
 import sys
 
 sys.path.insert(0, sys.argv[2])
 
-import wkb
-from wkb import Form, Kind, Refused, Status
+import porchsorrel_wkb as wkb
+from porchsorrel_wkb import Form, Kind, Refused, Status
 
 SEEDS = [bytes.fromhex(it) for it in (
     "0101000000000000000000f03f0000000000000040",
@@ -32,10 +36,35 @@ SEEDS = [bytes.fromhex(it) for it in (
     "01ed0300000200000000000003ea0000000001ea03000000000000",
     "01ee0300000100000001eb03000000000000",
     "01070000000100000000000003ee0000000100000003eb00000000",
+    # A member of EWKB behind each kind with its coordinates, rings and members, in each dimension and either order;
+    # four collections deep; and behind members of another order than the geometry that has them.
+    "010700000003000000" "0103000000020000000100000000000000000000000000000000000000" "00000000"
+    "00000003ea00000001000000000000000000000000000000000000000000000000" "01010000a0e6100000" + 24 * "00",
+    "0000000007" "00000003" "0000000bbb00000002" "00000001" + 32 * "00" + "00000000"
+    "01d60700000100000001d307000000000000" "004000000200000000",
+    "010700000002000000" + 3 * "010700000001000000" + "0101000000" + 16 * "00" + "010200004000000000",
+    "00000003ec00000002" "01e9030000" + 24 * "00" + "0080000001" + 24 * "00",
 )]
+# Of each kind a geometry: its rings by how many coordinates they have, or its members, by their kinds; and what the
+# functions return of it: its kind, how many coordinates, members and parts it has.
+SHAPES = [
+    ((1, 1), ("point", 1, 0, 1)),
+    ((2, 2), ("linestring", 2, 0, 1)),
+    ((3, [4, 0, 5]), ("polygon", 9, 0, 4)),
+    ((4, [(1, 1), (1, 1)]), ("multipoint", 2, 2, 3)),
+    ((5, [(2, 3), (2, 0), (2, 1)]), ("multilinestring", 4, 3, 4)),
+    ((6, [(3, [4]), (3, []), (3, [0, 6])]), ("multipolygon", 10, 3, 7)),
+    ((7, [(7, [(1, 1), (4, [])]), (2, 2)]), ("geometrycollection", 3, 2, 5)),
+    ((7, []), ("geometrycollection", 0, 0, 1)),
+]
+# The dimensions by the thousands of their codes, with the flags of EWKB and the answers of wkb_ndims and wkb_zmflag.
+DIMENSIONS = [(0, 0, 2, 0), (1, 0x80000000, 3, 2), (2, 0x40000000, 3, 1), (3, 0xc0000000, 4, 3)]
+SRIDS = [0, 4326, 2**31, 2**32 - 1]
 ENVELOPES = [0, 32, 48, 48, 64]
 SIDES = [(axis, end) for axis in "xyzm" for end in ("min", "max")]
-QUERY = "select wkb_well_formed(?1), wkb_fault(?1), wkb_kind(?1), wkb_srid(?1), wkb_canonical(?1), wkb_ewkb(?1), " + (
+QUERY = (
+    "select wkb_well_formed(?1), wkb_fault(?1), wkb_kind(?1), wkb_srid(?1), wkb_ndims(?1), wkb_zmflag(?1), "
+    "wkb_num_coordinates(?1), wkb_num_members(?1), wkb_num_parts(?1), wkb_canonical(?1), wkb_ewkb(?1), "
     "wkb_ewkb(?1, 3857), wkb_same(?1, ?2), wkb_same(?2, ?1), wkb_same(?1, ?1), "
 ) + ", ".join(f"wkb_{axis}{end}(?1)" for axis, end in SIDES)
 # The functions that PostgreSQL doesn't have. An SRID of EWKB that needs 32 bits without a sign is an error of wkb_gpkg.
@@ -46,7 +75,8 @@ GEOPACKAGE = (
 
 
 def inputs():
-    """The seeds, those with a changed byte, cut ones, and those with a byte after them."""
+    """The shapes; the seeds, those with a changed byte, cut ones, and those with a byte after them."""
+    yield from (data for data, _ in shapes())
     for seed in SEEDS:
         yield from (seed, seed + b"\1")
         yield from (seed[:i] for i in range(len(seed)))
@@ -55,16 +85,55 @@ def inputs():
                 yield seed[:i] + bytes([other]) + seed[i + 1 :]
 
 
+def encoded(shape, order, codes, width, srid=None):
+    """A shape's encoding, its members in turn in the other byte order; `codes` is added to the code of each kind."""
+    kind, own = shape
+    numbers = [kind + codes] if srid is None else [kind + codes + 0x20000000, srid]
+    head = bytes([order == "<"]) + b"".join(struct.pack(f"{order}I", it) for it in numbers)
+    coordinates = lambda many: struct.pack(f"{order}{many * width}d", *range(many * width))
+    if kind == 1:
+        return head + coordinates(own)
+    if kind == 2:
+        return head + struct.pack(f"{order}I", own) + coordinates(own)
+    head += struct.pack(f"{order}I", len(own))
+    if kind == 3:
+        return head + b"".join(struct.pack(f"{order}I", it) + coordinates(it) for it in own)
+    return head + b"".join(encoded(it, "<>"[(order == "<") ^ i % 2], codes, width) for i, it in enumerate(own))
+
+
+def shapes():
+    """The encoding of each shape in each dimension, byte order and form, and what is in it."""
+    for (shape, (kind, *counts)), dimension, order in itertools.product(SHAPES, DIMENSIONS, "<>"):
+        thousands, flags, width, zmflag = dimension
+        forms = [(1000 * thousands, None), (flags, None), *((flags, srid) for srid in SRIDS)]
+        for codes, srid in forms:
+            yield encoded(shape, order, codes, width, srid), (kind, srid, width, zmflag, *counts)
+
+
 def place(text, part, offset):
-    return f"{text}, in part {part} at byte {offset}"
+    return f"{text}, at byte {offset} (part {part})"
+
+
+# What the codes from 8 on stand for, which the library doesn't read.
+UNREAD = (
+    "a circular string", "a compound curve", "a curve polygon", "a multi curve", "a multi surface", "a curve",
+    "a surface", "a polyhedral surface", "a TIN", "a triangle",
+)
+
+
+def named(code):
+    """A code that is out of range, with its name if it has one."""
+    dimension, kind = divmod(code & 0x1fffffff, 1000)
+    known = dimension < 4 and 8 <= kind < 8 + len(UNREAD)
+    return f" {code}, {UNREAD[kind - 8]}, which this library does not read" if known else f" {code}"
 
 
 def refusal_of(refused, before):
     """What is wrong with bytes that are refused, with so many bytes before them."""
     fault, text = refused.fault, refused.text
     if refused.status == Status.CODE_OUT_OF_RANGE:
-        text += f" {fault.code}"
-    end = f", which would end at {fault.end} of {fault.len}" if fault.end else ""
+        text += named(fault.code)
+    end = f": it needs {fault.end} bytes and has {fault.len}" if fault.end else ""
     return place(text, fault.part, before + fault.offset) + end
 
 
@@ -77,12 +146,19 @@ def fault_of(data, found, header):
     return None if found.size == len(data) else f"bytes after the geometry, from {len(header) + found.size} on"
 
 
+def counts(found):
+    """The answers of wkb_ndims, wkb_zmflag and the functions that count."""
+    has_z, has_m = found.dimension % 2, found.dimension // 2
+    members = found.count if found.kind >= Kind.MULTI_POINT else 0
+    return 2 + has_z + has_m, 2 * has_z + has_m, found.coordinates, members, found.parts
+
+
 def results(data, header=b"", srs_id=None):
     """What the functions return of a geometry with this header before it."""
     try:
         found = wkb.check(data)
     except Refused as refused:
-        return (0, refusal_of(refused, len(header))) + (None,) * (8 + len(SIDES))
+        return (0, refusal_of(refused, len(header))) + (None,) * (13 + len(SIDES))
     fault = fault_of(data, found, header)
     srid = found.srid if srs_id is None else srs_id
     form = Form.EWKB_WITH_SRID if srid is not None and (srid > 0 or srs_id is None) else Form.EWKB_WITHOUT_SRID
@@ -92,8 +168,8 @@ def results(data, header=b"", srs_id=None):
     sides = [side if getattr(box, axis).count else None for side, (axis, end) in zip(sides, SIDES)]
     same = int(wkb.same(data, SEEDS[0]))
     return (
-        int(fault is None), fault, found.kind.name.replace("_", "").lower(), srid, wkb.write(data), ewkb,
-        wkb.write(data, form=Form.EWKB_WITH_SRID, srid=3857), same, same, 1, *sides,
+        int(fault is None), fault, found.kind.name.replace("_", "").lower(), srid, *counts(found), wkb.write(data),
+        ewkb, wkb.write(data, form=Form.EWKB_WITH_SRID, srid=3857), same, same, 1, *sides,
     )
 
 
@@ -116,6 +192,15 @@ def geopackage(data, srs_id):
     return own, other, int(empty), *(side if count else None for side, count in zip(sides, counts))
 
 
+def dumps():
+    """What the program shows of each input, which skips empty lines."""
+    every = list(dict.fromkeys(it for it in inputs() if it))
+    lines = "".join(f"{it.hex()}\n" for it in every).encode()
+    ran = subprocess.run([f"{sys.argv[2]}/../wkb_dump", "-l"], input=lines, stdout=subprocess.PIPE)
+    shown = re.split(r"(?m)^line \d+\n", ran.stdout.decode())[1:]
+    return {b"": f"{'':10}refused: {results(b'')[1]}", **{it: text[:-1] for it, text in zip(every, shown)}}
+
+
 def headers():
     """Headers of GeoPackages, in either byte order, with each envelope, and their SRIDs."""
     for envelope, size in enumerate(ENVELOPES):
@@ -132,7 +217,11 @@ def try_sqlite(extension):
     database.load_extension(os.fspath(extension))
     # Python's call has no entry point before 3.12.
     database.execute("select load_extension(?, 'sqlite3_wkbst_init')", (os.fspath(extension),))
+    shown = dumps()
     for data in inputs():
+        dump = database.execute("select wkb_dump(?)", (data,)).fetchone()[0]
+        if dump != shown[data]:
+            sys.exit(f"{data.hex()}:\n{dump}\n  and by the program:\n{shown[data]}")
         for header, srs_id in [(b"", None), *headers()]:
             returned = database.execute(f"{QUERY}, {GEOPACKAGE}", (header + data, SEEDS[0])).fetchone()
             expected = results(data, header, srs_id) + geopackage(data, srs_id)
@@ -142,20 +231,29 @@ def try_sqlite(extension):
     print(f"sqlite: {count} blobs, whole, changed and cut, give what Python gives")
 
 
+def try_shapes():
+    """Compare what the package finds in the shapes with what is known of them."""
+    for data, expected in shapes():
+        if results(data)[2:9] != expected:
+            sys.exit(f"{data.hex()}:\n  expected {expected}\n  the package: {results(data)[2:9]}")
+
+
 def copied(value):
     """A value as COPY reads it."""
     if value is None:
         return "\\N"
-    return "\\\\x" + value.hex() if isinstance(value, bytes) else str(value)
+    return "\\\\x" + value.hex() if isinstance(value, bytes) else str(value).replace("\n", "\\n")
 
 
 def print_rows():
     """A line for each input and what the functions return of it, for the database's COPY."""
+    shown = dumps()
     for data in inputs():
-        print("\t".join(map(copied, (data, *results(data)))))
+        print("\t".join(map(copied, (data, *results(data), shown[data]))))
 
 
 def main():
+    try_shapes()
     if sys.argv[1] == "sqlite":
         try_sqlite(sys.argv[3])
     else:

@@ -16,6 +16,7 @@ enum { BYTES = POINT_SIZE * MANY, PARTS = BYTES / 4, WORDS = BYTES / 8 };
 static uint8_t bytes[BYTES], out[2 * LEVELS_SIZE * MANY], statuses[MANY];
 static wkb_part parts[PARTS];
 static wkb_box boxes[MANY];
+static wkb_found found[MANY];
 static double words[WORDS];
 static uint64_t ends[MANY], ring_ends[PARTS], single_ends[PARTS];
 static wkb_column column;
@@ -28,6 +29,7 @@ static void write_as(uint32_t order) {
 }
 
 static void check(void) { wkb_column_check(&column, statuses); }
+static void find(void) { wkb_column_found(&column, found, statuses); }
 static void bounds(void) { wkb_column_bounds(&column, boxes, statuses); }
 static void list(void) { wkb_column_parts(&column, parts, PARTS, ends, statuses); }
 static void write_little(void) { write_as(WKB_ORDER_LITTLE); }
@@ -53,6 +55,7 @@ typedef struct call {
   uint32_t kind; /* of levels; else 0 */
 } call;
 static const call CALLS[] = {{"`wkb_column_check`", check, 0},
+                             {"`wkb_column_found`", find, 0},
                              {"`wkb_column_bounds`", bounds, 0},
                              {"`wkb_column_parts`", list, 0},
                              {"`wkb_column_write`", write_little, 0},
@@ -158,11 +161,20 @@ static const uint64_t *ends_in(int order, int level, size_t rows) {
   return order == NONE ? NULL : made[level];
 }
 
-/* What good columns of a call take, and the hostile one that takes the most, in seconds for each number of rows. */
+/* What good columns of a call take, and the hostile one that takes the most, in seconds for each number of rows; and the
+ * most for each byte of data, offsets and levels that are there, in nanoseconds. */
 typedef struct cost {
-  double good[SIZES], most[SIZES];
+  double good[SIZES], most[SIZES], to_byte[SIZES];
   char what[SIZES][160];
 } cost;
+
+/* The bytes of the column, or of the levels, of a call. */
+static size_t input_size(const call *it) {
+  const size_t ends_there = (levels.ring_ends ? levels.rings : 0) + (levels.single_ends ? levels.singles : 0) +
+                            (levels.row_ends ? levels.rows : 0);
+  if (it->kind) return sizeof words[0] * levels.word_count + sizeof ends[0] * ends_there;
+  return column.size + column.offset_size * (column.rows + 1);
+}
 
 static double now(void) {
   struct timespec time;
@@ -187,7 +199,9 @@ static bool is_too_much(const cost *c, int size) { return c->most[size] > MOST *
 
 /* Times a hostile column, and keeps its time where none took longer. Returns whether it is too long. */
 static bool keep(cost *c, int size, const call *it, const char *of, const char *how, const char *nulls) {
-  double seconds = time_of(it, c->most[size]);
+  const double of_bytes = 1e-9 * (double)input_size(it), enough = c->to_byte[size] * of_bytes;
+  double seconds = time_of(it, enough < c->most[size] ? enough : c->most[size]);
+  if (seconds > enough) c->to_byte[size] = seconds / of_bytes;
   if (seconds > c->most[size]) {
     c->most[size] = seconds;
     snprintf(c->what[size], sizeof c->what[size], "%s%s%s", of, how, nulls);
@@ -221,7 +235,7 @@ static void fill_levels(const int orders[3], int nulls, size_t n, char what[], s
            ORDER_NAMES[orders[2]]);
 }
 
-/* Times levels in all orders, up to one that takes too long; of many rows those with one hostile level. */
+/* Times levels in all orders, up to one that takes too long; of many rows those with one hostile level, or no ends. */
 static void try_levels(const call *it, cost *c, int size) {
   static const int GOOD_ORDERS[3] = {GOOD, GOOD, GOOD};
   char what[128];
@@ -232,18 +246,20 @@ static void try_levels(const call *it, cost *c, int size) {
     const int orders[3] = {k % ORDERS, k / ORDERS % ORDERS, k / ORDERS / ORDERS % ORDERS};
     const int nulls = k / ORDERS / ORDERS / ORDERS;
     const int hostile = (orders[0] != GOOD) + (orders[1] != GOOD) + (orders[2] != GOOD);
-    if (size > 0 && hostile > 1) continue;
+    const bool has_no_ends = orders[0] == NONE && orders[1] == NONE && orders[2] == NONE;
+    if (size > 0 && hostile > 1 && !has_no_ends) continue;
     fill_levels(orders, nulls, ROWS[size], what, sizeof what);
     if (keep(c, size, it, what, "", NULL_NAMES[nulls])) return;
   }
 }
 
-/* Prints the row of a call: nanoseconds by the byte of rows, or of levels. Returns whether a column took too long. */
+/* Prints the row of a call: nanoseconds by the byte of good columns, and the most. Returns whether a column took too
+ * long. */
 static bool print_row(const call *it, const cost *c) {
-  double to_byte = 1e9 / (it->kind ? LEVELS_SIZE : POINT_SIZE);
+  double to_byte = 1e9 / (it->kind ? LEVELS_SIZE : POINT_SIZE + (int)sizeof offsets[0]);
   printf("| %s |", it->name);
   for (int size = 0; size < SIZES; size++) printf(" %.2f |", c->good[size] * to_byte / (double)ROWS[size]);
-  for (int size = 0; size < SIZES; size++) printf(" %.2f |", c->most[size] * to_byte / (double)ROWS[size]);
+  for (int size = 0; size < SIZES; size++) printf(" %.2f |", c->to_byte[size]);
   printf(" %s |\n", c->what[SIZES - 1]);
   for (int size = 0; size < SIZES; size++)
     if (is_too_much(c, size)) printf("TOO LONG, over %zu rows: %s\n", ROWS[size], c->what[size]);

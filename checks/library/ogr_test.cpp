@@ -1,6 +1,6 @@
 // ogr_test N: N random geometries of OGR in every kind, dimension, byte order and variant. Their words, bounds and
 // coordinates as this library has them, and what it collects of their members, are compared with OGR's own, in order
-// and by their bits.
+// and by their bits; and the levels of as many columns with arrays of GeoArrow that are built of OGR's geometries.
 #include "wkb.hpp"
 
 #include <array>
@@ -178,6 +178,131 @@ bool has_coordinates_of(const std::vector<std::byte> &row, wkb_dim dimension, co
          are_same(got.single_ends, expected.single_ends);
 }
 
+// Arrays of GeoArrow's format as a builder makes them, one row after another: the words, and the offsets of each list
+// from the outermost on. A list gets an offset when its row or item is at its end, and a null row adds nothing to its
+// items. OGR 3.6 makes no such arrays itself.
+struct arrays {
+  wkb_kind kind;
+  std::size_t width;
+  std::vector<double> words{};
+  std::array<std::vector<std::uint64_t>, 3> lists{{{0}, {0}, {0}}};
+
+  void end(std::size_t list, std::uint64_t items) { lists[list].push_back(items); }
+  std::uint64_t items_of(std::size_t list) const { return lists[list].size() - 1; }
+  std::uint64_t coordinates() const { return words.size() / width; }
+
+  void add(const OGRPoint &point) {
+    levels one;
+    one.add(point);
+    words.insert(words.end(), one.words.begin(), one.words.end());
+  }
+  void add(const OGRSimpleCurve &curve) {
+    levels one;
+    one.add(curve);
+    words.insert(words.end(), one.words.begin(), one.words.end());
+  }
+  void add(const OGRPolygon &polygon, std::size_t list) {
+    for (const OGRLinearRing *ring : polygon) add(*static_cast<const OGRSimpleCurve *>(ring)), end(list, coordinates());
+  }
+  void add(const OGRGeometryCollection &members) {
+    for (const OGRGeometry *member : members) {
+      if (kind == WKB_KIND_MULTI_POINT) add(*member->toPoint());
+      if (kind == WKB_KIND_MULTI_LINE_STRING)
+        add(*static_cast<const OGRSimpleCurve *>(member->toLineString())), end(1, coordinates());
+      if (kind == WKB_KIND_MULTI_POLYGON) add(*member->toPolygon(), 2), end(1, items_of(2));
+    }
+  }
+  void add_row(const OGRGeometry *row) {
+    if (kind == WKB_KIND_POINT) {
+      if (row) add(*row->toPoint());
+      else words.resize(words.size() + width, std::nan(""));
+      return;
+    }
+    if (row && kind == WKB_KIND_LINE_STRING) add(*static_cast<const OGRSimpleCurve *>(row->toLineString()));
+    if (row && kind == WKB_KIND_POLYGON) add(*row->toPolygon(), 1);
+    if (row && kind >= WKB_KIND_MULTI_POINT) add(*row->toGeometryCollection());
+    end(0, kind == WKB_KIND_LINE_STRING || kind == WKB_KIND_MULTI_POINT ? coordinates() : items_of(1));
+  }
+};
+
+// The ends of a level behind a 0.
+std::vector<std::uint64_t> behind_zero(const std::vector<std::uint64_t> &ends) {
+  std::vector<std::uint64_t> offsets{0};
+  offsets.insert(offsets.end(), ends.begin(), ends.end());
+  return offsets;
+}
+
+// What wkb.h says of the offsets of each kind.
+bool are_lists_of(const arrays &expected, const wkb::row_coordinates &it) {
+  const std::vector<std::uint64_t> rows = behind_zero(it.row_ends), singles = behind_zero(it.single_ends),
+                                   rings = behind_zero(it.ring_ends);
+  std::vector<std::uint64_t> first;
+  const bool is_flat = expected.kind == WKB_KIND_LINE_STRING || expected.kind == WKB_KIND_MULTI_POINT;
+  for (const std::uint64_t row : rows) first.push_back(is_flat ? rings[singles[row]] : singles[row]);
+  if (expected.kind >= WKB_KIND_MULTI_LINE_STRING) first = rows;
+  if (!are_same(first, expected.lists[0]) || !are_same(it.words, expected.words)) return false;
+  if (is_flat) return true;
+  if (expected.kind != WKB_KIND_MULTI_POLYGON) return are_same(rings, expected.lists[1]);
+  return are_same(singles, expected.lists[1]) && are_same(rings, expected.lists[2]);
+}
+
+// Of points: a coordinate a row, of not-a-numbers where there is no point.
+bool are_points_of(const arrays &expected, const wkb::row_coordinates &it) {
+  std::vector<double> all;
+  const auto width = static_cast<std::ptrdiff_t>(expected.width);
+  auto next = it.words.begin();
+  for (const std::uint8_t status : it.statuses) {
+    if (status != WKB_STATUS_OK) all.resize(all.size() + expected.width, std::nan(""));
+    else all.insert(all.end(), next, next + width), next += width;
+  }
+  return are_same(all, expected.words);
+}
+
+// The arrays as levels to read are written as the rows are.
+bool are_read(const arrays &from, const wkb_column &column, wkb_dim dimension) {
+  const wkb_options options{WKB_ORDER_LITTLE, WKB_FORM_ISO, 0};
+  const auto ends = [&](std::size_t list) { return std::span<const std::uint64_t>(from.lists[list]).subspan(1); };
+  wkb::levels levels{from.words};
+  levels.validity = column.validity;
+  if (from.kind >= WKB_KIND_MULTI_POINT) levels.row_ends = ends(0);
+  if (from.kind == WKB_KIND_POLYGON) levels.single_ends = ends(0);
+  if (from.kind == WKB_KIND_MULTI_POLYGON) levels.single_ends = ends(1);
+  if (from.kind == WKB_KIND_LINE_STRING) levels.ring_ends = ends(0);
+  if (from.kind == WKB_KIND_POLYGON || from.kind == WKB_KIND_MULTI_LINE_STRING) levels.ring_ends = ends(1);
+  if (from.kind == WKB_KIND_MULTI_POLYGON) levels.ring_ends = ends(2);
+  const wkb::row_encodings ours = wkb::rows_from_coordinates(levels, from.kind, dimension, options);
+  const wkb::row_encodings rows = wkb::write_rows(column, options);
+  return are_same(ours.data, rows.data) && are_same(ours.ends, rows.ends) && are_same(ours.statuses, rows.statuses);
+}
+
+// The coordinates of a column of one kind, with null rows, beside arrays that are built of OGR's geometries.
+bool has_arrays(wkb_kind kind, bool has_z, bool has_m) {
+  const auto dimension = static_cast<wkb_dim>((has_z ? 1 : 0) + (has_m ? 2 : 0));
+  arrays expected{kind, wkb::width_of(dimension)};
+  std::vector<std::byte> data;
+  std::vector<std::int64_t> offsets{0};
+  std::uint8_t validity = 0;
+  const int rows = below(9);
+  for (int i = 0; i < rows; i++) {
+    const std::unique_ptr<OGRGeometry> row =
+        below(3) == 0 ? nullptr : make(static_cast<int>(kind), has_z, has_m, 0);
+    if (row) {
+      const std::size_t before = data.size();
+      data.resize(before + row->WkbSize());
+      row->exportToWkb(below(2) == 0 ? wkbXDR : wkbNDR, reinterpret_cast<unsigned char *>(data.data() + before),
+                       wkbVariantIso);
+      validity = static_cast<std::uint8_t>(validity | 1u << i);
+    }
+    offsets.push_back(static_cast<std::int64_t>(data.size()));
+    expected.add_row(row.get());
+  }
+  wkb_column column = wkb::column(data, std::span<const std::int64_t>(offsets));
+  column.validity = &validity;
+  const wkb::row_coordinates it = wkb::coordinates_of_rows(column, dimension);
+  return (kind == WKB_KIND_POINT ? are_points_of(expected, it) : are_lists_of(expected, it)) &&
+         are_read(expected, column, dimension);
+}
+
 // The members of a geometry as rows, in either order, are collected into what OGR has of the whole.
 bool is_collected(const OGRGeometryCollection &whole, wkb_kind kind, wkb_dim dimension) {
   std::vector<std::byte> rows, expected(whole.WkbSize());
@@ -220,7 +345,8 @@ int main(int argc, char **argv) {
     const bool has_members = whole.kind() >= WKB_KIND_MULTI_POINT;
     const bool is_right = are_same(block, expected.words) && are_same(each, expected.words) &&
                           has_bounds_of(*geometry, row, expected) && has_coordinates_of(row, dimension, expected) &&
-                          (!has_members || is_collected(*geometry->toGeometryCollection(), whole.kind(), dimension));
+                          (!has_members || is_collected(*geometry->toGeometryCollection(), whole.kind(), dimension)) &&
+                          has_arrays(static_cast<wkb_kind>(1 + i % 6), has_z, has_m);
     if (!is_right && wrong++ < 5) std::printf("wrong: row %ld, kind %u\n", i, whole.kind());
     words += expected.words.size();
   }

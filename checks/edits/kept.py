@@ -1,0 +1,44 @@
+"""What was found earlier on this machine, one file for each sum of all that it stands on."""
+import hashlib
+import json
+import os
+import pathlib
+import tempfile
+import time
+
+FOLDER = pathlib.Path(os.environ.get("XDG_CACHE_HOME") or "~/.cache").expanduser() / "porchsorrel/edits"
+# For how many days it is kept after its last use.
+DAYS = 60
+
+
+def key_of(*parts):
+    """The sum of all that something stands on."""
+    return hashlib.sha256(repr(parts).encode()).hexdigest()
+
+
+def read(key):
+    """What is kept, or None; a file that isn't whole holds nothing."""
+    try:
+        found = json.loads((FOLDER / key).read_text(encoding="utf-8"))
+        os.utime(FOLDER / key)
+        return found["found"] if found["key"] == key else None
+    except (OSError, ValueError, KeyError, TypeError):
+        return None
+
+
+def write(key, found):
+    """Keep something, where there is room for it."""
+    try:
+        FOLDER.mkdir(parents=True, exist_ok=True)
+        with tempfile.NamedTemporaryFile("w", dir=FOLDER, delete=False, encoding="utf-8") as it:
+            json.dump({"key": key, "found": found}, it)
+        os.replace(it.name, FOLDER / key)
+    except OSError:
+        pass
+
+
+def drop_old():
+    """Remove what was not used for long."""
+    for it in FOLDER.glob("*"):
+        if it.stat().st_mtime < time.time() - DAYS * 86400:
+            it.unlink(missing_ok=True)

@@ -1,0 +1,179 @@
+"""Compares what docs/BYTES.md shows and works out with examples/polygon_with_hole.hex and with the C library.
+
+Each line of a dump has the bytes of the example at its place, and a number that they are: of one or four bytes an
+integer, of eight a double, all little endian. The lines follow one another without a gap, but for coordinates that are
+left out, as many as are said. test_commands sees that `wkb_dump` prints these lines. The codes at a glance are those
+that the library reads and writes, the lengths of the two forms those that it writes, and the place of the refusal is
+where it reports one. The drawing of a point is read by the library, too. The library is built first.
+"""
+import re
+import struct
+
+from checks import judge
+from library import wkb
+from pages import text_of
+
+PAGE, EXAMPLE = "docs/BYTES.md", "examples/polygon_with_hole.hex"
+DUMP = re.compile(r"(?m)^    \$ .*wkb_dump.*\n((?:    .+\n)+)")
+LINE = re.compile(r"^ +(\d+)  +((?:[0-9a-f]{2} )*[0-9a-f]{2}) {2,}(.*)$")
+LEFT_OUT = re.compile(r"^ +\.\.  (\d+) more coordinates?$")
+COORDINATE = 16
+NUMBER = re.compile(r"0x[0-9a-f]+|\d+(?:\.\d+)?")
+SRID_FLAG = 0x20000000
+
+
+def example():
+    """The bytes of the example."""
+    return bytes.fromhex(text_of(EXAMPLE))
+
+
+def number_in(text):
+    """The number that a text says first."""
+    found = NUMBER.search({"big endian": "0", "little endian": "1"}.get(text, text))
+    return None if not found else int(found[0], 16) if "x" in found[0] else float(found[0])
+
+
+def number_of(data):
+    """The number that some bytes are."""
+    return struct.unpack("<d", data)[0] if len(data) == 8 else int.from_bytes(data, "little")
+
+
+def wrong_dump(lines, data):
+    """The lines of a dump that are not so in the bytes, or leave a gap."""
+    at = 0
+    for line in lines:
+        found, left_out = LINE.match(line), LEFT_OUT.match(line)
+        if left_out:
+            at += COORDINATE * int(left_out[1])
+        if not found:
+            continue
+        place, these, said = int(found[1]), bytes.fromhex(found[2]), found[3]
+        is_cut = data[place:] == these and said == f"cut off: {len(these)} of 8 bytes"
+        if data[place : place + len(these)] != these or not is_cut and number_in(said) != number_of(these):
+            yield f"{PAGE}: at byte {place} stands {data[place:place + len(these)].hex(' ')}, and not {said}"
+        if place != at:
+            yield f"{PAGE}: what is before byte {place} ends at byte {at}"
+        at = place + len(these)
+    if at != len(data):
+        yield f"{PAGE}: a dump ends at byte {at}, and not at {len(data)}"
+
+
+def wrong_lines():
+    """What is wrong with the two dumps: of the example, and of its first bytes."""
+    dumps = [it.splitlines() for it in DUMP.findall(text_of(PAGE))]
+    if len(dumps) != 2:
+        return [f"{PAGE} has {len(dumps)} dumps, and not two"]
+    end = f"{len(example()):8d}  the end"
+    if dumps[0][-1] != f"    {end}":
+        return [f"{PAGE}: the dump of the example doesn't end with {end!r}"]
+    return [*wrong_dump(dumps[0], example()), *wrong_dump(dumps[1], example()[: cut_at()])]
+
+
+def wrong_rings():
+    """What is wrong with where the dump of the example has rings."""
+    drawn = re.findall(r"- ring (\d), (\w+)\n +(\d+) ", DUMP.findall(text_of(PAGE))[0])
+    rings = wkb().parts(example())[1:]
+    names = ["exterior"] + ["interior"] * (len(rings) - 1)
+    meant = [(str(at), name, str(ring.begin)) for at, (name, ring) in enumerate(zip(names, rings))]
+    if drawn != meant:
+        yield f"{PAGE}: the rings are {meant}"
+
+
+def cut_at():
+    """How many bytes of the example are left in the refusal."""
+    return int((re.search(r"cut off after (\d+) bytes", text_of(PAGE)) or "00")[1])
+
+
+def wrong_codes():
+    """The codes at a glance that the library doesn't read and write so."""
+    heads = re.search(r"(?m)^ +(Xy +.*)$", text_of(PAGE))[1].split()
+    for name, form in ("ISO", wkb().Form.ISO), ("EWKB", wkb().Form.EWKB_WITHOUT_SRID):
+        row = re.search(rf"(?m)^    {name} +(.*)$", text_of(PAGE))[1]
+        codes = [int(it, 0) for it in re.findall(r"0x[0-9a-f]+|(?<= )\d+(?= )|^\d+", row)]
+        for head, code in zip(heads, codes):
+            polygon = struct.pack("<BII", 1, code, 0)
+            try:
+                found, written = wkb().check(polygon), wkb().write(polygon, form=form)
+            except wkb().Refused:
+                found, written = None, b""
+            if written != polygon or (found.kind.name, found.dimension.name) != ("POLYGON", head.upper()):
+                yield f"{PAGE}: {code:#x} is not the {name} code of an {head} polygon"
+    with_srid = wkb().write(struct.pack("<BII", 1, 3, 0), form=wkb().Form.EWKB_WITH_SRID, srid=0)
+    if number_in(row.rpartition("an SRID")[2]) != int.from_bytes(with_srid[1:5], "little") - 3:
+        yield f"{PAGE}: with an SRID the code is {with_srid[1:5].hex()}"
+
+
+def wrong_sizes():
+    """What is wrong with the lengths of the two forms."""
+    forms = [len(wkb().write(example(), form=form)) for form in (wkb().Form.ISO, wkb().Form.EWKB_OWN_SRID)]
+    said = re.search(r"so (\d+) bytes\s+instead of (\d+)", text_of(PAGE))
+    if not said or [int(it) for it in said.groups()] != forms:
+        yield f"{PAGE}: ISO and EWKB have {forms} bytes"
+
+
+def wrong_refusal():
+    """What is wrong with the place of the refusal, once the example is cut off where the page says."""
+    cut = cut_at()
+    said = re.search(r"\*: (\d+) - (\d+) = (\d+), the\s+interior ring", text_of(PAGE))
+    try:
+        wkb().check(example()[:cut])
+        yield f"{PAGE}: the example is not refused after {cut} bytes"
+    except wkb().Refused as refused:
+        fault = refused.fault
+        meant = [cut, fault.len, fault.offset]
+        if not said or [int(it) for it in said.groups()] != meant or fault.part != 2:
+            yield f"{PAGE}: refused is part {fault.part}, {fault.len} bytes before the end, at byte {fault.offset}"
+
+
+def wrong_point():
+    """What is wrong with the drawing of a point."""
+    drawn = re.search(r"(?m)^    ([0-9a-f]{2}  [0-9a-f ]+?) +(\w+) \((.*)\)$\n(?:^    .*\n)+", text_of(PAGE))
+    data, below = bytes.fromhex(drawn[1]), drawn[0]
+    code, order = re.search(r"code (\d+)", below), re.search(r"(\w+) endian", below)
+    words = re.findall(r"[xy] = ([\d.]+)", below)
+    try:
+        found = wkb().check(data)
+        meant = found.kind.name, found.order.name.lower(), [*wkb().coordinates(data, found)[0]]
+    except wkb().Refused as refused:
+        meant = str(refused), "", []
+    said = [drawn[2], order and order[1], [float(it) for it in words]]
+    if [*meant] != said or meant[2] != [float(it) for it in drawn[3].split()] or not code or int(code[1]) != data[1]:
+        yield f"{PAGE}: its drawing is {meant}"
+
+
+def wrong():
+    """All that is wrong with the page."""
+    return [*wrong_lines(), *wrong_rings(), *wrong_codes(), *wrong_sizes(), *wrong_refusal(), *wrong_point()]
+
+
+class Bytes(judge.Judge):
+    """The example is as docs/BYTES.md shows it."""
+
+    controls = [
+        (PAGE, "   9  02 00 00 00 ", "   9  02 00 00    ", "before byte 13 ends at byte 12"),
+        (PAGE, "   9  02", "   8  02", "at byte 8"),
+        (PAGE, "      little endian\n", "      big endian\n", "at byte 0"),
+        (PAGE, "x 10\n", "x 11\n", "at byte 33"),
+        (PAGE, "05 00 00 00 ", "06 00 00 00 ", "at byte 13"),
+        (PAGE, "SRID 4326\n", "SRID 4327\n", "at byte 5"),
+        (PAGE, "- ring 1, interior", "- ring 1, exterior", "the rings are"),
+        (PAGE, "..  2 more", "..  3 more", "before byte 81 ends at byte 97"),
+        (PAGE, "cut off: 4 of", "cut off: 3 of", "at byte 109"),
+        (PAGE, " 181  the end", " 182  the end", "doesn't end with"),
+        (PAGE, "0x40000003", "0x20000003", "is not the EWKB code"),
+        (PAGE, "3      1003 ", "3      1002 ", "is not the ISO code"),
+        (PAGE, "SRID + 0x2", "SRID + 0x1", "with an SRID the code"),
+        (PAGE, "so 177 bytes", "so 173 bytes", "ISO and EWKB have"),
+        (PAGE, "113 - 16 = 97", "113 - 18 = 95", "refused is part 2"),
+        (PAGE, "cut off after 113", "cut off after 181", "is not refused after 181"),
+        (PAGE, "POINT (1 2)", "POINT (2 1)", "its drawing is"),
+        (PAGE, "y = 2.0", "y = 3.0", "its drawing is"),
+    ]
+    is_apart = True
+
+    @classmethod
+    def setUpClass(cls):
+        judge.need_library()
+
+    def wrong(self):
+        return wrong()

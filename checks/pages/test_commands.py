@@ -1,0 +1,273 @@
+"""Runs each command that the pages show, and compares what it prints; looks up the rest.
+
+A command is an indented line that begins with `$ `; the lines below it, up to an empty one or the next command, are
+what it has to print. It has to end with 0, or with 1 where one of the last two begins with `refused`. They run in a
+folder of their own, where `wkb_hex`, `examples` and `c` are symbolic links and some files lie ready. Those that name
+the program are skipped where it isn't built of today's sources: they would prove it first, for many minutes. Those that
+name `wkb_dump` are skipped where that can't be built.
+
+A command without `$ ` isn't run, but for those that run the program: a page has what they print in backticks. The files
+that such a command names have to be there. Code between lines ```rust, ```antt, ```c, ```cpp, ```python or ```sql
+and ``` has to be, piece by piece, in the SOURCES below, which are compiled and run elsewhere. An edit or a fault that a
+page shows has to be one. What a page says to be printed is in some source. docs/API.md is
+the page that tools/api makes.
+"""
+import functools
+import os
+import pathlib
+import re
+import sqlite3
+import subprocess
+import tempfile
+
+from checks import judge
+from pages import PAGES, ROOT, commands, files, program, text_of, texts
+
+PROGRAM = program("wkb_hex")
+POINT = "0101000000000000000000f03f0000000000000040"
+BIG_POINT = "00000000013ff00000000000004000000000000000"
+# A collection of one member and an empty one, little endian and big endian, and the stack that they are read in.
+COLLECTIONS = "010700000001000000", "010700000000000000"
+BIG_COLLECTIONS = "000000000700000001", "000000000700000000"
+STACK = 160
+# Where the code that a page shows has to be.
+SOURCES = {
+    "rust": ["crates/wkb_key/src/*.rt", "crates/wkb_c[al]*s/src/*.rt", "crates/wkb/src/**/*.rt", "rust/src/*.rs",
+             "rust/**/README.md"],
+    "antt": ["crates/wkb_clients/proofs/**/*.antt"],
+    "c": ["c/examples/*.c", "README.md"],
+    "cpp": ["c/examples/example.cpp"],
+    "python": ["c/examples/*.py", "python/**/*.py", "examples/*.py", "README.md"],
+    "sql": ["sqlite/queries.sql", "postgres/queries.sql", "postgres/planner.sql", "docs/START_SQL.md", "README.md"],
+}
+# The pages that scripts make.
+MADE = [("tools/api", "docs/API.md")]
+# Whose examples are proved nowhere.
+SKETCHED = ["crates/wkb/src/check.rt", "crates/wkb/src/lib.rt"]
+LINE = "010200000002000000" + 2 * POINT[10:]
+# The program as such commands run it: in its folder, or at the top.
+RUNS = re.compile(r"\(cd crates/wkb_hex && rt try -- (\S+) < \.\./\.\./(\S+)\)|\./wkb_hex (\S+) < (\S+)$")
+# Lines that pages say the kit prints, and that of a run of `rows` without proof.
+OF_THE_KIT = {"no holes", "1 rows, 0 differ", "failed to fill whole buffer", "unexpected end of file"}
+# A page for controls.
+PAGE = "docs/COST.md"
+
+
+def make_files(cls):
+    """The folder of a class of tests, with what the commands read: a file of raw bytes, rows of hex, a GeoPackage."""
+    around = tempfile.TemporaryDirectory()
+    cls.addClassCleanup(around.cleanup)
+    # A command may make a folder beside this one (`../mine`).
+    cls.folder = folder = pathlib.Path(around.name) / "porchsorrel"
+    folder.mkdir()
+    for name in ("wkb_hex", "examples", "c"):
+        os.symlink(ROOT / name, folder / name)
+    (folder / "point.wkb").write_bytes(bytes.fromhex(POINT))
+    (folder / "rows.hex").write_text(f"{POINT}\n{BIG_POINT}\n\n", encoding="utf-8")
+    # The version, then flags: little endian, an envelope of four numbers; the SRID; the envelope.
+    header = b"GP\0\3" + (4326).to_bytes(4, "little") + bytes(32)
+    roads = sqlite3.connect(folder / "roads.gpkg")
+    roads.execute("create table roads (geom blob)")
+    roads.execute("insert into roads values (?)", (header + bytes.fromhex(LINE),))
+    roads.commit()
+    roads.close()
+
+
+def difference(where, expected, status, ran):
+    """What is wrong with a run, in a list: that it printed something else, or ended otherwise."""
+    if ran.stdout == expected.encode() and ran.returncode == status:
+        return []
+    printed = ran.stdout.decode(errors="replace")
+    return [f"{where}:\n  expected {expected!r} and {status}\n  printed  {printed!r} and {ran.returncode}"]
+
+
+def run_program(word, text, **how):
+    """A run of the program with a word on a text."""
+    return subprocess.run([PROGRAM, *word], input=text.encode(), stdout=subprocess.PIPE, **how)
+
+
+@functools.lru_cache(maxsize=None)
+def run_command(folder, command):
+    """A run of a command of a page, once."""
+    how = {"cwd": folder, "stdin": subprocess.DEVNULL, "stdout": subprocess.PIPE}
+    return subprocess.run(["bash", "-c", command], **how)
+
+
+def differing_commands(folder, is_chosen):
+    """The commands on the pages that print something else than the pages show, of those that are chosen."""
+    every = [(page, *it) for page in PAGES for it in commands(page) if it[2] is not None]
+    for page, number, command, expected in (it for it in every if is_chosen(it[2])):
+        status = 1 if any(it.lstrip().startswith("refused") for it in expected[-2:]) else 0
+        printed = "".join(f"{it}\n" for it in expected)
+        yield from difference(f"{page}:{number}: {command}", printed, status, run_command(folder, command))
+
+
+def runs():
+    """(what, expected, status, run) of each run of the program that no page shows."""
+    named = subprocess.run([b"\xff", b"be"], executable=PROGRAM, input=POINT.encode(), stdout=subprocess.PIPE)
+    yield "a name that is no text", f"{BIG_POINT}\n", 0, named
+    # The deepest input that is accepted, and one collection more: 128 times an entry for one member, which is begun.
+    deepest, big = (one * 127 + last for one, last in (COLLECTIONS, BIG_COLLECTIONS))
+    for word, text, expected, status in [
+        ("ewkb-be", deepest, big, 0),
+        ("same", f"{deepest}\n{big}", "same", 0),
+        ("cost", COLLECTIONS[0] + deepest, "refused turns 128 slots 128", 1),
+    ]:
+        command = ["bash", "-c", f'ulimit -s {STACK} && exec "$0" "$@"', PROGRAM, word]
+        ran = subprocess.run(command, input=text.encode(), stdout=subprocess.PIPE)
+        yield f"{word} in {STACK} KB of stack", f"{expected}\n", status, ran
+    # The script `wkb_hex` prints the usage itself, so that only this reaches the program without a word.
+    usage = subprocess.run([ROOT / "wkb_hex"], stdin=subprocess.DEVNULL, stdout=subprocess.PIPE).stdout.decode()
+    yield "no word", usage, 2, run_program([], "")
+    yield "two words", usage, 2, run_program(["le", "be"], POINT)
+
+
+@functools.lru_cache(maxsize=None)
+def code_of(language):
+    """The sources in which the code of a language has to be, and their comments, in which examples stand, too."""
+    code = "\n".join(texts(*SOURCES[language]).values())
+    return code + "\n" + re.sub(r"(?m)^ *//[/!] ?", "", code)
+
+
+def lost_pieces(page):
+    """The pieces of the code on a page, from one empty line to the next, that are in no source; and lost edits."""
+    for language in SOURCES:
+        blocks = text_of(page).split(f"```{language}\n")[1:]
+        for piece in (piece for block in blocks for piece in block.split("```")[0].strip("\n").split("\n\n")):
+            if piece not in code_of(language):
+                yield f"{page}: no source has\n{piece}"
+    for block in re.findall(r"(?m)^    shows: .*\n(?:    .*\n)+", text_of(page)):
+        if re.sub(r"(?m)^    ", "", block) not in texts("checks/edits/*/*.edit", "checks/faults/*.fault").values():
+            yield f"{page}: no edit and no fault is\n{block}"
+
+
+def lost_examples():
+    """The examples in comments of the library that no proved code has, however it is indented."""
+    proved = flat("\n".join(texts("crates/wkb_cases/src/*.rt").values()))
+    for name, text in texts("crates/wkb/src/**/*.rt").items():
+        comment = re.sub(r"(?m)^//! ?", "", "\n".join(re.findall(r"(?m)^//!.*", text)))
+        for example in comment.split("```")[1::2]:
+            if flat(example.strip("\n")) not in proved and str(name) not in SKETCHED:
+                yield f"{name}: no proved code has\n{example}"
+
+
+def flat(text):
+    return re.sub(r"(?m)^ +", "", text)
+
+
+def lost_commands(page):
+    """What is wrong with the commands without `$ `: a file that isn't there, or another line than the page has."""
+    folder = ROOT / "c" if page == "c/package/package.md" else ROOT
+    targets = text_of("c/Makefile") + text_of("c/package/dist")
+    for number, command, expected in commands(page):
+        if expected is not None:
+            continue
+        for word in re.findall(r"(?:crates|c|docs|examples|tools|bench|edits)/[\w./]+", command):
+            if "/out/" not in word and not (folder / word).exists() and not (ROOT / word).exists():
+                yield f"{page}:{number}: no file {word}"
+        for target in re.findall(r"\bmake (?:-C \w+ )?([a-z]+)\b", command):
+            if not re.search(rf"(?m)^\.?[\w ]*\b{target}\b[\w ]*:", targets):
+                yield f"{page}:{number}: no Makefile has {target}"
+
+
+def lost_runs(page):
+    """The commands without `$ ` that run the program, and print what the page doesn't have."""
+    for number, command, expected in commands(page):
+        ran = RUNS.search(command) if expected is None else None
+        if ran:
+            word, file = [it for it in ran.groups() if it]
+            text = text_of(file) if (ROOT / file).is_file() else ""
+            printed = run_program([word], text).stdout.decode().strip()
+            if not text or f"`{printed}`" not in text_of(page):
+                yield f"{page}:{number}: {command}\n  prints {printed!r}, which the page doesn't have"
+
+
+@functools.lru_cache(maxsize=None)
+def printing():
+    """The text of the sources that print something."""
+    endings = (".py", ".c", ".cpp", ".out", ".rt", ".hex", "")
+    sources = [it for it in files() if it.suffix in endings and "pages" not in it.parts]
+    return "\n".join(it.read_text(encoding="utf-8", errors="replace") for it in sources)
+
+
+def lost_lines(page):
+    """The lines that a page says in a sentence to be printed, and that no source has."""
+    for line in re.findall(r"\bprints?\s+`([^`]+)`", text_of(page)):
+        if line not in printing() and line not in OF_THE_KIT and not re.fullmatch("[0-9a-f]{20,}", line):
+            yield f"{page}: no source prints `{line}`"
+
+
+@functools.lru_cache(maxsize=None)
+def made(tool):
+    """What a tool makes for a page."""
+    return subprocess.run([ROOT / tool], stdout=subprocess.PIPE)
+
+
+def lost_tables():
+    """What is wrong with the pages that tools make."""
+    for tool, page in MADE:
+        if made(tool).returncode:
+            yield f"{tool} failed"
+        elif made(tool).stdout.decode() != text_of(page):
+            yield f"{page}: `{tool} --write` makes another one"
+
+
+class Shown(judge.Judge):
+    """What pages show is in the sources, or prints what they say."""
+
+    controls = [
+        (PAGE, "", "    $ echo one\n    two\n\n", "printed  'one"),
+        (PAGE, "", "    $ echo one; exit 1\n    one\n\n", "and 1"),
+        (PAGE, "", "```c\nint lost;\n```\n\n", "no source has\nint lost;"),
+        (PAGE, "", "    shows: a lost edit\n    old: lost\n\n", "no edit and no fault is"),
+        (PAGE, "", "    c/lost\n\n", "no file c/lost"),
+        (PAGE, "", "    make -C c lost\n\n", "no Makefile has lost"),
+        (PAGE, "", "It prints `what is lost`.\n\n", "no source prints `what is lost`"),
+        ("docs/API.md", "##", "#", "makes another one"),
+        ("crates/wkb_cases/src/columns.rt", "let mut written", "let mut put", "no proved code has"),
+    ]
+
+    @classmethod
+    def setUpClass(cls):
+        make_files(cls)
+
+    def wrong(self):
+        yield from differing_commands(self.folder, lambda it: "wkb_hex" not in it and "wkb_dump" not in it)
+        for page in PAGES:
+            yield from (*lost_pieces(page), *lost_commands(page), *lost_lines(page))
+        yield from lost_tables()
+        yield from lost_examples()
+
+
+class Dump(judge.Judge):
+    """The dump prints what pages show of it."""
+
+    controls = [(PAGE, "", "    $ c/out/wkb_dump examples/point.hex\n    lost\n\n", "expected 'lost")]
+
+    @classmethod
+    def setUpClass(cls):
+        judge.need_built("dump")
+        make_files(cls)
+
+    def wrong(self):
+        yield from differing_commands(self.folder, lambda command: "wkb_dump" in command)
+
+
+class Program(judge.Judge):
+    """The program prints what pages show of it, and what is tried beside them."""
+
+    controls = [
+        (PAGE, "", "    $ ./wkb_hex be < examples/point.hex\n    lost\n\n", "expected 'lost"),
+        (PAGE, "", "    ./wkb_hex be < examples/point.hex\n\n", "which the page doesn't have"),
+    ]
+
+    @classmethod
+    def setUpClass(cls):
+        judge.need_program()
+        make_files(cls)
+
+    def wrong(self):
+        yield from (line for it in runs() for line in difference(*it))
+        yield from differing_commands(self.folder, lambda command: "wkb_hex" in command)
+        for page in PAGES:
+            yield from lost_runs(page)

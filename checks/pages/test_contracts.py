@@ -1,0 +1,192 @@
+"""Looks up each clause that docs/PROMISES.md names, in the function or record that it names, and compares what README
+says is proved with the clauses that PROMISES gives for it.
+
+There a row's last cell names clauses. They are of what the cell names (`clause` of `NAME`, the trait `NAME`: `clause`),
+else of the calls that the first cell names, else of those of the row above. A table of *facts* lists all fields of the
+record that the text above names last. A test that the page names with its crate has to be one of that crate. On the
+other pages a clause that is said to be `of` a call or a record has to be one of its.
+
+The first column of README's table says what is proved, as statements between semicolons. Each of them has a row in the
+table of PROMISES that begins with "README says", with the crate, the function or record, and its clauses: a statement
+without such a row ends with 1.
+"""
+import re
+
+from checks import judge
+from contracts import Clauses
+from pages import PAGES, ROOT, cells, rows_of, spans, text_of, texts
+
+PROMISES = "docs/PROMISES.md"
+README = "README.md"
+# What stands in the place of a clause's name where a function has one clause, without a name.
+UNNAMED = "its only clause"
+IMPL = re.compile(r"impl(?:<[^{]*?>)? (?:([\w:]+)(?:<([A-Za-z]\w+)?[^{]*>)? for )?(?:[\w:]+::)?(\w+)")
+NAMED = r"`[\w:<>]+`"
+# How a table begins, for controls.
+TABLE = "## Lost (`wkb_sink`)\n\n| what | clause |\n|---|---|\n"
+# A law of std, which PROMISES names beside our clauses.
+STD = {"respects_eq"}
+
+
+def said_of(part):
+    """(owners, labels) of a part of a cell: its labels, and what the part itself says they are of, or None."""
+    match = re.search(rf"((?:{NAMED}(?:, | and )?)+) of (?:each )?(.*)", part)
+    if match:
+        return spans(match[2]), spans(match[1])
+    if re.match(r"the trait `\w+`: ", part):
+        return spans(part)[:1], spans(part)[1:]
+    is_other = re.search(r"\b(laws?|functions?|impl)\b", part)
+    return None, [] if is_other else [it for it in spans(part) if re.fullmatch(r"\w+", it)]
+
+
+def owners_of(text, clauses, crates):
+    """The calls that a text is about: those it begins with, or else the first that it names."""
+    begins = re.match(rf"(?:{NAMED}(?:, | and )?)+", text)
+    named = spans(begins[0]) if begins else spans(text)
+    return [it for it in named if clauses.of(it, () if "::" in it else crates)][: None if begins else 1]
+
+
+def lost_in_row(clauses, crates, first, last, above):
+    """The labels in a row's last cell that are not of what they are said to be of, each with those."""
+    parts, texts = last.split("; "), first.split("; ")
+    for at, part in enumerate(parts):
+        named, labels = said_of(part)
+        about = owners_of(texts[at], clauses, crates) if len(parts) == len(texts) > 1 else []
+        owners = [it for it in named if clauses.is_name(it)] if named is not None else about or above
+        own = set().union(*map(clauses.of, owners)) if owners else clauses.within(crates)
+        for label in labels:
+            if label not in own | STD and not (named is None and clauses.is_name(label)):
+                yield owners, label
+
+
+def lost_promises(clauses):
+    """The clauses in the tables of PROMISES that are not of what they are said to be of."""
+    text = text_of(PROMISES).splitlines()
+    end = text.index("## Only tested")
+    owners, crates, before = [], [], 0
+    for number, heads, found in rows_of(PROMISES):
+        if number > end:
+            return
+        if number != before + 1:
+            heading = next(text[at] for at in range(number - 1, -1, -1) if text[at].startswith("## "))
+            owners, crates = [], [it for it in spans(heading) if (ROOT / "crates" / it).is_dir()]
+        before = number
+        if heads[1] != "fact" and heads[0] != "README says":
+            owners = owners_of(found[0], clauses, crates) or owners
+            for of, label in lost_in_row(clauses, crates, found[0], found[-1], owners):
+                yield f"{PROMISES}:{number}: {', '.join(of) or 'the crate'} has no clause `{label}`"
+
+
+def lacks(clauses, own, name):
+    """Whether a name that is said to be of what has these clauses is none of them, and no call's."""
+    return own and name not in own and not clauses.is_name(name)
+
+
+def lost_in_sentences(clauses):
+    """The clauses that other pages say to be of a call or a record which has others."""
+    for page in PAGES:
+        text = " ".join(text_of(page).split()) if page != PROMISES else ""
+        for names, owner in re.findall(r"((?:`\w+`(?:, | and ))*`\w+`) of `(\w+)`", text):
+            own = clauses.of(owner, ())
+            yield from (f"{page}: `{owner}` has no clause `{it}`" for it in spans(names) if lacks(clauses, own, it))
+
+
+def lost_facts(clauses):
+    """The fields of records that a table of facts leaves out, or that are none."""
+    text = text_of(PROMISES)
+    for match in re.finditer(r"(?m)^\| what \| fact \|\n\|---\|---\|\n((?:\|.*\n)+)", text):
+        record = re.findall(r"the record `(\w+)`", text[: match.start()])[-1]
+        listed = {it for line in match[1].splitlines() for it in spans(cells(line)[-1])}
+        rest = text[match.end() :].split("\n## ")[0]
+        known = clauses.of(record)
+        also = set(re.findall(rf"`(\w+)` of `{record}`", rest))
+        if listed | also != known:
+            lost, more = known - listed - also or "none", listed - known or "none"
+            yield f"{PROMISES}: of `{record}` the table leaves out {lost}, and {more} is no field"
+
+
+def lost_tests():
+    """The tests that the page names with a crate that has no such test."""
+    text = " ".join(text_of(PROMISES).split())
+    named = [(it[1], it[2]) for it in re.finditer(r"\(`(wkb_\w+)`: ([^;)]*)", text)]
+    named += [(it[2], it[1]) for it in re.finditer(r"tests? ((?:`\w+`(?:, | and )?)+) of `(wkb_\w+)`", text)]
+    for crate, names in named:
+        # The clients have no tests: what a module of theirs shows is proved.
+        code = "".join(f"mod {it}\n{code}" for it, code in texts(f"crates/{crate}/src/**/*.rt").items())
+        for name in spans(names):
+            pattern = rf"#\[test\]\s+fn {name}\(" if crate.endswith("_cases") else rf"mod \S+/{name}\.rt\n"
+            if "/" not in name and not re.search(pattern, code):
+                yield f"{PROMISES}: {crate} has no test `{name}`"
+
+
+def lost_calls():
+    """The calls for C that head no row."""
+    calls = re.findall(r'extern "C" fn (wkb_raw_\w+)', "".join(texts("crates/wkb_c/src/**/*.rt").values()))
+    begins = [re.match(rf"(?:{NAMED}(?:, | and )?)*", row[0])[0] for _, _, row in rows_of(PROMISES)]
+    heads = {name for it in begins for name in spans(it)}
+    yield from (f"{PROMISES}: no row begins with `{it}`" for it in sorted({*calls} - heads))
+
+
+def said_in_readme():
+    """Each statement of README's table of what is proved, without its links."""
+    for _, heads, found in rows_of(README):
+        if "proved" in heads[0]:
+            yield from re.sub(r"\[([^]]*)\]\([^)]*\)", r"\1", found[0]).split("; ")
+
+
+def given_clauses():
+    """(statement, crate, name, clauses) of each row of PROMISES' table of what README says. A first cell that is empty
+    continues the row above."""
+    statement = ""
+    for _, heads, found in rows_of(PROMISES):
+        if heads[0] == "README says":
+            statement = found[0] or statement
+            yield statement, *(found[at].strip("`") for at in (1, 2)), found[3]
+
+
+def lost_statements(clauses, statements, given):
+    """What is wrong: a statement has no clause, a clause is of no contract, or a row is of no statement."""
+    for it in statements:
+        if it not in [row[0] for row in given]:
+            yield f"{README}: `{it}` has no clause in {PROMISES}"
+    for statement, crate, name, cell in given:
+        if statement not in statements:
+            yield f"{PROMISES}: README doesn't say `{statement}`"
+        labels = set(spans(cell))
+        has_labels = bool(labels) and labels <= clauses.labels[crate].get(name, set())
+        if not ((crate, name) in clauses.unnamed if cell == UNNAMED else has_labels):
+            yield f"{PROMISES}: `{name}` of {crate} has no such clause: {cell or 'none is named'}"
+
+
+def wrong_statements(clauses):
+    """What is wrong with README's table of what is proved."""
+    statements, given = [*said_in_readme()], [*given_clauses()]
+    if not statements or not given:
+        return [f"{README if given else PROMISES} has no table of what README says is proved"]
+    return lost_statements(clauses, statements, given)
+
+
+class Contracts(judge.Judge):
+    """The clauses on the pages are those of the contracts."""
+
+    controls = [
+        (PROMISES, "", f"{TABLE}| `to_vec` | `refused` |\n\n", "no clause `refused`"),
+        (PROMISES, "", f"{TABLE}| a sink | the trait `Sink`: `lost` |\n\n", "no clause `lost`"),
+        (PROMISES, "| `front`; ", "| `lost`; ", "of `Reads` the table"),
+        (PROMISES, "", "(`wkb_write_cases`: `each_call`)\n\n", "wkb_write_cases has no test `each_call`"),
+        (PROMISES, "", "test `each_kind` of `wkb_read_cases`\n\n", "wkb_read_cases has no test `each_kind`"),
+        ("SECURITY.md", "`fit` of `rows_follow`", "`fits` of `rows_follow`", "`rows_follow` has no clause `fits`"),
+        ("crates/wkb_c/src/lib.rt", "", 'pub extern "C" fn wkb_raw_lost() {}\n', "no row begins with `wkb_raw_lost`"),
+        (README, "; reports the first", "; is fast; reports the first", "`is fast` has no clause"),
+        (PROMISES, "| `turns_bounded` |", "| `lost` |", "`Costs` of wkb_read has no such clause"),
+        (PROMISES, "| `turns_bounded` |", "| |", "`Costs` of wkb_read has no such clause: none is named"),
+        (PROMISES, "| `wkb_laws` | `equal_encodings` |", "| `wkb` | `equal_encodings` |", "of wkb has no such clause"),
+        (PROMISES, "| `canonical` | `ok` |", f"| `canonical` | {UNNAMED} |", "`canonical` of wkb has no such clause"),
+        (PROMISES, "| returns exactly what the bytes encode |", "| returns what it likes |", "README doesn't say"),
+    ]
+
+    def wrong(self):
+        clauses = Clauses()
+        for it in (lost_promises, lost_in_sentences, lost_facts, wrong_statements):
+            yield from it(clauses)
+        yield from (*lost_tests(), *lost_calls())

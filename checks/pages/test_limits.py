@@ -1,0 +1,155 @@
+"""A limit that a page, wkb.h or CITATION.cff names is that of the source which has it.
+
+A phrase of FACTS has, wherever a page says it, the number that a source has. The sums that a page works out, as
+`113 - 16 = 97`, are worked out again. The logic that README names is the kit's, if there is one.
+"""
+import re
+import subprocess
+
+from checks import judge
+from pages import PAGES, text_of
+
+TEXTS = [*PAGES, "CITATION.cff", "c/wkb.h"]
+DEPTH = "crates/wkb_geom/src/error.rt", r"MAX_NESTING: usize = (\d+);"
+COSTS = "crates/wkb_read/specs/Reads.antt"
+SLOTS = COSTS, r"slots_bounded : c\.slots ≤ (\d+) \* length buf"
+BOUNDED = "crates/wkb_check/specs/Public.antt"
+ARROW, COMMAND, STACK = "python/src/porchsorrel_wkb/_arrow.py", "crates/wkb_command/src", "c/test/stack.c"
+COST = "checks/hosts/hostile_cost.c"
+HEADER = "c/wkb.h"
+SYSTEMS, FORMAT = "docs/SYSTEMS.md", "docs/FORMAT.md"
+PEERS = "bench/peers", r"else '\"=([\d.]+)\"'"
+# Phrases with numbers, each with a file and a text that has the same numbers.
+FACTS = [
+    (r"(?<![\d,])(\d+) nested collections", *DEPTH),
+    (r"[Aa]t most (\d+) collections (?:are nested|inside)", *DEPTH),
+    (r"inside (\d+) (?:open ones|others)", *DEPTH),
+    (r"NestingDepthExceeded\((\d+)\)` \|", *DEPTH),
+    (r"a stack of at most (\d+) entries", *DEPTH),
+    (r"\(length \+ (\d+)\) / \d+ rings", COSTS, r"turns_bounded : \d+ \* c\.turns ≤ length buf \+ (\d+)"),
+    (r"\(length \+ \d+\) / (\d+) rings", COSTS, r"turns_bounded : (\d+) \* c\.turns"),
+    (r"`(\d+) \* turns <= len \+ (\d+)`", COSTS, r"turns_bounded : (\d+) \* c\.turns ≤ length buf \+ (\d+)"),
+    (r"`slots <= (\d+) \* len`", *SLOTS),
+    (r"(\d+) list entries", *SLOTS),
+    (r"costs up to (\d+) entries", *SLOTS),
+    (r"`(\d+) \* parts <= len \+ (\d+)`", BOUNDED, r"(\d+) \* f\.parts ≤ length input \+ (\d+)"),
+    (r"`(\d+) \* coordinates <= len`", BOUNDED, r"(\d+) \* f\.coordinates ≤ length input"),
+    (r"(?:entries, of|an entry has) at most (\d+) bytes", "docs/DECISIONS.md", r"of (\d+) bytes; the C"),
+    (r"up to (\d+ KB) in place", "crates/wkb_sink/src/sink.rt", r"MAX_IN_PLACE: usize = ([\d <]+);"),
+    (r"the program allows: (\d+)", f"{COMMAND}/transfer.rt", r"MAX_READS: u32 = ([\d_]+);"),
+    (r"(\d+) KB of stack (?:are|is)", "checks/pages/test_commands.py", r"(?m)^STACK = (\d+)$"),
+    (r"parts (?:take at most )?(\d+ KB)", STACK, r"PARTS_MOST = ([\d <]+) }"),
+    (r"takes at most (\d+ KB)|any other call (\d+ KB)", STACK, r"OTHERS_MOST = ([\d <]+) }"),
+    (r"(?:claim|past|from 0 to) (4\d{9})(?: entries)?", "crates/wkb_geom/src/error.rt", r"A count past (\d+)"),
+    (r"(\d+\^\d+) rings", "crates/wkb_geom/specs/Numbers.antt", r"IsU32 n = n < (\d+ \^ \d+)"),
+    (r"has (\d+) bytes for each part", "c/wkb.c", r"IS_LAID\(wkb_part, (\d+)"),
+    (r"up to (\d+) times the array|(\d+) times as long as the array", ARROW, r"MOST_COPIES = (\d+)"),
+    (r"number of rows \(([\d,]+) and ([\d,]+) are compared", COST, r"FEW = (\d+), MANY = (\d+)"),
+    (r"digits to the base (\d+)", "crates/wkb_geom/specs/Numbers.antt", r"AreBytes bytes = .*< (\d+)"),
+    (r"(?:exposes the|has) `(\d+) \* width`", "crates/wkb_geom/src/words.rt", r"WORD_SIZE: usize = (\d+);"),
+    (r"from (\d+) on is a refusal", "crates/wkb_c/specs/Classes.antt", r"IsRefusalStatus status = (\d+) ≤ status"),
+    (r"ends with (\d+)(?: it has| \(without|, `cost_hex`)", f"{COMMAND}/program.rt", r"FAILED: u8 = (\d+);"),
+    (r"little endian numbers of (\d+) or (\d+) bytes", HEADER, r"offset_size;\s+/\*\*< (\d+) or (\d+)"),
+    (r"boundar(?:y|ies) of (\d+) bytes", "c/Makefile", r"-mbranches-within-(\d+)B-boundaries"),
+    (r"Rust crate `?wkb`? ([\d.]+\d)", *PEERS),
+    (r"title: wkb version: ([\d.]+)", *PEERS),
+    (r"Python (\d\.\d+) or later", "python/pyproject.toml", r'requires-python = ">= ([\d.]+)"'),
+    (r"a C(\d+) compiler", "c/Makefile", r"-std=c(\d+) -Wall"),
+    (r"C\+\+(\d+)", "c/Makefile", r"cxx = \$\(CXX\) -std=c\+\+(\d+)"),
+    (r'"Copyright \(c\) (\d+) The GeoRust', "LICENSE-MIT", r"Copyright \(c\) (\d+) The GeoRust"),
+    (r"octet_length\(wkb\) < (\d+)", "postgres/queries.sql", r"octet_length\(wkb\) < (\d+)"),
+    (r"nothing of (\d+ MB) or more", "postgres/queries.sql", r"octet_length\(wkb\) < (\d+)"),
+    (r"more than (\d+) times as long", "python/src/porchsorrel_wkb/_arrow.py", r"MOST_COPIES = (\d+)"),
+    (r"take up to (\d+) KB of stack there", HEADER, r"\((\d+) KB on Windows\)"),
+    (r"so (\d+) and (\d+) read as points", FORMAT, r"such as 0, 8, (\d+),\s(\d+),"),
+    (r"`Unknown\((\d)\)` is written as (\w+), `Unknown\((\d)\)` as (\w+) and `Unknown\((\d)\)` as (\w+)",
+     "crates/wkb_geom/src/common.rt", "(?s:.*?)".join(3 * [r"Unknown\((\d)\) => Ok\(Dimension::(\w+)\)"])),
+    (r"at most (\w+) bytes (?:longer than its|more than the) input", "c/wkb.hpp", r"SRID_SIZE = (\d+);"),
+    (r"more than (\w+) times as long as a good|above (\w+) times a good", COST, r"MOST = (\d+),"),
+    (r"request (\d+) \(`claimed_counts`\)", "checks/memory/expected", r"claimed_counts +\d+/(\d+) "),
+    (r"blocks of \d+ or (\d+)", "crates/wkb_write/src/writable.rt", r"LARGE_BLOCK: usize = (\d+)"),
+    (r"kinds past (\d+)", FORMAT, r"k from 1 to (\d+) is the kind"),
+    (r"an Xy polygon of (\d+) bytes", FORMAT, r"the first again \| (\d+) \|"),
+    (r"(\d+) for Xy", "crates/rows/stdin", r"size (\d+), turns 1, slots 1; parts 2, coordinates 4, Polygon\(Xy\)"),
+    (r"count does not fit (\d+) bits", "crates/wkb_geom/src/error.rt", r"count does not fit (\d+) bits"),
+    (r"(Linux) on (x86-64), for (Linux) on (aarch64) \(tried under (qemu)\) and for (Windows) on (x86-64) "
+     r"\(tried under (wine)\)", SYSTEMS,
+     r"\| (Linux), glibc \| (x86-64) \|(?s:.*)\| (Linux), glibc \| (aarch64) \|.*under (qemu)"
+     r"(?s:.*)\| (Windows) \| (x86-64) \|.*under (wine)"),
+    (r"builds for (macOS) on (arm64), (FreeBSD) and (Android), where nobody has run it", SYSTEMS,
+     r"\| (macOS) \d+ \| (arm64) \| [^|]* \| no \|.*\n\| (FreeBSD) \d+, (Android) [^|]* \| [^|]* \| [^|]* \| no \|"),
+]
+WORDS = {"four": 4, "sixteen": 16}
+SUM = re.compile(r"(?<![*/+-] )(?<![\w.])(\d+(?: [*/+-] \d+)+) = (\d+)\b(?! ?[*/+-])")
+
+
+def bare(path):
+    """The text of a file on one line, without the stars that begin the lines of a comment."""
+    return " ".join(re.sub(r"(?m)^ \* ", "", text_of(path)).split())
+
+
+def number(text):
+    """The number that a text stands for: a word of WORDS, digits, a power, a number of KB or MB; else the text."""
+    if text in WORDS:
+        return WORDS[text]
+    found = re.fullmatch(r"(\d[\d_,]*)(?: ?(KB|MB|\^|<<) ?(\d*))?", text)
+    if not found:
+        return text
+    value = int(re.sub("[_,]", "", found[1]))
+    by = {None: lambda: value, "KB": lambda: value << 10, "MB": lambda: value * 10**6}
+    return {**by, "^": lambda: value ** int(found[3]), "<<": lambda: value << int(found[3])}[found[2]]()
+
+
+def numbers_of(match):
+    """The numbers of a match, of whichever of its groups took part."""
+    return [number(it.strip()) for it in match.groups() if it]
+
+
+def wrong_facts():
+    """The numbers in phrases that the sources have otherwise; and phrases that nothing says any more."""
+    for phrase, path, source in FACTS:
+        meant = re.search(source, text_of(path))
+        if not meant:
+            yield f"{path}: no text fits `{source}`"
+            continue
+        said = [(page, it) for page in TEXTS for it in re.finditer(phrase, bare(page))]
+        if not said:
+            yield f"no page says `{phrase}`"
+        for page, it in said:
+            if numbers_of(it) != numbers_of(meant):
+                yield f"{page}: `{it[0]}`, and {path} has `{meant[0]}`"
+
+
+def wrong_sums():
+    """The sums that a page works out wrongly."""
+    for page in PAGES:
+        for it in SUM.finditer(bare(page)):
+            # Only digits and operators fit.
+            if eval(it[1], {}) != int(it[2]):
+                yield f"{page}: `{it[0]}` is {eval(it[1], {})}"
+
+
+class Limits(judge.Judge):
+    """The numbers of phrases, and sums."""
+
+    controls = [
+        ("docs/MODEL.md", "", "At most 127 nested collections are read.\n\n", "`127 nested collections`"),
+        ("docs/PROMISES.md", "the program allows:", "the program takes:", "no page says `the program allows"),
+        (DEPTH[0], "MAX_NESTING: usize", "MAX_LOST: usize", "no text fits"),
+        ("docs/BYTES.md", "", "The ring begins at 113 - 16 = 98.\n\n", "is 97"),
+    ]
+    is_apart = True
+
+    def wrong(self):
+        yield from wrong_facts()
+        yield from wrong_sums()
+
+
+class Logic(judge.unittest.TestCase):
+    """The logic of the kit."""
+
+    def test_readme_names_it(self):
+        judge.need("rt")
+        said = subprocess.run(["rt", "version"], stdout=subprocess.PIPE, text=True).stdout
+        logics = re.findall(r"logic ([0-9a-f]{16})`", text_of("README.md"))
+        self.assertEqual({*logics}, {said.strip().rpartition("logic ")[2]})

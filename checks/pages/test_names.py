@@ -1,0 +1,187 @@
+"""Looks up every name in backticks on every page.
+
+A path of files has to be there, from the top, from docs/ or edits/, or in a crate. A path of code, as `a::b`, has to
+end in names that a source defines one inside the other. Each other word has to stand in a source that is no page and no
+script of this folder, outside comments, or among the FOREIGN words below. In ARCHITECTURE's tables of files and calls
+each call is defined in the file beside it.
+"""
+import collections
+import functools
+import glob
+import re
+
+from checks import judge
+from pages import PAGES, ROOT, files, lines_of, rows_of, spans
+
+# Words of other programs and of the checker, which no source of ours has to name.
+FOREIGN = set(
+    """
+    Cow TryFromIntError nth_or_panic coord_unchecked to_geo geo_types Unimplemented coords points line_strings polygons
+    interiors non_exhaustive num_enum linestring ST_IsValid ST_AsBinary ST_AsEWKB WKB_ISO WKB_POINT ExportToIsoWkb Goals
+    Given View Lts Tie Proof Gone respects_eq map_err phi ret rattle app RT_ALLOW_C xxd holes UPGRADING st oantt Variant
+    bc lemma HasNo Is LET DIR cite lifetimes prelude split_last Short COMMAND Hash MutBor METHOD ARCHIVE FORMAT
+    CHANGELOG CITATION cff connection core emit fix imports plant start_io callgrind encode logic Xclang lay_ put_ model
+    lifetime assert_eq sqlite3_interrupt wkb_raw_ geom::bytea gpkg_contents df
+    """.split()
+)
+# What a path of code begins with that is std's or stands for a name of the reader's.
+FOREIGN_PATHS = {"io", "fmt", "u8", "u32", "Self", "Enum", "Fail", "Default", "std", "crate"}
+# Files of the kit, and files that commands on the pages make.
+MADE_PATHS = {"bin/clang", "results/refused.csv", "crates/app", "build/", "test/", "source/"}
+# What pages stand for by a word in capitals in a path.
+PLACES = re.compile(r"CRATE|NAME|FUNCTION")
+# A name that begins so is a command, of which only the paths are looked up.
+COMMANDS = """
+    dask-worker --scheduler rt rattle valgrind clang psql ls make grep export print -mllvm -ir ulimit env pip python3
+    apt-get sed sha256sum
+    """.split()
+WORD = re.compile(r"\b(?![0-9a-f]{16}\b)[A-Za-z_]\w*")
+PATH = re.compile(r"(?<![\w:/.'])[A-Za-z_]\w*(?:::[A-Za-z_]\w*)+")
+# How a table of files and calls begins, for a control.
+TABLE = "| file | call |\n|---|---|\n"
+COMMENT = {".rt": r"//[^\n]*", ".rs": r"//[^\n]*", ".antt": r"--[^\n]*"}
+ITEM = re.compile(
+    r"^ *(?:pub(?:\([\w: ]+\))? )?(?:const |unsafe )?(?:extern \"C\" )?(?:fn|struct|enum|trait|type|const|mod) (\w+)"
+)
+IMPL = re.compile(r"^impl(?:<[^{]*?>)? (?:([\w:]+)(?:<([A-Za-z]\w*)?[^{]*>)? for )?(?:[\w:]+::)?(\w+)")
+USE = re.compile(r"^pub use ([\w:]+?)(?:::\{([^}]*)\})?;", re.M)
+
+
+@functools.lru_cache(maxsize=None)
+def words_of_sources():
+    """Each word of the sources, outside comments, and of their paths."""
+    words = set()
+    for path in files():
+        name = str(path.relative_to(ROOT))
+        if path.suffix in (".md", ".cff") or re.fullmatch(r"checks/pages/\w+(\.py)?", name):
+            continue
+        text = path.read_text(encoding="utf-8", errors="replace")
+        code = re.sub(COMMENT.get(path.suffix, r"(?m)^\s*#[^\n]*"), "", text)
+        words |= set(WORD.findall(name)) | set(WORD.findall(code))
+    return words
+
+
+def names_in(text):
+    """(owner, name) of each item of a file of code; the owner is the type or the trait around it, or empty."""
+    owners = [""]
+    for line in text.splitlines():
+        found, block = ITEM.match(line), IMPL.match(line)
+        if block:
+            trait = (block[1] or "").split("::")[-1]
+            # A check names what converts, as `U32FromWkbType`, by the type, the trait and what the trait is of.
+            full = "".join((it or "")[:1].upper() + (it or "")[1:] for it in (block[3], trait, block[2]))
+            owners = [block[3], block[3] + trait, full, trait] if trait else [block[3]]
+        elif found and not line.startswith(" "):
+            owners = [found[1]] if re.search(r"\b(trait|enum|struct)\b", line) else [""]
+            yield "", found[1]
+        elif line.startswith("    ") and not line.startswith("     "):
+            member = found or re.match(r"    (?:pub )?(?:ghost )?(\w+)(?=[,({:]| \{|$)", line)
+            yield from ((it, member[1]) for it in owners if member)
+        elif line and not line.startswith((" ", "}", "#", "/", ")", ">", "ghost")):
+            owners = [""]
+
+
+@functools.lru_cache(maxsize=None)
+def paths_of_code():
+    """The ends of the paths that the code defines or passes on, each as `a::b`, and those of modules."""
+    ends, homes, methods = set(), collections.defaultdict(list), []
+
+    def add(parts):
+        parts = [it for it in parts if it]
+        ends.update("::".join(parts[at:]) for at in range(len(parts)))
+
+    for path in ROOT.glob("crates/*/src/**/*.rt"):
+        crate, _src, *modules = path.relative_to(ROOT / "crates").with_suffix("").parts
+        modules = [crate, *(it for it in modules if it not in ("lib", "main"))]
+        text = path.read_text(encoding="utf-8")
+        add(modules)
+        for owner, name in names_in(text):
+            # A check names a method by the module of its type, wherever the `impl` block is.
+            if not owner:
+                homes[crate, name].append(modules)
+            methods.append((crate, owner, name))
+            add([*modules, owner, name])
+        for at, names in USE.findall(text):
+            for name in re.findall(r"\w+", re.sub(r"\w+ as ", "", names)) or [at.split("::")[-1]]:
+                add([*modules, name])
+    for crate, owner, name in methods:
+        for modules in homes.get((crate, owner), []):
+            add([*modules, owner, name])
+    for path in ROOT.glob("crates/*/specs/**/*.antt"):
+        crate, *rest = path.relative_to(ROOT / "crates").with_suffix("").parts
+        text = path.read_text(encoding="utf-8")
+        for name in re.findall(r"(?m)^ *(?:(?:abbrev|unfoldable|record|data|pub) )*(\w+)\b", text):
+            add([crate, *rest, name])
+    return ends
+
+
+def is_there(path):
+    """Whether a path with slashes is there, from the top, from docs/ or edits/, from crates/, or in some crate. What a
+    build makes lies in a folder out/ or build/."""
+    places, ends = ("", "crates", "crates/*", "crates/*/src", "docs", "edits", "c"), ("", ".*")
+    if {"out", "build"} & {*path.split("/")} or path in MADE_PATHS:
+        return True
+    path = PLACES.sub("*", path.rstrip("/"))
+    return any(glob.glob(str(ROOT / place / path) + end) for place in places for end in ends)
+
+
+def looks_like_a_path(span):
+    is_path = re.fullmatch(r"[\w.*+-]*/[\w./*+-]*", span)
+    return is_path and not span.startswith("/") and not re.search(r"[A-Z]{3,}$", span)
+
+
+def looks_like_ours(span):
+    return looks_like_a_path(span) and re.match(r"crates|c/|docs|edits|tools", span)
+
+
+def lost_in(span, words, code):
+    """What of a span no source has."""
+    path = re.sub(r":\d+$", "", span)
+    if looks_like_a_path(path):
+        return [] if is_there(path) else [f"no file `{span}`"]
+    if span.startswith("/") or span.split()[0] in COMMANDS:
+        return [f"no file `{it}`" for it in span.split() if looks_like_ours(it) and not is_there(it)]
+    paths = [it for it in PATH.findall(span) if it.split("::")[0] not in FOREIGN_PATHS]
+    lost = [f"no source has `{it}`" for it in paths if it not in code | FOREIGN]
+    for word in WORD.findall(span):
+        if word not in words and not (f"{word}*" in span and any(known.startswith(word) for known in words)):
+            lost.append(f"no source has `{word}`")
+    return lost
+
+
+def lost_calls():
+    """The calls in tables of files and calls that the file beside them doesn't define."""
+    page, folder, file = "ARCHITECTURE.md", "", ""
+    for number, heads, found in rows_of(page):
+        if heads[:2] != ["file", "call"]:
+            continue
+        for path in spans(found[0]):
+            folder = path.rpartition("/")[0] or folder
+            file = f"crates/{folder}/{path.rpartition('/')[2]}"
+        text = (ROOT / file).read_text(encoding="utf-8") if (ROOT / file).is_file() else ""
+        for name in spans(found[1]):
+            if any(not re.search(rf"\b(fn|struct|trait|impl)\b[^\n]*\b{it}\b", text) for it in name.split("::")):
+                yield f"{page}:{number}: {file} doesn't define `{name}`"
+
+
+def named():
+    """(page, number of the line, name) of each name in backticks."""
+    return ((page, number, span) for page in PAGES for number, line in lines_of(page) for span in spans(line))
+
+
+class Names(judge.Judge):
+    """Each name in backticks is that of something."""
+
+    controls = [
+        ("README.md", "", "`lost_name`\n\n", "no source has `lost_name`"),
+        ("docs/API.md", "", "`crates/lost/file.rt`\n\n", "no file `crates/lost/file.rt`"),
+        ("docs/API.md", "", "`grep it crates/gone/file.rt`\n\n", "no file `crates/gone/file.rt`"),
+        ("docs/API.md", "", "`wkb::reader::to_vec`\n\n", "no source has `wkb::reader::to_vec`"),
+        ("ARCHITECTURE.md", "", f"{TABLE}| `wkb_read/src/read.rt` | `to_vec` |\n\n", "doesn't define `to_vec`"),
+    ]
+
+    def wrong(self):
+        words, code = words_of_sources() | FOREIGN, paths_of_code()
+        yield from lost_calls()
+        for page, number, span in named():
+            yield from (f"{page}:{number}: {it}" for it in lost_in(span, words, code))

@@ -1,0 +1,313 @@
+"""Compares the rows of tables with what they are about.
+
+- docs/PROGRAM.md: what each command prints, and each status with its line, in runs of the program `wkb_hex`.
+- ARCHITECTURE.md: its crates are those of crates.txt, each below those that use it. A path in the table of rules is one
+  of the crate that its row names last. What a drawing names is an item of the code.
+- c/package/package.md: each file is in the package that c/package/dist writes.
+- docs/SYSTEMS.md: the scripts that are said to have tried a system build for it.
+- CITATION.cff: the licences are those of the files LICENSE-*, and the title begins as README's does.
+- CHANGELOG.md: the calls that it lists for one geometry and for columns are in c/wkb.h, and as many kinds and
+  dimensions as it says in docs/FORMAT.md.
+- README's times in C are those of docs/SPEED.md, where those of plain C are quotients.
+"""
+import fnmatch
+import functools
+import os
+import re
+import resource
+import subprocess
+
+from checks import judge
+from library import wkb
+from pages import ROOT, program, rows_of, shown, spans, text_of, texts
+
+SPEED = "docs/SPEED.md"
+# What a script names that builds for a system or a processor.
+BUILT_FOR = {"musl": "musl-gcc", "aarch64": "aarch64", "Windows": "mingw32", "macOS": "macos", "FreeBSD": "freebsd"}
+# How far a number of README is at most from the one that it was rounded from, and a quotient of SPEED.
+ROUNDED, HUNDREDTH = 0.55, 0.0051
+QUOTIENTS = "our time / plain C"
+PAGE, PROGRAM = "docs/PROGRAM.md", program("wkb_hex")
+POLYGON, POINT = text_of("examples/polygon_with_hole.hex").strip(), text_of("examples/point.hex").strip()
+REFUSED = "0107000000ffffffff"
+NUMBERS = {"two": 2, "three": 3, "four": 4, "five": 5, "six": 6, "seven": 7}
+# So much memory that the program starts, and has none for the lists of a long input.
+LITTLE = 16 << 20
+LONG = "0102000000" + (10**6).to_bytes(4, "little").hex() + "00" * 16 * 10**6
+
+
+@functools.lru_cache(maxsize=None)
+def run(words, text="", stdin=None, stdout=None, memory=None):
+    """(status, output) of a run of the program on a text, or with other files; and with so much memory."""
+    limit = memory and (lambda: resource.setrlimit(resource.RLIMIT_AS, (memory, memory)))
+    given = os.open(stdin, os.O_RDONLY) if stdin else None
+    taken = os.open(stdout, os.O_WRONLY) if stdout else None
+    how = {"stdin": given} if stdin else {"input": text.encode()}
+    ran = subprocess.run([PROGRAM, *words], stdout=taken or subprocess.PIPE, preexec_fn=limit, **how)
+    for file in (given, taken):
+        if file is not None:
+            os.close(file)
+    return ran.returncode, (ran.stdout or b"").decode()
+
+
+def usage():
+    """The usage line, which the script `wkb_hex` prints without the program."""
+    return subprocess.run([ROOT / "wkb_hex"], stdin=subprocess.DEVNULL, stdout=subprocess.PIPE).stdout.decode()
+
+
+# For each part of a cell `when` of the statuses: runs, each with what has to be printed where the cell `line` says so.
+def cases():
+    accepted, why = run(("le",), POINT)[1], "refused: end of input\n"
+    return {
+        "the input is accepted": [(("le",), {"text": POINT}, accepted)],
+        "the input is refused": [
+            (("le",), {"text": REFUSED}, why),
+            (("cost",), {"text": REFUSED}, "refused turns 1 slots 0\n"),
+        ],
+        "the input is not lines of hex": [(("le",), {"text": text}, "not hex\n") for text in ("0g", "0")],
+        "another number of lines than the command takes": [
+            (("le",), {"text": f"{POINT}\n{POINT}\n"}, "not hex\n"),
+            (("same",), {"text": POINT}, "not hex\n"),
+        ],
+        "another command": [(("lost",), {}, usage())],
+        "none": [((), {}, usage())],
+        "more than one": [(("le", "be"), {"text": POINT}, usage())],
+        "an allocation failed": [(("le",), {"text": LONG, "memory": LITTLE}, "out of memory\n")],
+        "the input can't be read": [(("le",), {"stdin": "/"}, "")],
+        "the output can't be written": [(("le",), {"text": POINT, "stdout": "/dev/full"}, "")],
+        "an argument isn't UTF-8": [((b"\xff",), {"text": POINT}, "")],
+        "there is no memory for the arguments": [],
+    }
+
+
+def is_line(line, printed, expected):
+    """Whether a cell says what is printed: a line in backticks, or one of these sentences."""
+    known = {"as above": expected, "the usage": usage(), "nothing": "", "a prefix of the line, or nothing": ""}
+    if line in known:
+        return printed == known[line] == expected
+    begins = [it for it in spans(line) if printed.startswith(re.split("T slots", it)[0])]
+    return printed == expected and bool(begins)
+
+
+def wrong_statuses():
+    """The rows of statuses that a run of the program contradicts."""
+    known, seen = cases(), set()
+    for number, heads, row in rows_of("docs/PROGRAM.md"):
+        for when in re.split(r", or |, | or (?=there)", row[1]) if heads == ["status", "when", "line"] else []:
+            seen.add(when)
+            if when not in known:
+                yield f"docs/PROGRAM.md:{number}: no run shows `{when}`"
+            for words, how, expected in known.get(when, []):
+                status, printed = run(words, **how)
+                if str(status) != row[0] or not is_line(row[2], printed, expected):
+                    yield f"docs/PROGRAM.md:{number}: {when}: the program prints {printed!r} and ends with {status}"
+    yield from (f"docs/PROGRAM.md: no row of the statuses says `{it}`" for it in known.keys() - seen)
+
+
+def written(command, text):
+    """What a command writes by the text of its row, which says the form, and by its name, which says the order."""
+    forms = {
+        "the ISO encoding in that byte order, without SRIDs": "ISO",
+        "the EWKB encoding with the geometry's own SRID": "EWKB_OWN_SRID",
+    }
+    order = wkb().Order.LITTLE if command.endswith("le") else wkb().Order.BIG
+    form = forms.get(text)
+    return form and wkb().write(bytes.fromhex(POLYGON), order, wkb().Form[form]).hex() + "\n"
+
+
+def wrong_commands():
+    """The rows of commands that a run of the program contradicts; what is no encoding is shown on the page itself."""
+    commands = []
+    for number, heads, row in rows_of("docs/PROGRAM.md"):
+        for command in spans(row[0]) if heads == ["command", "what it prints"] else []:
+            commands.append(command)
+            if command[-2:] in ("le", "be") and run((command,), POLYGON)[1] != written(command, row[1]):
+                yield f"docs/PROGRAM.md:{number}: {command} prints {run((command,), POLYGON)[1][:40]}.."
+    if sorted(commands) != sorted(re.split(r"[ |\n]", usage())[2:-1]):
+        yield f"docs/PROGRAM.md: the program's commands are those of its usage, {usage()!r}"
+
+
+def wrong_crates():
+    """What is wrong with the table of crates in ARCHITECTURE.md."""
+    used = dict(re.findall(r"(?m)^(\w+)(?: staticlib)?: (.*)$", text_of("crates.txt")))
+    listed = [spans(row[0])[0] for _, heads, row in rows_of("ARCHITECTURE.md") if heads == ["crate", "what it does"]]
+    if sorted(listed) != sorted(used):
+        yield f"ARCHITECTURE.md: the crates of crates.txt and of the table differ: {sorted(set(listed) ^ set(used))}"
+    for at, crate in enumerate(listed):
+        for below in used.get(crate, "").split():
+            if below in listed[at:]:
+                yield f"ARCHITECTURE.md: {crate} uses {below}, which stands further down"
+
+
+def is_there(path):
+    """Whether a file or folder of this path is there, with or without its ending."""
+    return (ROOT / path).exists() or any(ROOT.glob(f"{path}.*"))
+
+
+@functools.lru_cache(maxsize=None)
+def code_of(crate):
+    """The code of a crate."""
+    return "\n".join(texts(f"crates/{crate}/src/**/*.rt").values())
+
+
+def defines(crates, name):
+    """Whether the code of one of the crates has an item of this name."""
+    return any(re.search(rf"\b(fn|struct|enum|trait|type|const) {name}\b", code_of(crate)) for crate in crates)
+
+
+def place_of(span, crate, folder):
+    """The path that a name of the table of rules stands for: in a crate, in the last one, or beside the last file."""
+    first = span.split("/")[0]
+    if (ROOT / "crates" / first).is_dir():
+        return f"crates/{span}"
+    if first in ("src", "specs", "proofs"):
+        return f"crates/{crate}/{span}"
+    return span if "/" in span else f"{folder}/{span}"
+
+
+def lost_places():
+    """The places in the table of rules that are not in the crate that their row names last."""
+    for number, heads, row in rows_of("ARCHITECTURE.md"):
+        named = spans(row[1]) if heads == ["rule", "place"] else []
+        crates = [it.split("/")[0] for it in named if (ROOT / "crates" / it.split("/")[0]).is_dir()]
+        crate, folder = "", "crates"
+        for span in named:
+            path = place_of(span, crate, folder)
+            if is_there(path):
+                crate = path.split("/")[1] if path.startswith("crates/") else crate
+                folder = path if (ROOT / path).is_dir() else os.path.dirname(path)
+            elif "/" in span or "." in span or not all(defines(crates, it) for it in span.split("::")):
+                yield f"ARCHITECTURE.md:{number}: {crate or 'the row'} has no `{span}`"
+
+
+def lost_in_drawings():
+    """The names in ARCHITECTURE's drawings that are no items of the code."""
+    every = [it.name for it in (ROOT / "crates").iterdir()]
+    for number, line in shown("ARCHITECTURE.md"):
+        names = re.findall(r"--(\w+)-->", line) + re.findall(r"\b[A-Z]\w+", line)
+        yield from (f"ARCHITECTURE.md:{number}: no code has `{it}`" for it in names if not defines(every, it))
+
+
+def packaged():
+    """The files and folders of the package, by the lines of c/package/dist that copy and make them."""
+    text = text_of("c/package/dist").replace("\\\n", " ")
+    words = re.findall(r'(?m)^cp -r (.*) "\$to/"$', text) + re.findall(r'(?m)^mkdir "\$to"/(\{.*\})$', text)
+    ran = subprocess.run(["bash", "-c", f"printf '%s\\n' {' '.join(words)}"], cwd=ROOT / "c", stdout=subprocess.PIPE)
+    proved = [f"proved/{it.name}" for it in (ROOT / "c/proved").iterdir() if it.suffix == ".s" or it.name == "PROVED"]
+    return {os.path.basename(it) for it in ran.stdout.decode().split()} | {*proved, "SUMS"}
+
+
+def lost_files():
+    """The files that the table of c/package/package.md names, and that are not in the package."""
+    for number, heads, row in rows_of("c/package/package.md"):
+        for name in spans(row[0]) if heads == ["file", "what it is"] else []:
+            if not fnmatch.filter(packaged(), name.rstrip("/")):
+                yield f"c/package/package.md:{number}: the package has no `{name}`"
+
+
+def wrong_systems():
+    """The scripts that a row of docs/SYSTEMS.md names, and that don't build for its system."""
+    for number, heads, row in rows_of("docs/SYSTEMS.md"):
+        if heads[0] == "system":
+            wanted = [it for it in BUILT_FOR if it in f"{row[0]} {row[1]}"]
+            for name in spans(row[-1]):
+                lacks = [it for it in wanted if BUILT_FOR[it] not in text_of(name)]
+                yield from (f"docs/SYSTEMS.md:{number}: {name} builds nothing for {it}" for it in lacks)
+
+
+def wrong_citation():
+    """What is wrong with the licences and the title of CITATION.cff."""
+    text = text_of("CITATION.cff")
+    listed = re.findall(r"(?m)^  - (.*)$", re.search(r"(?m)^license:\n((?:  - .*\n)+)", text)[1])
+    files = sorted(it.name for it in ROOT.glob("LICENSE-*"))
+    if sorted(f"LICENSE-{it.split('-')[0].upper()}" for it in listed) != files:
+        yield f"CITATION.cff: the licences are {files}"
+    title = re.search(r"(?m)^# (.*)$", text_of("README.md"))[1]
+    if f'\ntitle: "{title}: ' not in text:
+        yield f"CITATION.cff: README's title is {title}"
+
+
+def wrong_changes():
+    """What is wrong with the calls, and the numbers of kinds and dimensions, that CHANGELOG.md lists."""
+    text, header = " ".join(text_of("CHANGELOG.md").split()), text_of("c/wkb.h")
+    calls = re.search(r"The C library: ([\w, ]+) and (\w+), the first (\w+) for columns too", text)
+    names = [*calls[1].split(", "), calls[2]] if calls else []
+    of_columns = names[: NUMBERS.get(calls[3], 0)] if calls else []
+    wanted = [*(f"wkb_{it}" for it in names), *(f"wkb_column_{it}" for it in of_columns)]
+    wanted += [] if calls and f"wkb_column_{names[-1]}(" not in header else ["a call for columns"]
+    yield from (f"CHANGELOG.md: wkb.h has no {it}" for it in wanted if f" {it}(" not in header)
+    said = re.search(r"all (\w+) kinds and (\w+) dimensions", text)
+    rows = [row for _, heads, row in rows_of("docs/FORMAT.md") if heads == ["k", "kind", "q", "dimension"]]
+    meant = [len(rows), sum(1 for row in rows if row[2])]
+    if not said or [NUMBERS.get(it) for it in said.groups()] != meant:
+        yield f"CHANGELOG.md: there are {meant} kinds and dimensions"
+
+
+def timed():
+    """The times of docs/SPEED.md, by the table, the row and the column."""
+    for _, heads, row in rows_of(SPEED):
+        if heads[0] in ("ns a row", QUOTIENTS):
+            yield from (((heads[0], row[0], head), float(cell)) for head, cell in zip(heads[1:], row[1:]) if cell)
+
+
+def wrong_times():
+    """The times of README that aren't those of docs/SPEED.md."""
+    times = dict(timed())
+    for _, heads, row in rows_of("README.md"):
+        for head, cell in zip(heads[1:], row[1:]) if heads[0] == "ns a geometry" else []:
+            quotient = times[QUOTIENTS, row[0], "other order"] if "plain C" in head else 1
+            meant = times["ns a row", row[0], head.replace(" in plain C", "")] / quotient
+            if abs(float(cell) - meant) > ROUNDED + (quotient != 1) * meant * HUNDREDTH / quotient:
+                yield f"README.md: {row[0]}, {head}: {SPEED} has {meant:.0f}"
+
+
+TIMED = re.search(r"(?m)^\| our time / plain C.*\n.*\n(\| point .*\|)$", text_of(SPEED))[1]
+
+
+class Tables(judge.Judge):
+    """The rows of tables are of what they are about."""
+
+    controls = [
+        ("ARCHITECTURE.md", "| `wkb_laws` | laws", "| `wkb_lost` | laws", "of the table differ"),
+        ("ARCHITECTURE.md", "| `wkb_geom/src/error.rt` (", "| `wkb_view/src/error.rt` (", "no `wkb_view/src/error.rt`"),
+        ("ARCHITECTURE.md", "`Refusal`), `specs/Errors`", "`Refusal`), `specs/Pieces`", "has no `specs/Pieces`"),
+        ("crates.txt", "wkb_geom: byteorder", "wkb_geom: wkb_read", "wkb_geom uses wkb_read"),
+        ("ARCHITECTURE.md", "--read_wkb-->", "--read_lost-->", "no code has `read_lost`"),
+        ("c/package/package.md", "| `SUMS` |", "| `SUM` |", "no `SUM`"),
+        ("CITATION.cff", "  - MIT", "  - BSD", "the licences are"),
+        ("CITATION.cff", 'title: "Porchsorrel', 'title: "Sorrel', "README's title"),
+        ("CHANGELOG.md", "the first four for columns", "the first five for columns", "wkb.h has no wkb_column_same"),
+        ("docs/SYSTEMS.md", "/windows_test` |", "/dist_test` |", "checks/systems/dist_test builds nothing for Windows"),
+        ("README.md", "|     169 |", "|     170 |", "line of 10, bytes: docs/SPEED.md has 169"),
+        (SPEED, TIMED, "| point | 9.99 |", "point, write in plain C: docs/SPEED.md has"),
+        ("CHANGELOG.md", "all seven kinds", "all six kinds", "kinds and dimensions"),
+    ]
+    is_apart = True
+
+    def wrong(self):
+        yield from (*wrong_crates(), *lost_places(), *lost_in_drawings())
+        yield from (*lost_files(), *wrong_systems(), *wrong_citation(), *wrong_changes(), *wrong_times())
+
+
+class Program(judge.Judge):
+    """The program does what docs/PROGRAM.md says."""
+
+    controls = [
+        (PAGE, "| 1 | the input is refused", "| 2 | the input is refused", "the input is refused: the program"),
+        (PAGE, "takes | `not hex` |", "takes | `no hex` |", "the input is not lines of hex: the program"),
+        (PAGE, "failed | `out of memory` |", "failed | nothing |", "an allocation failed: the program"),
+        (PAGE, "can't be written | a prefix", "can't be opened | a prefix", "`the output can't be opened`"),
+        (PAGE, "an allocation failed", "no allocation failed", "no row of the statuses says `an allocation failed`"),
+        (PAGE, "| `le`, `be` | the ISO", "| `ewkb-le`, `be` | the ISO", "ewkb-le prints"),
+        (PAGE, "the geometry's own SRID", "SRID 4326", "ewkb-be prints"),
+        (PAGE, "| `srid` | the", "| `lost` | the", "the program's commands are"),
+    ]
+    is_apart = True
+
+    @classmethod
+    def setUpClass(cls):
+        judge.need_library()
+        judge.need_program()
+
+    def wrong(self):
+        yield from (*wrong_statuses(), *wrong_commands())

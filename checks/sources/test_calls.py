@@ -1,0 +1,32 @@
+"""The C tests that are to make every call make it.
+
+A call is what c/wkb_raw.h declares as wkb_raw_NAME, and c/wkb.h as wkb_NAME. The tests of EVERY go through the calls by
+lists that are kept by hand.
+"""
+import re
+
+from checks import judge
+from pages import text_of
+
+DECLARED = "c/wkb_raw.h"
+# In handlers and children, without memory, at the end of a page, over a painted stack, and through a fault on Windows.
+EVERY = [f"c/test/{it}.c" for it in ("interrupted", "memory", "pages", "stack", "alone/unwind_test")]
+
+
+def calls():
+    """The names of the calls, as users write them."""
+    return sorted({f"wkb_{it}" for it in re.findall(r"\bwkb_raw_(\w+)\(", text_of(DECLARED))})
+
+
+class Calls(judge.Judge):
+    """Each of these tests makes each call. A comment makes none."""
+
+    controls = [
+        *((DECLARED, "wkb_raw_check(", "wkb_raw_lost(", f"{it}: wkb_lost is not called") for it in EVERY),
+        ("c/test/memory.c", "wkb_collect(", "/* wkb_collect */ lost(", "memory.c: wkb_collect is not called"),
+    ]
+
+    def wrong(self):
+        for path in EVERY:
+            code = re.sub(r"/\*.*?\*/", "", text_of(path), flags=re.S)
+            yield from (f"{path}: {it} is not called" for it in calls() if not re.search(rf"\b{it}\(", code))

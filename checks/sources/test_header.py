@@ -1,0 +1,45 @@
+"""Doxygen takes c/wkb.h without a warning: each call names all its parameters, and what it returns."""
+import re
+import subprocess
+import tempfile
+
+from checks import judge
+from pages import text_of
+
+HEADER = "c/wkb.h"
+SETTINGS = """\
+INPUT = {folder}/wkb.h
+OUTPUT_DIRECTORY = {folder}
+GENERATE_LATEX = NO
+HAVE_DOT = NO
+JAVADOC_AUTOBRIEF = YES
+OPTIMIZE_OUTPUT_FOR_C = YES
+QUIET = YES
+WARN_NO_PARAMDOC = YES
+"""
+
+
+class Header(judge.Judge):
+    """The warnings of Doxygen, but for the parts of the version, which share a comment."""
+
+    controls = [
+        (HEADER, " * @param len         its length in bytes\n", "", "parameter 'len'"),
+        (HEADER, "@param[out] box ", "@param[out] boxes ", "argument 'boxes' of command @param is not found"),
+        (HEADER, " * @return its WKB_VERSION\n", "", "return type of member wkb_version is not documented"),
+        (HEADER, "  /**< a wkb_order */", "", "Member order"),
+        (HEADER, "/** Lists the parts of the input", "/* Lists the parts of the input", "Member wkb_parts"),
+    ]
+
+    @classmethod
+    def setUpClass(cls):
+        judge.need("doxygen")
+
+    def wrong(self):
+        with tempfile.TemporaryDirectory() as folder:
+            with open(f"{folder}/wkb.h", "w", encoding="utf-8") as file:
+                file.write(text_of(HEADER))
+            settings = SETTINGS.format(folder=folder)
+            said = subprocess.run(["doxygen", "-"], input=settings, capture_output=True, text=True, check=True).stderr
+        for warning in re.split(r"\n(?=/)", said.strip()):
+            if warning and "Member WKB_VERSION" not in warning:
+                yield re.sub(r"^\S*/wkb\.h:\d+: ", f"{HEADER}: ", warning)

@@ -1,0 +1,147 @@
+"""Looks up in the sources each name and signature of checks/sources/interface.txt, whose head says how it is read.
+
+Each item is there, can be named by users, and has this signature. No enum has a variant more than the list has, no
+struct a field, and no trait asks its implementations for more.
+"""
+import collections
+import re
+import unittest
+
+from checks.judge import pages
+from items import NAMED, Paths
+
+LIST = "checks/sources/interface.txt"
+NAME = re.compile(r"(?:private )?(?:(?:use|const|fn|struct|enum|trait|type) )?(?:\w+::)*(\w+)")
+COMMA = re.compile(r", (?![^<]*>)")
+RIGHT = """\
+mod wkb::reader
+const MAX_WKB_NESTING_DEPTH: usize = MAX_NESTING
+struct Polygon<'a>
+    fn clone(&self) -> Result<Polygon<'a>, AllocError>
+    impl Debug, PolygonTrait
+    type PointType = Point<'a>, RingType = LinearRing<'a>
+mod wkb::geom
+trait PointTrait: Dimensioned
+    type CoordType: CoordTrait
+    fn coord(&self) -> Option<Self::CoordType>
+mod wkb::canon
+fn same(alloc: Global, a: &[u8], b: &[u8]) ->
+        WkbResult<bool>
+mod wkb_geom
+use wkb::Endianness
+impl From<Endianness> for u8
+mod wkb_view::reserved
+private fn bounded_capacity(count: u32, remaining: usize, least: usize) -> usize"""
+# Each line by itself: another value, signature or name; what no user can name; and what lacks a part that it has.
+WRONG = """\
+mod wkb::reader | const MAX_WKB_NESTING_DEPTH: usize = 127
+mod wkb::reader | struct Polygon<'a> |     fn copy(&self) -> Result<Polygon<'a>, AllocError>
+mod wkb::reader | struct Polygon<'a> |     impl Debug, Copy
+mod wkb::reader | struct Polygon<'a> |     type RingType = LineString<'a>
+mod wkb::reader | struct Counts
+mod wkb::canon | fn same(a: &[u8], b: &[u8]) -> WkbResult<bool>
+mod wkb::canon | fn equal(alloc: Global, a: &[u8], b: &[u8]) -> WkbResult<bool>
+mod wkb::geom | trait PointTrait: Dimensioned
+mod wkb::error | enum Overflow |     Count
+mod wkb::error | enum Overflow |     Count |     Size(u64)
+mod wkb_geom | use wkb::reader::Endianness
+mod wkb_geom | impl From<Endianness> for u16
+mod wkb_geom::common
+mod wkb_view::reserved | fn bounded_capacity(count: u32, remaining: usize, least: usize) -> usize"""
+
+
+def rows(text):
+    """(path, item) of each item of a list; of each of several traits or types that a line names."""
+    module = owner = ""
+    for line in re.sub(r"\n {8,}", " ", text).splitlines():
+        item = line.strip()
+        word, _, rest = item.partition(" ")
+        if word == "mod":
+            module = owner = rest
+            yield module, item
+        elif word == "impl":
+            traits, _, kind = rest.partition(" for ")
+            yield from ((kind or owner, f"impl {trait}") for trait in re.split(COMMA, traits))
+        elif item and word[0] != "#":
+            for one in [f"type {it}" for it in re.split(COMMA, rest)] if word == "type" else [item]:
+                path = f"{module if line == item else owner}::{NAME.match(one)[1]}"
+                yield path, one
+            owner = path if line == item else owner
+
+
+def needed(item):
+    """What users of a type name when they match on it or make it, and what implementations of a trait owe."""
+    if item.kind == "trait":
+        return [it for it in item.inside if it.kind in ("fn", "type") and it.body is None]
+    parts = [it for it in item.inside if it.kind != "ghost"] if item.kind in ("enum", "struct") else []
+    return parts if item.kind == "enum" or any(it.is_public for it in parts) else []
+
+
+class Sources:
+    """What crates hand to their users: the items of each path, and the paths of what is needed with one."""
+
+    def __init__(self, crates):
+        self.items, self.needed = collections.defaultdict(set), collections.defaultdict(set)
+        paths, places = Paths(), collections.defaultdict(set)
+        for crate in sorted(crates & paths.crates):
+            for module in ["", *paths.modules(crate)]:
+                path = f"{crate}::{module}" if module else crate
+                self.items[path].add(f"mod {path}")
+                for home, item in filter(None, paths.public(crate, module)):
+                    places[item].add(f"{path}::{item.name}")
+                    self.add(paths.crate(home), item, f"{path}::{item.name}")
+            self.add_others(paths.crate(crate), crate)
+        for same in places.values():
+            for path in same:
+                self.items[path].update(f"use {other}" for other in same - {path})
+
+    def add(self, crate, item, path):
+        """Add an item with its members and the traits that it has."""
+        members = [it for it in item.inside if it.kind != "ghost" and (item.kind != "struct" or it.is_public)]
+        for trait, block in crate.impls_of(item.name) if item.kind in ("enum", "struct") else []:
+            members += [it for it in block.inside if trait or it.is_public]
+            self.items[path].add(f"impl {trait}")
+        self.items[path].update([item.whole, *(f"impl {trait}" for trait in item.derived)])
+        self.needed[path] = {f"{path}::{it.name}" for it in needed(item)}
+        for it in members:
+            self.items[f"{path}::{it.name}"].add(it.whole)
+
+    def add_others(self, crate, name):
+        """Add the traits of the language's own types, and what no user sees."""
+        for trait, kind, _ in crate.impls:
+            self.items[kind].add(f"impl {trait}")
+        for module, found in crate.modules.items():
+            for it in (it for it in found if it.kind in NAMED and not it.is_public):
+                self.items[f"{name}::{module}::{it.name}"].add(f"private {it.whole}")
+
+    def faults(self, listed):
+        """What is wrong with a list."""
+        for path, item in listed:
+            found = self.items.get(path, set())
+            others = sorted(it for it in found if it.split()[0] == item.split()[0])
+            if item not in found:
+                yield f"{path}: {item}\n    the sources have {'; '.join(others) or 'no such item'}"
+        paths = {path for path, item in listed if item.split()[0] not in ("use", "impl")}
+        for path in sorted(set().union(*(self.needed.get(path, ()) for path in paths)) - paths):
+            yield f"{path}: {'; '.join(sorted(self.items[path]))}\n    is not on the list, and belongs to what is"
+
+
+class Interface(unittest.TestCase):
+    """The list, one that has to be let pass, and some that have to be refused."""
+
+    listed = staticmethod(lambda: list(rows(pages.text_of(LIST))))
+
+    @classmethod
+    def setUpClass(cls):
+        cls.sources = Sources({path.partition("::")[0] for path, _ in cls.listed()})
+
+    def test_the_list_is_that_of_the_sources(self):
+        self.assertEqual([*self.sources.faults(self.listed())], [])
+
+    def test_a_right_list_passes(self):
+        self.assertEqual([*self.sources.faults(list(rows(RIGHT)))], [])
+
+    def test_wrong_lists_are_refused(self):
+        for lines in WRONG.splitlines():
+            with self.subTest(lines=lines):
+                self.assertTrue([*self.sources.faults(list(rows(lines.replace(" | ", "\n"))))])

@@ -1,0 +1,71 @@
+"""Something cites each lemma.
+
+A lemma is what a file of proofs/ defines, but for the files of functions' proofs, whose names the prover reads. Another
+definition, a contract or an attribute of the code has to name it. The worked values whose names begin with `worked_`
+are cited by nothing on purpose: that they are proved shows them.
+"""
+import collections
+import pathlib
+import re
+
+from checks import judge
+from pages import texts
+
+OF_FUNCTIONS = {"Answers.antt", "Invariants.antt", "Proof.antt", "Lib.antt"}
+DEFINITION = re.compile(r"(?:pub )?(?:unfoldable |abbrev |record |data )?([^\s:(){}.|]+)(?: \(.*\))* :(?: |$)")
+NAME = re.compile(r"[^\s(){}\[\],;]+")
+IMPORT = re.compile(r"(?m)^ *(?:pub )?use [^\n]*(?:\n +[^\n]*)*")
+COMMENT = {".antt": re.compile(r"--[^\n]*"), ".rt": re.compile(r"//[^\n]*")}
+
+
+def sources():
+    """The text of each source of the crates."""
+    return texts("crates/*/specs/**/*.antt", "crates/*/proofs/**/*.antt", "crates/*/src/**/*.rt")
+
+
+def words_of(text):
+    """The words of a text, and the last part of each that has dots or colons."""
+    found = set(NAME.findall(text))
+    return found | {re.split(r"[.:]+", it)[-1] for it in found} | {part for it in found for part in it.split(".")}
+
+
+def blocks_of(path, text):
+    """[line, name, words] of each definition of a file; without a name of what stands between them, or of code."""
+    suffix = pathlib.PurePath(path).suffix
+    bare = COMMENT[suffix].sub("", text)
+    if suffix == ".rt":
+        return [[0, None, words_of(bare)]]
+    blocks = [[1, None, set()]]
+    for number, line in enumerate(IMPORT.sub(lambda it: "\n" * it[0].count("\n"), bare).splitlines(), 1):
+        head = DEFINITION.match(line)
+        if head:
+            blocks.append([number, head[1], set()])
+        elif line[:1].strip() and line.split(" ")[0] != blocks[-1][1]:
+            blocks.append([number, None, set()])
+        blocks[-1][2] |= words_of(line)
+    return blocks
+
+
+def uncited(known={}):
+    """What is said of each lemma that no other definition names."""
+    found = []
+    for path, text in sources().items():
+        if (path, text) not in known:
+            known[path, text] = blocks_of(path, text)
+        found += [(path, *block) for block in known[path, text]]
+    cited = collections.Counter(word for *_, name, words in found for word in words if word != name)
+    for path, line, name, _ in found:
+        is_lemma = "/proofs/" in path and path.split("/")[-1] not in OF_FUNCTIONS and name
+        if is_lemma and not cited[name] and not name.startswith("worked_"):
+            yield f"{path}:{line}: nothing cites {name}"
+
+
+class Lemmas(judge.Judge):
+    """Something cites each lemma."""
+
+    controls = [
+        ("crates/wkb_laws/proofs/Complete.antt", "", "lost : Unit\nlost = unit\n\n", "nothing cites lost"),
+    ]
+
+    def wrong(self):
+        return uncited()

@@ -1,0 +1,59 @@
+"""What is counted falls below no floor of checks/floors: who takes something away lowers the floor with it."""
+import unittest
+
+from checks import judge
+from checks.sources import test_cases, test_interface, test_sentences
+from pages import PAGES, ROOT, text_of
+
+FLOORS = "checks/floors"
+
+
+def tests_in(suite):
+    """The tests of a suite and of those in it."""
+    for it in suite:
+        yield from tests_in(it) if isinstance(it, unittest.TestSuite) else [it]
+
+
+def counts():
+    """How many there are today of each thing that is counted."""
+    tests = [*tests_in(unittest.TestLoader().discover(str(ROOT / "checks"), top_level_dir=str(ROOT)))]
+    judges = {type(it) for it in tests if isinstance(it, judge.Judge)}
+    rows = test_cases.rows()[0]
+    files = {
+        "wrong bodies": "checks/edits/wkb*/*.edit",
+        "wrong bodies that rt ci tries": "crates/*/must-fail/*.edit",
+        "right bodies": "checks/edits/right_bodies/*/*.edit",
+        "faults": "checks/faults/*.fault",
+    }
+    return {
+        "pages": len(PAGES),
+        "tests of pages and sources": len(tests),
+        "controls of these": sum(len(it.controls) for it in judges),
+        "wrong interfaces": len(test_interface.WRONG.splitlines()),
+        "names and signatures of the interface": len([*test_interface.rows(text_of(test_interface.LIST))]),
+        "sentences of wkb.h": len(test_sentences.rows()),
+        "worked cases": len({*rows, *test_cases.listed()}),
+        "rows of worked cases": sum(rows.values()),
+        "tests and programs whose allocations fail": len(text_of("checks/memory/expected").splitlines()),
+        **{name: len([*ROOT.glob(pattern)]) for name, pattern in files.items()},
+    }
+
+
+class Floors(judge.Judge):
+    """Each count, and its floor."""
+
+    controls = [
+        (FLOORS, "wrong bodies: ", "wrong bodies: 9", "wrong bodies: there are "),
+        (FLOORS, "faults: ", "lost faults: ", "there is no floor of faults"),
+        (FLOORS, "faults: ", "lost faults: ", "nothing counts lost faults"),
+    ]
+    is_apart = True
+
+    def wrong(self):
+        floors = dict(line.split(": ") for line in text_of(FLOORS).splitlines())
+        today = counts()
+        yield from (f"there is no floor of {it}" for it in today.keys() - floors.keys())
+        yield from (f"nothing counts {it}" for it in floors.keys() - today.keys())
+        for it in today.keys() & floors.keys():
+            if today[it] < int(floors[it]):
+                yield f"{it}: there are {today[it]}, and the floor is {floors[it]}"

@@ -1,0 +1,123 @@
+"""The gate, `.ci/run`, over stubs of its steps."""
+import os
+import pathlib
+import re
+import shutil
+import subprocess
+import tempfile
+import unittest
+
+from checks.judge import need, pages
+
+# What a stub does: it says which step it is, and ends with 1 if it is the one that has to fail, or if nothing forbids
+# its tests to be skipped.
+STUB = """#!/bin/sh
+it="{name}${{*:+ $*}}"
+echo "$it" >>"$SAID"
+[ "$it" != "$FAILS" ] && [ "$STRICT" = 1 ]
+"""
+# What the gate calls besides its steps.
+OTHERS = {"rt version", "tools/kit.py take"}
+JUDGE = "checks/sources/left_out"
+
+
+def listed():
+    """The steps that docs/TESTING.md lists."""
+    rows = [row for _, heads, row in pages.rows_of("docs/TESTING.md") if heads == ["step", "what it does"]]
+    return sorted(step for row in rows for step in pages.spans(row[0]))
+
+
+class Gate(unittest.TestCase):
+    """The steps are stubs, and so is the command rt; git is not."""
+
+    @classmethod
+    def setUpClass(cls):
+        need("bash", "git", "make", "objcopy", os.environ.get("CC", "cc"))
+        cls.room = tempfile.TemporaryDirectory()
+        cls.addClassCleanup(cls.room.cleanup)
+        cls.top = pathlib.Path(cls.room.name, "a place")
+        (cls.top / ".ci").mkdir(parents=True)
+        shutil.copy2(pages.ROOT / ".ci/run", cls.top / ".ci/run")
+        for name in {it.split()[0] for it in [*listed(), *OTHERS, JUDGE]}:
+            file = cls.top / ("bin/rt" if name == "rt" else name)
+            file.parent.mkdir(parents=True, exist_ok=True)
+            file.write_text(STUB.format(name=name))
+            file.chmod(0o755)
+        cls.git("init", "-q")
+        cls.commit()
+
+    @classmethod
+    def git(cls, *words):
+        """What git says in the folder of the stubs."""
+        own = ["-c", "user.name=it", "-c", "user.email=it@example.org"]
+        return subprocess.run(["git", *own, *words], cwd=cls.top, check=True, capture_output=True, text=True).stdout
+
+    @classmethod
+    def commit(cls):
+        cls.git("add", "-A")
+        cls.git("commit", "-qm", "as it is", "--allow-empty")
+
+    def gate(self, fails="none"):
+        """The status of the gate, and what it calls, where one step fails."""
+        said = pathlib.Path(self.room.name, "said")
+        said.write_text("")
+        path = f"{self.top}/bin:{os.environ['PATH']}"
+        ran = subprocess.run([self.top / ".ci/run"], env={**os.environ, "PATH": path, "SAID": said, "FAILS": fails},
+                             stdout=subprocess.PIPE, stderr=subprocess.STDOUT, text=True)
+        return ran.returncode, said.read_text().splitlines(), ran.stdout
+
+    def passed(self):
+        """The commit that git's folder names as passed."""
+        file = self.top / ".git/passed"
+        return file.read_text().strip() if file.exists() else None
+
+    def test_it_starts_the_steps_of_the_page(self):
+        status, called, _ = self.gate()
+        self.assertEqual(status, 0)
+        asked = [it for it in called if it.startswith(JUDGE)]
+        self.assertEqual(sorted(it for it in called if it not in {*OTHERS, *asked}), listed())
+        self.assertEqual(len(asked), 1, f"{JUDGE} has to be asked once")
+        self.assertLess(called.index("rt ci"), called.index("tools/kit.py take"))
+        self.assertEqual(called[-1], asked[0])
+
+    def test_it_fails_with_each_step(self):
+        for step in listed():
+            with self.subTest(step=step):
+                status, called, printed = self.gate(step)
+                self.assertEqual((status, step in called), (1, True))
+                self.assertRegex(printed, rf"(?m)^{re.escape(step)} .*FAILED$")
+
+    def test_it_fails_where_something_was_left_out_wrongly(self):
+        whole = (self.top / JUDGE).read_text()
+        self.addCleanup((self.top / JUDGE).write_text, whole)
+        (self.top / JUDGE).write_text(whole + "exit 1\n")
+        self.assertEqual(self.gate()[0], 1)
+
+    def test_it_ends_with_2_without_the_kit(self):
+        path = "/usr/bin:/bin"
+        if shutil.which("rt", path=path):
+            self.skipTest("the kit is in /usr/bin")
+        self.assertEqual(subprocess.run([self.top / ".ci/run"], env={"PATH": path}, capture_output=True).returncode, 2)
+
+    def test_the_commit_is_passed(self):
+        self.commit()
+        head, before = self.git("rev-parse", "HEAD").strip(), self.passed()
+        self.assertEqual(self.gate("rt ci")[0], 1)
+        self.assertEqual(self.passed(), before)
+        (self.top / "file").write_text("not of the commit")
+        self.assertEqual(self.gate()[0], 0)
+        self.assertEqual(self.passed(), before)
+        (self.top / "file").unlink()
+        self.assertEqual(self.gate()[0], 0)
+        self.assertEqual(self.passed(), head)
+
+    def test_a_commit_in_between_is_not_passed(self):
+        step = self.top / "checks/run"
+        whole = step.read_text()
+        self.addCleanup(self.commit)
+        self.addCleanup(step.write_text, whole)
+        step.write_text(whole + 'git -c user.name=i -c user.email=i@i commit -qm meanwhile --allow-empty\n')
+        self.commit()
+        before = self.passed()
+        self.assertEqual(self.gate()[0], 0)
+        self.assertEqual(self.passed(), before)

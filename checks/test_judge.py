@@ -1,0 +1,91 @@
+"""A judge fails where something is wrong and where it is blind, and checks/run where a test fails or is skipped."""
+import os
+import pathlib
+import shutil
+import subprocess
+import tempfile
+import unittest
+
+from checks import judge
+from pages import ROOT, text_of
+
+CONTROL = "README.md", "", "lost", "it begins with lost"
+
+
+def seeing(*found):
+    """A judge that finds these, and what its control plants."""
+
+    class Seeing(judge.Judge):
+        controls = [CONTROL]
+
+        def wrong(self):
+            return [*found, *(["it begins with lost"] if text_of("README.md").startswith("lost") else [])]
+
+    return Seeing
+
+
+def blind(*given):
+    """A judge with these controls, which finds nothing."""
+
+    class Blind(judge.Judge):
+        controls = list(given)
+
+        def wrong(self):
+            return []
+
+    return Blind
+
+
+def failures_of(case):
+    """The names of the tests of a judge that fail."""
+    result = unittest.TestResult()
+    unittest.defaultTestLoader.loadTestsFromTestCase(case).run(result)
+    return {it.id().split(" ")[0].split(".")[-1] for it, _ in result.failures + result.errors}
+
+
+class Judges(unittest.TestCase):
+    """Judges of which some are blind."""
+
+    def test_one_that_sees(self):
+        self.assertEqual(failures_of(seeing()), set())
+
+    def test_something_is_wrong(self):
+        self.assertEqual(failures_of(seeing("a fault")), {"test_nothing_is_wrong"})
+
+    def test_blind_ones(self):
+        for controls in ([CONTROL], [], [("README.md", "a text that no page has", "", "")]):
+            with self.subTest(controls=controls):
+                self.assertEqual(failures_of(blind(*controls)), {"test_controls"})
+
+
+class Run(unittest.TestCase):
+    """checks/run over a copy with one file of tests."""
+
+    def status_of(self, body, **own):
+        with tempfile.TemporaryDirectory() as name:
+            top = pathlib.Path(name)
+            (top / "checks").mkdir()
+            for path in ("checks/run", "checks/judge.py", "checks/__init__.py"):
+                shutil.copy2(ROOT / path, top / path)
+            os.symlink(ROOT / "tools", top / "tools")
+            head = "import unittest\nfrom checks import judge\nclass It(unittest.TestCase):\n    def test_it(self):\n"
+            (top / "checks/test_it.py").write_text(f"{head}        {body}\n")
+            env = {key: it for key, it in os.environ.items() if key != "STRICT"}
+            ran = subprocess.run(["python3", top / "checks/run"], env={**env, **own}, stderr=subprocess.PIPE, text=True)
+            return ran.returncode, ran.stderr
+
+    def test_its_status(self):
+        for body, strict, status in [
+            ("pass", "1", 0),
+            ("self.fail()", "", 1),
+            ("raise ValueError", "", 1),
+            ("self.skipTest('it is old')", "", 0),
+            ("self.skipTest('it is old')", "1", 1),
+            ("judge.need('no-such-program')", "1", 0),
+        ]:
+            with self.subTest(body=body, strict=strict):
+                self.assertEqual(self.status_of(body, STRICT=strict)[0], status)
+
+    def test_it_says_what_is_left_out(self):
+        said = self.status_of("judge.need('no-such-program')")[1]
+        self.assertIn("left out: checks.test_it.It.test_it, since there is no no-such-program", said)

@@ -1,0 +1,63 @@
+"""tools/kit.py over two crates of a template of the kit: what it takes for built, after `rt ci` and after changes."""
+import os
+import pathlib
+import shutil
+import subprocess
+import tempfile
+import unittest
+
+from checks.judge import need
+from pages import ROOT
+
+CHANGE = "// Another line.\n"
+
+
+class Kit(unittest.TestCase):
+    """A repository of the crates `low` and, over it, `mid`."""
+
+    def setUp(self):
+        need("rt", "git")
+        around = tempfile.TemporaryDirectory()
+        self.addCleanup(around.cleanup)
+        self.top = pathlib.Path(around.name, "a place")
+        for name in ("tools", "crates"):
+            (self.top / name).mkdir(parents=True)
+        shutil.copy2(ROOT / "tools/kit.py", self.top / "tools")
+        shutil.copy2(ROOT / "HANDLES", self.top)
+        self.ran("git", "init", "-q")
+        for name in ("low", "mid"):
+            self.ran("rt", "new", name, "start_lib", folder="crates")
+        for file in [*self.top.rglob("BUILD.bazel"), *self.top.rglob("MODULE.bazel")]:
+            file.unlink()
+        (self.top / "crates.txt").write_text("low:\nmid: low\n")
+        self.source = self.top / "crates/low/src/lib.rt"
+
+    def ran(self, *command, folder="."):
+        """The status of a command, and what it prints."""
+        how = {"stdout": subprocess.PIPE, "stderr": subprocess.STDOUT, "text": True, "cwd": self.top / folder}
+        ran = subprocess.run(command, **how)
+        return ran.returncode, ran.stdout
+
+    def built(self):
+        """The libraries below `mid` that are taken for built."""
+        return self.ran("tools/kit.py", "built", "mid")[1].split()
+
+    def prove(self):
+        """Run `rt ci`, which has to pass, and take what it has proved."""
+        status, printed = self.ran("rt", "ci")
+        self.assertEqual(status, 0, printed)
+        status, printed = self.ran("tools/kit.py", "take")
+        self.assertEqual(status, 0, printed)
+
+    def test_what_is_built(self):
+        self.assertEqual(self.built(), [])
+        self.prove()
+        self.assertEqual(self.built(), ["low"])
+        os.utime(self.source)
+        self.assertEqual(self.built(), ["low"], "a source was touched, and nothing changed")
+        times = self.source.stat().st_atime, self.source.stat().st_mtime
+        self.source.write_text(self.source.read_text() + CHANGE)
+        os.utime(self.source, (times[0] - 10**6, times[1] - 10**6))
+        self.assertEqual(self.built(), [], "a source was changed, and has an old time")
+        self.prove()
+        self.assertEqual(self.built(), ["low"], "`rt ci` puts back what was built before")

@@ -1,0 +1,239 @@
+"""What runs things says so where one goes wrong: each script runs over stand-ins, of which some must not pass."""
+import contextlib
+import importlib.machinery
+import importlib.util
+import io
+import os
+import pathlib
+import shutil
+import subprocess
+import sys
+import tempfile
+import types
+import unittest
+from unittest import mock
+
+from checks.judge import need
+from pages import ROOT
+
+# A program of tests that asks for memory, and passes on that there is none; and one that hides it.
+TESTS = """
+#include <stdlib.h>
+#include <string.h>
+#include <unistd.h>
+static int say(const char *text) { return write(1, text, strlen(text)) < 0; }
+int main(int count, char **words) {
+  if (count > 1 && !strcmp(words[1], "--list")) return say("it: test\\n");
+  void *block = malloc(24);
+  if (!block && !%d) return say("error: Memory\\n") + 1;
+  free(block);
+  return say("test result: ok\\n");
+}
+"""
+
+
+def module(path):
+    """A script as a module."""
+    loader = importlib.machinery.SourceFileLoader(pathlib.Path(path).name, str(ROOT / path))
+    made = importlib.util.module_from_spec(importlib.util.spec_from_loader(loader.name, loader))
+    loader.exec_module(made)
+    return made
+
+
+class Copy(unittest.TestCase):
+    """A folder with a few files of the repository and others in it."""
+
+    def setUp(self):
+        around = tempfile.TemporaryDirectory()
+        self.addCleanup(around.cleanup)
+        self.top = pathlib.Path(around.name)
+
+    def copy(self, *paths):
+        for path in paths:
+            (self.top / path).parent.mkdir(parents=True, exist_ok=True)
+            shutil.copy2(ROOT / path, self.top / path)
+
+    def write(self, path, text, mode=0o644):
+        (self.top / path).parent.mkdir(parents=True, exist_ok=True)
+        (self.top / path).write_text(text)
+        (self.top / path).chmod(mode)
+
+    def ran(self, *command):
+        """The status of a command, and what it prints."""
+        how = {"stdout": subprocess.PIPE, "stderr": subprocess.STDOUT, "text": True, "cwd": self.top}
+        ran = subprocess.run([self.top / command[0], *command[1:]], **how)
+        return ran.returncode, ran.stdout
+
+
+class Faults(Copy):
+    """checks/faults/run over faults of a file with one word."""
+
+    CASES = [
+        ("seen", "red: grep one c/it || echo it is gone; grep one c/it", "says: it is gone", "new: two", 0, "found by"),
+        ("unseen", "red: true", "says: gone", "new: two", 1, "FAULT NOT FOUND"),
+        ("otherwise", "red: grep -q one c/it", "says: it is gone", "new: two", 1, "for another reason"),
+        ("harmless", "green: grep -q one c/it", None, "new: one more", 0, "let pass"),
+        ("seen_though_harmless", "green: grep -q one c/it", None, "new: two", 1, "for another reason"),
+        ("never_green", "red: false", "says: gone", "new: two", 1, "fails without a fault"),
+        ("endless", "red: grep one c/it || sleep 60\nseconds: 1", "says: it does not end", "new: two", 0, "found by"),
+    ]
+
+    def test_each(self):
+        need("make", "bash")
+        self.copy("checks/faults/run", "tools/pages.py")
+        self.write("c/Makefile", "all:\n\t@true\n")
+        self.write("c/it", "one\n")
+        for name, command, says, new, status, said in self.CASES:
+            lines = ["shows: it", command, *([says] if says else []), "file: c/it", "old: one", new]
+            self.write(f"checks/faults/{name}.fault", "\n".join(lines) + "\n")
+        for name, *_, status, said in self.CASES:
+            with self.subTest(name=name):
+                ended, printed = self.ran("checks/faults/run", name)
+                self.assertEqual(ended, status, printed)
+                self.assertIn(said, printed)
+
+
+class Hosts(Copy):
+    """checks/hosts/run over a stand-in for the Python package's tests."""
+
+    def test_each(self):
+        need("make", "bash")
+        self.copy("checks/hosts/run")
+        self.write("c/Makefile", "all:\n\t@true\n")
+        for body, status, said in [("exit 0", 0, "ok"), ("exit 1", 1, "FAILED"), ("echo 'left out: it'", 0, "in part")]:
+            with self.subTest(body=body):
+                self.write("python/run", f"#!/bin/sh\n{body}\n", 0o755)
+                ended, printed = self.ran("checks/hosts/run", "python")
+                self.assertEqual(ended, status, printed)
+                self.assertRegex(printed, rf"(?m)^python .*{said}$")
+
+
+class Memory(Copy):
+    """checks/memory/run over a program that asks for memory once."""
+
+    def of(self, hides, expected):
+        """The status over a program, and what it prints."""
+        need(os.environ.get("CC", "cc"))
+        self.copy("checks/memory/run", "checks/memory/refuse.c", "tools/pages.py", "tools/crates")
+        self.write("crates.txt", "it: std\n")
+        self.write("crates/it/src/lib.rt", "#[test]\nfn it() {}\n")
+        self.write("it.c", TESTS % hides)
+        (self.top / "crates/it/out").mkdir(exist_ok=True)
+        program = self.top / "crates/it/out/it_tests"
+        subprocess.run([os.environ.get("CC", "cc"), self.top / "it.c", "-o", program], check=True)
+        self.write("checks/memory/expected", expected)
+        return self.ran("checks/memory/run")
+
+    def test_as_expected(self):
+        status, printed = self.of(0, "it it 1/24 Memory\n")
+        self.assertEqual(status, 0, printed)
+
+    def test_what_is_not_expected(self):
+        for hides, expected, said in [
+            (1, "it it 1/24 Memory\n", "a failed allocation ended with `ok`"),
+            (0, "it it 2 Memory\n", "1 allocations, and not 2"),
+            (0, "it it 1/23 Memory\n", "24 bytes asked for, and not 23"),
+            (0, "it it 1/24 Memory | AllocError\n", "no failed allocation ended with `AllocError`"),
+            (0, "", "is not in checks/memory/expected"),
+            (0, "it it 1/24 Memory\nit lost 1 Memory\n", "is no case"),
+        ]:
+            with self.subTest(expected=expected):
+                status, printed = self.of(hides, expected)
+                self.assertEqual(status, 1, printed)
+                self.assertIn(said, printed)
+
+    def test_an_old_program(self):
+        self.of(0, "it it 1/24 Memory\n")
+        os.utime(self.top / "crates/it/out/it_tests", (1, 1))
+        status, printed = self.ran("checks/memory/run")
+        self.assertEqual(status, 1)
+        self.assertIn("older than its sources", printed)
+
+
+class Edits(Copy):
+    """checks/edits/run over a stand-in for the prover, which says what a file names."""
+
+    OPEN = "note: src/it.rt:1:1: a goal (`returns`){}\nfn it::f: not proved\nonly=1"
+    FALSE = OPEN.format(" values allow values at which this goal is false")
+    PROVED = "fn it::f: proved\nonly=1"
+
+    def run_edits(self, says, wrong="false by values", right="proved", more=""):
+        """The status over two edits of one function, of which the prover says what `says` has, and what it prints."""
+        folder = self.top / "edits"
+        shutil.rmtree(folder, ignore_errors=True)
+        self.write("crates/it/src/it.rt", "one\n")
+        change = "file: src/it.rt\nold: one\n"
+        self.write("edits/it/wrong.edit", f"shows: it\nrefused: f\nexpected: {wrong}\n{change}new: wrong\n")
+        if right is not None:
+            self.write("edits/right_bodies/it/right.edit", f"rewritten: f\nexpected: {right}\n{change}new: right\n")
+        if more:
+            self.write("edits/it/more.edit", f"shows: it\nrefused: f\nexpected: {wrong}\n{change}new: {more}\n")
+        crate = types.SimpleNamespace(name="it", folder=str(self.top / "crates/it"))
+        stopped = mock.Mock(side_effect=SystemExit(2))
+        kit = types.SimpleNamespace(
+            ROOT=self.top, __file__=str(ROOT / "tools/kit.py"), stop=stopped, begin=lambda: None, crate=lambda _: crate,
+            sum_of=lambda _: "sum", prove_below=lambda _: True, processors=lambda: 1, is_unread=lambda *_: False,
+            copy_sources=lambda of, to: shutil.copytree(of.folder, to),
+            edited=lambda text, at: ({"src/it.rt": text.rpartition("new: ")[2]}, None),
+            prove=lambda verb, of, flags, at: types.SimpleNamespace(
+                stdout=says[pathlib.Path(at, "src/it.rt").read_text().strip()]),
+        )
+        printed = io.StringIO()
+        path, home = [str(ROOT / "checks/edits"), *sys.path], {"XDG_CACHE_HOME": str(self.top / "cache")}
+        with contextlib.ExitStack() as stack:
+            stack.enter_context(mock.patch.dict(sys.modules, kit=kit))
+            stack.enter_context(mock.patch.dict(os.environ, home))
+            stack.enter_context(mock.patch.object(sys, "path", path))
+            stack.enter_context(contextlib.redirect_stdout(printed))
+            edits = module("checks/edits/run")
+            edits.HERE, edits.RIGHT = folder, folder / "right_bodies"
+            try:
+                status = edits.main([])
+            except SystemExit as ended:
+                status = ended.code
+        return status, printed.getvalue()
+
+    def test_as_expected(self):
+        says = {"wrong": self.FALSE, "right": self.PROVED}
+        self.assertEqual(self.run_edits(says)[0], 0)
+        self.assertEqual(self.run_edits({})[1].count("(kept)"), 2, "the verdicts of the first run")
+
+    def test_what_must_not_pass(self):
+        good = {"wrong": self.FALSE, "right": self.PROVED}
+        for name, says, how in [
+            ("a wrong body is proved", {**good, "wrong": self.PROVED}, {}),
+            ("a sort is another", {**good, "wrong": self.OPEN.format("")}, {}),
+            ("a right body is false", {**good, "right": self.FALSE}, {}),
+            ("a right body is not proved", {**good, "right": self.OPEN.format("")}, {}),
+            ("a right body is not reached", {**good, "right": "rattle: error: killed"}, {}),
+            ("a wrong body is not reached", {**good, "wrong": "rattle: error: killed"}, {}),
+            ("a right body names no sort", good, {"right": ""}),
+            ("a wrong body names no sort", good, {"wrong": ""}),
+            ("no right body is proved", good, {"right": None}),
+            ("two are equal", good, {"more": "wrong"}),
+        ]:
+            with self.subTest(name):
+                shutil.rmtree(self.top / "cache", ignore_errors=True)
+                self.assertIn(self.run_edits(says, **how)[0], (1, 2))
+
+
+class Weaken(unittest.TestCase):
+    """checks/faults/weaken where a test finds each changed instruction, one of them not, or nothing changes."""
+
+    def status_of(self, judged):
+        weaken = module("checks/faults/weaken")
+        found = mock.Mock(side_effect=judged)
+        with mock.patch.object(weaken.Weakened, "__init__", self.begin), contextlib.redirect_stdout(io.StringIO()):
+            with mock.patch.object(weaken.Weakened, "judge", found), mock.patch.object(weaken, "control"):
+                with mock.patch.object(weaken, "Programs"):
+                    return weaken.weaken(2, 1, pathlib.Path("/nowhere"))
+
+    @staticmethod
+    def begin(self, work, programs, text):
+        self.work, self.programs, self.text, self.unchanged, self.missed = work, programs, text, 0, []
+        self.found = __import__("collections").Counter()
+
+    def test_each(self):
+        every = [(False, "a test")] * 8
+        self.assertEqual(self.status_of(every), 0)
+        self.assertEqual(self.status_of([(True, None), *every]), 1)
