@@ -30,13 +30,14 @@ double sum = 0;
 
 constexpr double NEVER = std::numeric_limits<double>::infinity();
 
-// A call for a geometry and its like for a column, where there is one, and the nanoseconds of their shortest rounds,
-// divided by the rows and by what a row has of what is timed.
+// A call for a geometry and its like for a column, where there is one, over rows in little or in big endian, and the
+// nanoseconds of their shortest rounds, divided by the rows and by what a row has of what is timed.
 struct timed {
   const char *name;
   void (*call)(const row &);
   void (*column_call)(whole_column &) = nullptr;
   double per_row = 1;
+  bool is_big = false;
   double shortest = NEVER;
   double shortest_of_column = NEVER;
 };
@@ -117,6 +118,10 @@ void plain_call_write(const row &input) {
 
 void column_check(whole_column &it) { wkb_column_check(&it.raw, it.statuses.data()); }
 
+// A library of before this call has none, and then it isn't timed (bench/instructions).
+#pragma weak wkb_column_found
+void column_found(whole_column &it) { wkb_column_found(&it.raw, it.found.data(), it.statuses.data()); }
+
 void column_bounds(whole_column &it) { wkb_column_bounds(&it.raw, it.boxes.data(), it.statuses.data()); }
 
 void column_parts(whole_column &it) {
@@ -175,8 +180,11 @@ void ogr_read(const row &input) {
 
 const std::vector<timed> CALLS{
     {"check", call_check, column_check},
+    {"found", nullptr, wkb_column_found ? column_found : nullptr},
     {"bounds", call_bounds, column_bounds},
     {"bounds in plain C", plain_call_bounds},
+    {"big endian bounds", call_bounds, column_bounds, 1, true},
+    {"big endian bounds in plain C", plain_call_bounds, nullptr, 1, true},
     {"parts", call_parts, column_parts},
     {"parts, words", call_parts_and_words},
     {"parts, each word", call_parts_and_each_word},
@@ -210,24 +218,33 @@ void time_passes(const char *shape, const std::string &name, double &shortest, d
   if (counts) std::printf("%s\t%s\t%.0f\n", shape, name.c_str(), items);
 }
 
-void time_round(shape_times &to, const std::vector<row> &rows, whole_column &column) {
-  for (timed &it : to.calls) {
-    const double items = static_cast<double>(rows.size()) * it.per_row;
-    if (it.call)
-      time_passes(to.shape, it.name, it.shortest, items, [&] {
-        for (const row &input : rows) it.call(input);
-      });
-    if (!it.column_call) continue;
-    time_passes(to.shape, std::string(it.name) + ", column", it.shortest_of_column, items,
-                [&] { it.column_call(column); });
-    if (column.statuses != wkb::statuses(rows.size())) std::exit(1);
-  }
+// What is called for: geometries one by one, and as a column.
+struct inputs {
+  std::vector<row> rows;
+  whole_column column;
+
+  explicit inputs(std::vector<row> of) : rows(std::move(of)), column(rows) {}
+};
+
+void time_call(shape_times &to, timed &it, inputs &of) {
+  const double items = static_cast<double>(of.rows.size()) * it.per_row;
+  if (it.call)
+    time_passes(to.shape, it.name, it.shortest, items, [&] {
+      for (const row &input : of.rows) it.call(input);
+    });
+  if (!it.column_call) return;
+  time_passes(to.shape, std::string(it.name) + ", column", it.shortest_of_column, items,
+              [&] { it.column_call(of.column); });
+  if (of.column.statuses != wkb::statuses(of.rows.size())) std::exit(1);
 }
 
 shape_times time_shape(const char *shape, const std::vector<row> &rows, std::vector<timed> calls) {
   shape_times times{shape, rows[0].size(), std::move(calls)};
-  whole_column column(rows);
-  for (int round = 0; round < rounds; round++) time_round(times, rows, column);
+  std::vector<row> turned;
+  for (const row &it : rows) turned.push_back(written(it, BIG));
+  inputs little(rows), big(std::move(turned));
+  for (int round = 0; round < rounds; round++)
+    for (timed &it : times.calls) time_call(times, it, it.is_big ? big : little);
   return times;
 }
 
@@ -323,6 +340,7 @@ struct pair {
 constexpr pair PAIRS[] = {{"other order", "write", false},
                           {"as it is", "write as it is", false},
                           {"bounds", "bounds", false},
+                          {"big endian bounds", "big endian bounds", false},
                           {"coordinates", "coordinates", true}};
 
 // Our times by those of plain C.
@@ -353,8 +371,8 @@ int main(int argc, char **argv) {
   const std::vector<shape_times> shapes = time_shapes(), long_lines = time_words();
   if (counts) return 0;
   print_calls("ns a row", shapes,
-              {"check", "bounds", "parts", "parts, words", "parts, each word", "write", "coordinates",
-               "from coordinates", "OGR", "GEOS"},
+              {"check", "found", "bounds", "big endian bounds", "parts", "parts, words", "parts, each word", "write",
+               "coordinates", "from coordinates", "OGR", "GEOS"},
               true, 1);
   print_quotients(shapes);
   print_calls("ns a word", long_lines, {"wkb_word", "wkb_words"}, false, 2);

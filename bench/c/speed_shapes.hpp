@@ -144,6 +144,7 @@ struct whole_column {
   std::vector<std::uint8_t> statuses;
   std::vector<std::uint64_t> ends;
   std::vector<wkb_box> boxes;
+  std::vector<wkb_found> found;
   std::vector<wkb_part> parts;
   std::vector<std::byte> out;
   wkb::row_coordinates levels;
@@ -151,10 +152,11 @@ struct whole_column {
   wkb_dim dimension;
   wkb_column raw;
 
-  explicit whole_column(const std::vector<row> &rows) : statuses(rows.size()), ends(rows.size()), boxes(rows.size()) {
-    const wkb_found found = *wkb::check(rows[0]);
-    kind = static_cast<wkb_kind>(found.kind);
-    dimension = static_cast<wkb_dim>(found.dimension);
+  explicit whole_column(const std::vector<row> &rows)
+      : statuses(rows.size()), ends(rows.size()), boxes(rows.size()), found(rows.size()) {
+    const wkb_found first = *wkb::check(rows[0]);
+    kind = static_cast<wkb_kind>(first.kind);
+    dimension = static_cast<wkb_dim>(first.dimension);
     for (const row &it : rows) {
       data.insert(data.end(), it.begin(), it.end());
       offsets.push_back(static_cast<std::int64_t>(data.size()));
