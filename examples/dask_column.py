@@ -25,9 +25,9 @@ status 3) or in any other way, then the same command takes up the results that i
 partition as it is now.
 
 The work is done by processes on this machine (--workers, by default one for each processor), or by those of a Dask
-cluster (--scheduler ADDRESS), which see both folders and have the packages numpy, distributed and wkb. A process that
-dies is replaced, and its work done again. The exit status is 3 too where no process has worked for a minute (--timeout
-SECONDS), since each dies while it starts or the cluster has none, and where the scheduler is gone.
+cluster (--scheduler ADDRESS), which see both folders and have the packages numpy, distributed and porchsorrel_wkb. A
+process that dies is replaced, and its work done again. The exit status is 3 too where no process has worked for a
+minute (--timeout SECONDS), since each dies while it starts or the cluster has none, and where the scheduler is gone.
 """
 import argparse
 import concurrent.futures
@@ -44,14 +44,15 @@ import time
 
 import distributed
 import numpy
-import wkb
+import porchsorrel_wkb as wkb
 
 ENTRY = numpy.dtype([("high", "u8"), ("low", "u8"), ("partition", "i8"), ("row", "i8")])
 
 
 def say(text):
-    """Tell how far the work has come."""
-    print(f"dask_column: {text}", file=sys.stderr, flush=True)
+    """Tell how far the work has come: by one write, so that no line of another process comes in between."""
+    sys.stderr.write(f"dask_column: {text}\n")
+    sys.stderr.flush()
 
 
 @contextlib.contextmanager
