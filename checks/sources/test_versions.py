@@ -1,4 +1,4 @@
-"""Each file that names the library's version, or that of the C interface, names the one that tools/version tells."""
+"""Each file that names the version names the one that tools/version tells."""
 import re
 import subprocess
 import unittest
@@ -6,23 +6,20 @@ import unittest
 from checks.judge import pages
 
 NUMBER = r"\d+\.\d+\.\d+"
-# The files that name the library's version, and how; and those that name the version of the C interface.
-OF_LIBRARY = [
+# The files that name the version, and how.
+NAMED = [
     ("python/pyproject.toml", r'(?m)^version = "(.*)"$'),
     ("python/src/porchsorrel_wkb/__init__.py", r'(?m)^__version__ = "(.*)"$'),
     ("Cargo.toml", r'(?m)^version = "(.*)"$'),
     ("rust/geo/Cargo.toml", r'(?m)^version = "(.*)"$'),
     ("rust/geo/Cargo.toml", r'(?m)^porchsorrel-wkb = .*"([\d.]+)"'),
     ("CITATION.cff", r"(?m)^version: (.*)$"),
-    ("README.md", rf"ersion ({NUMBER}), C interface {NUMBER}"),
+    ("README.md", rf"Version ({NUMBER})"),
     ("docs/TESTING.md", rf"of version\s({NUMBER})"),
-    ("CHANGELOG.md", rf"(?m)^## ({NUMBER}), C interface {NUMBER}"),
-]
-OF_INTERFACE = [
-    ("README.md", rf"ersion {NUMBER}, C interface ({NUMBER})"),
-    ("CHANGELOG.md", rf"(?m)^## {NUMBER}, C interface ({NUMBER})"),
     ("docs/RECIPES.md", r"find_package\(wkb ([\d.]+)"),
+    ("CHANGELOG.md", rf"\A(?:.*\n)*?## ({NUMBER})\n"),
     ("c/package/package.md", r"version ([\d.]+) of the calls"),
+    ("c/proved/PROVED", r"(?m)^version (.*)$"),
     ("postgres/wkb.control", r"(?m)^default_version = '(.*)'$"),
     ("postgres/expected", r"(?m)^([\d.]+)\|23$"),
 ]
@@ -36,15 +33,14 @@ class Versions(unittest.TestCase):
 
     def setUp(self):
         told = subprocess.run([pages.ROOT / "tools/version"], stdout=subprocess.PIPE, text=True, check=True).stdout
-        self.library, self.interface = (re.search(rf"(?m)^{it} (.*)$", told)[1] for it in ("version", "interface"))
+        self.version = re.search(r"(?m)^version (.*)$", told)[1]
 
-    def test_the_files_name_them(self):
-        for version, places in (self.library, OF_LIBRARY), (self.interface, OF_INTERFACE):
-            for path, pattern in places:
-                with self.subTest(path=path, pattern=pattern):
-                    text = pages.text_of(path)
-                    self.assertEqual({*re.findall(pattern, text)}, {version})
-                    self.assertEqual({*re.findall(pattern, text.replace(version, "9.9.9"))}, {"9.9.9"})
+    def test_the_files_name_it(self):
+        for path, pattern in NAMED:
+            with self.subTest(path=path, pattern=pattern):
+                text = pages.text_of(path)
+                self.assertEqual({*re.findall(pattern, text)}, {self.version})
+                self.assertEqual({*re.findall(pattern, text.replace(self.version, "9.9.9"))}, {"9.9.9"})
 
     def test_the_packages_have_the_licences(self):
         listed = re.search(r"(?m)^license:\n((?:  - .*\n)+)", pages.text_of("CITATION.cff"))[1]
@@ -56,5 +52,6 @@ class Versions(unittest.TestCase):
         oldest = re.search(r'(?m)^rust-version = "(.*)"$', pages.text_of("Cargo.toml"))[1]
         self.assertEqual(re.findall(RUST[1], pages.text_of(RUST[0])), [oldest])
 
-    def test_the_scripts_of_postgres_are_of_one(self):
-        self.assertEqual([it.name for it in pages.ROOT.glob("postgres/wkb--*.sql")], [f"wkb--{self.interface}.sql"])
+    def test_the_script_of_postgres_is_of_it(self):
+        found = [it.name for it in pages.ROOT.glob("postgres/wkb--*.sql") if it.name.count("--") == 1]
+        self.assertEqual(found, [f"wkb--{self.version}.sql"])

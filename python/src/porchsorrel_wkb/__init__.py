@@ -92,4 +92,4 @@ from ._results import ColumnFound as ColumnFound
 from ._results import ColumnParts as ColumnParts
 from ._results import Facts as Facts
 
-__version__ = "0.1.0"
+__version__ = "1.0.0"
