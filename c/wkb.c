@@ -1,3 +1,4 @@
+/* SPDX-License-Identifier: MIT OR Apache-2.0 */
 /* The part of the library that isn't proved: each call of wkb.h replaces null pointers, unpacks the structs of columns
  * and calls its proved wkb_raw_ call. The texts, the version, the class of refusals and wkb_words have no such call. */
 #include "wkb_raw.h"

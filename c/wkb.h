@@ -1,3 +1,4 @@
+/* SPDX-License-Identifier: MIT OR Apache-2.0 */
 /** Well-Known Binary for C and C++: a reader and a writer that are proved to do what this header says.
  *
  * A sentence that ends in (tested) is tested only. So are wkb_version, wkb_words, wkb_word, wkb_whole, wkb_one_point,

@@ -1,3 +1,4 @@
+// SPDX-License-Identifier: MIT OR Apache-2.0
 // A C++20 wrapper of wkb.h: spans, optionals, exceptions, and ranges over the parts of a geometry. Header only. Nothing
 // in it is proved. Coordinates are copied only on request. A rejected input is an exception, or for the calls whose
 // names begin with try_ and for check an empty optional or false, which costs a hundredth of it.

@@ -1,3 +1,4 @@
+/* SPDX-License-Identifier: MIT OR Apache-2.0 */
 /* The walk over the bytes that wkb_check has looked at, and the lines that it puts. See wkb_dump.h. */
 #include "wkb_dump.h"
 

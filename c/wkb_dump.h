@@ -1,3 +1,4 @@
+/* SPDX-License-Identifier: MIT OR Apache-2.0 */
 /* Shows the bytes of a geometry line by line, with what they mean, and where and why they are rejected. This is plain
  * C over wkb.h, and no part of the library: who wants it compiles wkb_dump.c too. It is tested, and not proved.
  *

@@ -1,3 +1,4 @@
+/* SPDX-License-Identifier: MIT OR Apache-2.0 */
 /* The program wkb_dump: its options and its input. What it shows is made by wkb_dump.c. */
 #include <stdbool.h>
 #include <stdio.h>

@@ -1,3 +1,4 @@
+// SPDX-License-Identifier: MIT OR Apache-2.0
 // What occurs in a column: which kinds and dimensions, which SRIDs, and the bounds of all rows together. It is made over
 // wkb.hpp, of what is found in each row and of the bounds of each row. Nothing in it is proved.
 #ifndef WKB_FACTS_HPP

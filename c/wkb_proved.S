@@ -1,3 +1,4 @@
+/* SPDX-License-Identifier: MIT OR Apache-2.0 */
 /* The proved calls for the compiler's system. This file and wkb.c are the whole library, for any build system:
  *
  *     cc -O2 -c -I FOLDER FOLDER/wkb.c FOLDER/wkb_proved.S

@@ -1,3 +1,4 @@
+-- SPDX-License-Identifier: MIT OR Apache-2.0
 -- Well-Known Binary over bytea. But for wkb_box, which is PostgreSQL's alone, the functions have the names and the
 -- meanings of those of the SQLite extension. All return null for null. All but the first three read the geometry at
 -- the start of the value, and ignore the bytes after it. If there is none they raise invalid_binary_representation,

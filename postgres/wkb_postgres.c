@@ -1,3 +1,4 @@
+/* SPDX-License-Identifier: MIT OR Apache-2.0 */
 /* Well-Known Binary in PostgreSQL, over bytea, and so over a geometry of PostGIS, which is cast to bytea. The file of
  * SQL beside it says what each function returns. The library keeps nothing between calls and doesn't allocate, so an
  * error can be raised after any call. */

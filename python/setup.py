@@ -1,3 +1,4 @@
+# SPDX-License-Identifier: MIT OR Apache-2.0
 """Puts the extension `_wkb` into the package: the one that WKB_EXTENSION names, or else one that `make` builds here, in
 `native` of the source package, or else the library beside this package."""
 import gzip

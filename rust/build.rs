@@ -1,3 +1,4 @@
+// SPDX-License-Identifier: MIT OR Apache-2.0
 //! Compiles the C library, two files, with the C compiler: `CC`, or else `cc`, and `AR`, or else `ar`. As for the crate
 //! `cc`, each variable may name a target: `CC_aarch64_unknown_linux_gnu`, or `TARGET_CC` where that isn't this system.
 use std::env;

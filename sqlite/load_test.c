@@ -1,3 +1,4 @@
+/* SPDX-License-Identifier: MIT OR Apache-2.0 */
 /* load_test EXTENSION: lets loads of the extension fail, and sees that each says why, that the connection goes on, that
  * the next load succeeds, that all memory is freed, and that no byte past an allocation is written. A load fails where
  * SQLite lacks memory, each of its allocations in turn, and where a statement is open while a function of the same name

@@ -1,3 +1,4 @@
+/* SPDX-License-Identifier: MIT OR Apache-2.0 */
 /* Well-Known Binary in SQLite. `make sqlite` in the folder above builds it as sqlite/wkb.so, which `.load ./wkb` loads
  * in that folder. These functions have the names and the meanings of those of the PostgreSQL extension:
  *

@@ -1,3 +1,4 @@
+# SPDX-License-Identifier: MIT OR Apache-2.0
 # The targets wkb::wkb and wkb::static or wkb::shared, of which the components are static and shared.
 include("${CMAKE_CURRENT_LIST_DIR}/wkb-targets.cmake")
 foreach(_wkb_kind IN LISTS wkb_FIND_COMPONENTS)

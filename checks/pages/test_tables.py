@@ -189,12 +189,13 @@ def lost_in_drawings():
 
 
 def packaged():
-    """The files and folders of the package, by the lines of c/package/dist that copy and make them."""
+    """The files and folders of the package, by the lines of c/package/dist that copy, make and write them."""
     text = text_of("c/package/dist").replace("\\\n", " ")
     words = re.findall(r'(?m)^cp -r (.*) "\$to/"$', text) + re.findall(r'(?m)^mkdir "\$to"/(\{.*\})$', text)
     ran = subprocess.run(["bash", "-c", f"printf '%s\\n' {' '.join(words)}"], cwd=ROOT / "c", stdout=subprocess.PIPE)
     proved = [f"proved/{it.name}" for it in (ROOT / "c/proved").iterdir() if it.suffix == ".s" or it.name == "PROVED"]
-    return {os.path.basename(it) for it in ran.stdout.decode().split()} | {*proved, "SUMS"}
+    written = re.findall(r'>"\$to/([^"]*)"$', text, re.M)
+    return {os.path.basename(it) for it in ran.stdout.decode().split()} | {*proved, *written, "SUMS"}
 
 
 def lost_files():

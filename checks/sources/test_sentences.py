@@ -35,8 +35,9 @@ TESTED = re.compile(
 UNPROVED = {"meaning", "caller", "later"}
 # Functions that only state facts, of constants, layouts and rows: their clauses are about every call.
 FACTS = {"numbers", "layouts", "rows_follow"}
-# What states nothing: a line below the heads of a table, and what only Doxygen reads; and since when there is a call.
-SILENT = re.compile(r"$|-+\|[-|]+$|@file$|@since 1\.\d+$")
+# What states nothing: a line below the heads of a table, and what only Doxygen reads; the licence; and since when there
+# is a call.
+SILENT = re.compile(r"$|-+\|[-|]+$|@file$|SPDX-License-Identifier: |@since 1\.\d+$")
 # What a comment above the code is about.
 DECLARED = re.compile(
     r"\s*(?:#ifndef (\w+)|#define (\w+)|typedef (?:struct|uint32_t) (\w+)|(?:static inline )?\w[\w ]*?[ *]+(wkb_\w+)\()"

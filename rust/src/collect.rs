@@ -1,3 +1,4 @@
+// SPDX-License-Identifier: MIT OR Apache-2.0
 //! Rows of a column as one geometry.
 use crate::{raw, Column, Dimension, Kind, Options, Refused, Status};
 use alloc::vec;

@@ -1,3 +1,4 @@
+// SPDX-License-Identifier: MIT OR Apache-2.0
 //! Columns of encodings, as Arrow has them.
 use crate::{raw, Bounds, Dimension, Options, Status};
 use alloc::vec;

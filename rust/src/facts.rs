@@ -1,3 +1,4 @@
+// SPDX-License-Identifier: MIT OR Apache-2.0
 //! What occurs in the rows of a column.
 use crate::{raw, Bounds, Column, Dimension, Found, Kind, Status};
 use alloc::collections::{BTreeMap, BTreeSet};

@@ -1,3 +1,4 @@
+// SPDX-License-Identifier: MIT OR Apache-2.0
 //! A geometry as the table of its parts.
 use crate::{check, raw, Dimension, Found, Kind, Order, Refused};
 use alloc::vec::Vec;

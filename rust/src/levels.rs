@@ -1,3 +1,4 @@
+// SPDX-License-Identifier: MIT OR Apache-2.0
 //! Encodings of one's own coordinates.
 use crate::{raw, Dimension, Encodings, Kind, Options, Status};
 use alloc::vec;

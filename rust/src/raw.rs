@@ -1,3 +1,4 @@
+// SPDX-License-Identifier: MIT OR Apache-2.0
 //! The calls and structs of `c/wkb.h`, which says what they do.
 use core::ffi::c_void;
 use core::mem::size_of;

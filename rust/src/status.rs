@@ -1,3 +1,4 @@
+// SPDX-License-Identifier: MIT OR Apache-2.0
 //! Why an input is refused, and what became of the rows of a column.
 use crate::raw;
 use alloc::vec::Vec;

@@ -1,3 +1,4 @@
+// SPDX-License-Identifier: MIT OR Apache-2.0
 //! What geometries are made of: kinds, dimensions, orders, and what is written besides the geometry itself.
 use crate::raw;
 use core::fmt;

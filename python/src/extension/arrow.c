@@ -1,3 +1,4 @@
+/* SPDX-License-Identifier: MIT OR Apache-2.0 */
 /* Arrow's capsules. A struct that comes in is moved into a capsule of the package's own, which owns it; the capsule of
  * a child owns its parent's. The package tests the counts; here no pointer is followed that is null or, by the counts,
  * isn't there. Of a released struct nothing is read but that it is. */

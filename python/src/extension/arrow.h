@@ -1,3 +1,4 @@
+/* SPDX-License-Identifier: MIT OR Apache-2.0 */
 /* Arrow's structs, and what arrow.c and arrow_out.c share. */
 #ifndef WKB_ARROW_H
 #define WKB_ARROW_H

@@ -1,3 +1,4 @@
+/* SPDX-License-Identifier: MIT OR Apache-2.0 */
 /* Arrays of Arrow that go out. What a struct shows is held by a tuple, and let go when the struct is released. Whoever
  * takes an array trusts its lengths and offsets, so they are tested here. */
 #include <stdatomic.h>

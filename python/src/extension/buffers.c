@@ -1,3 +1,4 @@
+/* SPDX-License-Identifier: MIT OR Apache-2.0 */
 /* Callers' buffers while a call lasts, and the interpreter's lock. */
 #include "extension.h"
 

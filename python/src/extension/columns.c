@@ -1,3 +1,4 @@
+/* SPDX-License-Identifier: MIT OR Apache-2.0 */
 /* The calls for columns, during which the interpreter's lock is given back. A result that is None is not wanted. */
 #include <string.h>
 

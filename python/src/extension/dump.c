@@ -1,3 +1,4 @@
+/* SPDX-License-Identifier: MIT OR Apache-2.0 */
 /* The bytes of a geometry line by line, by wkb_dump.c, and the program wkb_dump, by wkb_dump_main.c. */
 #include "extension.h"
 #include "wkb_dump.h"

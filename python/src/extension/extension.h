@@ -1,3 +1,4 @@
+/* SPDX-License-Identifier: MIT OR Apache-2.0 */
 /* What the parts of the extension `porchsorrel_wkb._wkb` share. It is private to the package, whose Python code says
  * what each call means, makes the memory of results, and tests arguments. Here buffers are held while a call lasts, and
  * no byte is read or written beyond them. It keeps to the limited API of CPython 3.11, the first with the buffer

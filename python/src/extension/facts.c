@@ -1,3 +1,4 @@
+/* SPDX-License-Identifier: MIT OR Apache-2.0 */
 /* What all rows of a column have together. */
 #include <math.h>
 #include <string.h>

@@ -1,3 +1,4 @@
+/* SPDX-License-Identifier: MIT OR Apache-2.0 */
 /* The module `porchsorrel_wkb._wkb`: its calls, and what it gets of the package. */
 #include "extension.h"
 

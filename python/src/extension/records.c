@@ -1,3 +1,4 @@
+/* SPDX-License-Identifier: MIT OR Apache-2.0 */
 /* Records: objects with a few values at fixed places, which the package's frozen dataclasses inherit. They hold
  * numbers, members of enums and other such records, so the collector of cycles doesn't look at them. */
 #include "extension.h"

@@ -1,3 +1,4 @@
+/* SPDX-License-Identifier: MIT OR Apache-2.0 */
 /* Rows as bytes objects, to a column and from one. */
 #include <string.h>
 

@@ -1,3 +1,4 @@
+# SPDX-License-Identifier: MIT OR Apache-2.0
 """Well-Known Binary: a proved reader and writer.
 
 The package itself is tested, and not proved. It needs CPython 3.11 or later.

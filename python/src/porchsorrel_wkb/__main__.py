@@ -1,3 +1,4 @@
+# SPDX-License-Identifier: MIT OR Apache-2.0
 """The program wkb_dump: `python -m porchsorrel_wkb --help`."""
 import os
 import signal

@@ -1,3 +1,4 @@
+# SPDX-License-Identifier: MIT OR Apache-2.0
 """Columns over Arrow's memory, as other packages hand it out in capsules."""
 import struct
 import sys

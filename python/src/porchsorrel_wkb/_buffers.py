@@ -1,3 +1,4 @@
+# SPDX-License-Identifier: MIT OR Apache-2.0
 """Callers' buffers, and memory for results."""
 import array
 from typing import TYPE_CHECKING, Any, Dict, Tuple, Union

@@ -1,3 +1,4 @@
+# SPDX-License-Identifier: MIT OR Apache-2.0
 """The calls for one geometry."""
 import operator
 from typing import TYPE_CHECKING, List, Optional, Tuple, Union

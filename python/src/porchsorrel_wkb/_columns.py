@@ -1,3 +1,4 @@
+# SPDX-License-Identifier: MIT OR Apache-2.0
 """The calls for columns of geometries."""
 import operator
 import sys

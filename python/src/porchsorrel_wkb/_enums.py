@@ -1,3 +1,4 @@
+# SPDX-License-Identifier: MIT OR Apache-2.0
 """The numbers of wkb.h that have names."""
 import enum
 from typing import Any

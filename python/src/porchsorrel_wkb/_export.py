@@ -1,3 +1,4 @@
+# SPDX-License-Identifier: MIT OR Apache-2.0
 """Arrays of Arrow that go out, as `_wkb.export` takes them."""
 import array
 import struct

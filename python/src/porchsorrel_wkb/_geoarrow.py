@@ -1,3 +1,4 @@
+# SPDX-License-Identifier: MIT OR Apache-2.0
 """Levels of coordinates in arrays of GeoArrow, as other packages hand them out in capsules."""
 import array
 from typing import Any, List, NamedTuple, Optional, Tuple

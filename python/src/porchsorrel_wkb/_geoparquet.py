@@ -1,3 +1,4 @@
+# SPDX-License-Identifier: MIT OR Apache-2.0
 """What GeoParquet says of a column of geometries."""
 import json
 from typing import Any, Dict, List, NamedTuple, Optional

@@ -1,3 +1,4 @@
+# SPDX-License-Identifier: MIT OR Apache-2.0
 """Rows that are written from coordinates in levels."""
 import array
 import operator

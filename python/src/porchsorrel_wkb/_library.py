@@ -1,3 +1,4 @@
+# SPDX-License-Identifier: MIT OR Apache-2.0
 """The library, which is inside the extension `_wkb`."""
 from typing import Tuple
 

@@ -1,3 +1,4 @@
+# SPDX-License-Identifier: MIT OR Apache-2.0
 """The structs of wkb.h as Python has them, and tables of them."""
 import enum
 import html

@@ -1,3 +1,4 @@
+# SPDX-License-Identifier: MIT OR Apache-2.0
 """What the calls for columns return, and its ways out: rows of bytes, and arrays of Arrow."""
 import array
 import functools

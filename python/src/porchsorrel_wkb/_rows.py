@@ -1,3 +1,4 @@
+# SPDX-License-Identifier: MIT OR Apache-2.0
 """Columns of rows that aren't in one piece."""
 import json
 from typing import Any, Iterable, List, NamedTuple, Optional

@@ -1,3 +1,4 @@
+# SPDX-License-Identifier: MIT OR Apache-2.0
 """The calls of wkb.h, in C, for the other modules of this package."""
 from typing import Any, List, Optional, Set, Tuple, Union
 

@@ -1,3 +1,4 @@
+// SPDX-License-Identifier: MIT OR Apache-2.0
 //! Geometries of an input, by the traits.
 use crate::Reader;
 use geo_traits::{

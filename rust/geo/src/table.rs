@@ -1,3 +1,4 @@
+// SPDX-License-Identifier: MIT OR Apache-2.0
 //! The tables of the parts of inputs.
 use crate::{Refused, View, Wkb};
 use porchsorrel_wkb::{Kind, Part};

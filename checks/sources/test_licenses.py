@@ -1,0 +1,67 @@
+"""The sources that users copy and compile name their licence, and tools/sbom lists them, with their sums."""
+import hashlib
+import json
+import os
+import re
+import subprocess
+import unittest
+
+from checks import judge
+from pages import ROOT, files, text_of
+
+LINE = "SPDX-License-Identifier: MIT OR Apache-2.0"
+# What is compiled, imported, installed or built with, by its path.
+NAMED = re.compile(
+    r"(c|sqlite)/[^/]*\.([chS]|hpp)|c/(Makefile|CMakeLists\.txt)|c/package/wkb.*"
+    r"|python/(setup\.py|src/.*\.(py|pyi|c|h))|rust/(geo/)?(src/.*|build)\.rs"
+    r"|postgres/(Makefile|wkb\.control|wkb--[\d.]*\.sql|.*\.c)|(.*/)?(Cargo|pyproject)\.toml"
+)
+
+
+class Lines(judge.Judge):
+    """The first line of each such file."""
+
+    controls = [("c/wkb.hpp", f"// {LINE}", "//", "c/wkb.hpp"), ("c/wkb.h", "MIT OR", "MIT AND", "c/wkb.h")]
+
+    def wrong(self):
+        for path in (str(it.relative_to(ROOT)) for it in files()):
+            if NAMED.fullmatch(path) and "stand_in" not in path and LINE not in text_of(path).split("\n", 1)[0]:
+                yield f"{path} doesn't begin with {LINE}"
+
+
+class Sbom(unittest.TestCase):
+    """The list of tools/sbom."""
+
+    @classmethod
+    def setUpClass(cls):
+        cls.text, cls.later = (cls.printed(it) for it in ("0", "1700000000"))
+        cls.sbom = json.loads(cls.text)
+
+    @staticmethod
+    def printed(epoch):
+        return subprocess.check_output([ROOT / "tools/sbom"], env={**os.environ, "SOURCE_DATE_EPOCH": epoch}, text=True)
+
+    def test_only_its_time_is_of_the_environment(self):
+        self.assertEqual(self.sbom["creationInfo"]["created"], "1970-01-01T00:00:00Z")
+        self.assertEqual(self.text.replace("1970-01-01T00:00:00Z", "2023-11-14T22:13:20Z"), self.later)
+
+    def test_each_file_has_its_sum(self):
+        names = {it["fileName"] for it in self.sbom["files"]}
+        wanted = "c/wkb.c c/proved/x86_64.s rust/build.rs python/src/extension/calls.c postgres/wkb_postgres.c"
+        self.assertLessEqual({f"./{it}" for it in wanted.split()}, names)
+        for it in self.sbom["files"]:
+            content = (ROOT / it["fileName"]).read_bytes()
+            found = {sum_["algorithm"]: sum_["checksumValue"] for sum_ in it["checksums"]}
+            self.assertEqual(found["SHA256"], hashlib.sha256(content).hexdigest(), it["fileName"])
+
+    def test_each_name_is_there_once(self):
+        named = [it["SPDXID"] for it in (self.sbom, *self.sbom["packages"], *self.sbom["files"])]
+        self.assertEqual(len(named), len({*named}))
+        ends = ("spdxElementId", "relatedSpdxElement")
+        self.assertLessEqual({it[end] for it in self.sbom["relationships"] for end in ends}, {*named})
+
+    def test_it_tells_what_the_assembly_holds_of_the_kit(self):
+        kit = next(it for it in self.sbom["packages"] if it["name"] == "rattle-kit-std")
+        held = re.findall(r"(?m)^of-the-kit (.*)$", text_of("c/proved/PROVED"))
+        self.assertIn(", ".join(held) or "none by name", kit["comment"])
+        self.assertEqual(kit["licenseDeclared"], "NOASSERTION")
