@@ -1,0 +1,93 @@
+"""tools/site makes a site without a warning, whose links lead somewhere, and which fetches nothing from elsewhere."""
+import html.parser
+import os
+import pathlib
+import re
+import subprocess
+import tempfile
+import unittest
+import urllib.parse
+
+from checks import judge
+from pages import ROOT
+
+# What a browser fetches by itself.
+FETCHED = {("script", "src"), ("img", "src"), ("link", "href"), ("iframe", "src")}
+# Places on a page of cargo doc that a script finds: lines of a source.
+LINES = re.compile(r"\d+(-\d+)?")
+
+
+class Page(html.parser.HTMLParser):
+    """The names of a page that a link may lead to, its links, and what a browser fetches for it from elsewhere."""
+
+    def __init__(self, path):
+        super().__init__()
+        self.names, self.links, self.fetched = {"", "top"}, [], []
+        self.feed(path.read_text(encoding="utf-8"))
+
+    def handle_starttag(self, tag, attributes):
+        for key, value in attributes:
+            link = urllib.parse.urlsplit(value or "") if key in ("href", "src") else None
+            if key in ("id", "name"):
+                self.names.add(value)
+            elif link and link.netloc:
+                self.fetched += [value] * ((tag, key) in FETCHED)
+            elif link and not link.scheme:
+                self.links.append(link)
+
+
+def lost_links(folder):
+    """What is wrong with the links of a site."""
+    pages = {it: Page(it) for it in folder.rglob("*.html")}
+    for path, page in pages.items():
+        name = path.relative_to(folder)
+        yield from (f"{name} fetches {it}" for it in page.fetched)
+        for link in dict.fromkeys(page.links):
+            target = pathlib.Path(os.path.normpath(path.parent / link.path)) if link.path else path
+            known = pages[target].names if target in pages else {link.fragment}
+            if not target.is_file():
+                yield f"{name}: no file {link.path}"
+            elif LINES.fullmatch(link.fragment):
+                continue
+            elif not known & {link.fragment, urllib.parse.unquote(link.fragment)}:
+                yield f"{name}: no place {link.geturl()}"
+
+
+class Site(unittest.TestCase):
+    """The site of these files."""
+
+    @classmethod
+    def setUpClass(cls):
+        judge.need("sphinx-build", "doxygen", "cargo")
+        judge.need_library()
+        around = tempfile.TemporaryDirectory()
+        cls.addClassCleanup(around.cleanup)
+        cls.around = pathlib.Path(around.name)
+        cls.site = cls.around / "site"
+        cls.ran = cls.make(cls.site)
+
+    @staticmethod
+    def make(folder):
+        """Make the site in a folder. Return the status, and what was said."""
+        ran = subprocess.run([ROOT / "tools/site", folder], capture_output=True, text=True)
+        return ran.returncode, ran.stdout + ran.stderr
+
+    def test_nothing_is_said(self):
+        self.assertEqual(self.ran, (0, ""))
+
+    def test_every_link_leads_somewhere(self):
+        self.assertEqual([*lost_links(self.site)], [])
+
+    def test_a_lost_link_is_found(self):
+        folder = self.around / "lost"
+        folder.mkdir()
+        text = '<a id="here" href="#here">1</a><a href="#there">2</a><a href="a.txt">3</a><img src="http://b/c.png">'
+        (folder / "it.html").write_text(text, encoding="utf-8")
+        lost = ["it.html fetches http://b/c.png", "it.html: no place #there", "it.html: no file a.txt"]
+        self.assertEqual([*lost_links(folder)], lost)
+
+    def test_a_folder_with_files_is_left(self):
+        folder = self.around / "full"
+        folder.mkdir()
+        (folder / "file").touch()
+        self.assertEqual(self.make(folder), (2, f"site: {folder} isn't empty\n"))
