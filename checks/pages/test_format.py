@@ -25,7 +25,7 @@ SENTENCES = {
     "nan": r"`w & (0x[0-9a-f]+) > (0x[0-9a-f]+)`",
     "widths": r"(Xy) (\w+), (Xyz) and (Xym) (\w+), (Xyzm) (\w+)\.",
     "flags": r"flags: `(0x[0-9a-f]+)` for Z, `(0x[0-9a-f]+)` for M, `(0x[0-9a-f]+)` for an SRID",
-    "code": r"`(\d+) \* q \+ k`, where k from (\d) to (\d) is the kind and q from (\d) to (\d)",
+    "code": r"`(\d+) \* q \+ k`, where k from (\d) to (\d) is the geometry type and q from (\d) to (\d)",
     "outside": r"Anything else is out of range, such as ([\d, and]+)\.",
     "both": r"(\d+) with the ([ZM]) flag is an (\w+) point",
     "srid": r"An SRID takes (\w+) bytes more",
@@ -61,10 +61,10 @@ class Page:
         self.said = {name: it.groups() for name, it in found.items() if it}
         self.kinds, self.dims, self.bodies, self.lengths = {}, {}, {}, {}
         for _, heads, row in rows_of(PAGE):
-            if heads == ["k", "kind", "q", "dimension"]:
+            if heads == ["k", "geometry type", "q", "dimension"]:
                 self.kinds[row[1]] = int(row[0])
                 self.dims.update({row[3]: int(row[2])} if row[2] else {})
-            elif heads == ["kind", "body"]:
+            elif heads == ["geometry type", "body"]:
                 self.bodies[row[0]] = row[1]
             elif heads[0] == "geometry":
                 self.lengths[row[0]] = row[1], row[2]

@@ -68,7 +68,7 @@ FACTS = [
     (r"more than (\w+) times as long as a good|above (\w+) times a good", COST, r"MOST = (\d+),"),
     (r"request (\d+) \(`claimed_counts`\)", "checks/memory/expected", r"claimed_counts +\d+/(\d+) "),
     (r"blocks of \d+ or (\d+)", "crates/wkb_write/src/writable.rt", r"LARGE_BLOCK: usize = (\d+)"),
-    (r"kinds past (\d+)", FORMAT, r"k from 1 to (\d+) is the kind"),
+    (r"types past (\d+)", FORMAT, r"k from 1 to (\d+) is the geometry type"),
     (r"an Xy polygon of (\d+) bytes", FORMAT, r"the first again \| (\d+) \|"),
     (r"(\d+) for Xy", "crates/rows/stdin", r"size (\d+), turns 1, slots 1; parts 2, coordinates 4, Polygon\(Xy\)"),
     (r"count does not fit (\d+) bits", "crates/wkb_geom/src/error.rt", r"count does not fit (\d+) bits"),

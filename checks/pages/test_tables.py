@@ -238,7 +238,7 @@ def wrong_changes():
     wanted += [] if calls and f"wkb_column_{names[-1]}(" not in header else ["a call for columns"]
     yield from (f"CHANGELOG.md: wkb.h has no {it}" for it in wanted if f" {it}(" not in header)
     said = re.search(r"all (\w+) kinds and (\w+) dimensions", text)
-    rows = [row for _, heads, row in rows_of("docs/FORMAT.md") if heads == ["k", "kind", "q", "dimension"]]
+    rows = [row for _, heads, row in rows_of("docs/FORMAT.md") if heads == ["k", "geometry type", "q", "dimension"]]
     meant = [len(rows), sum(1 for row in rows if row[2])]
     if not said or [NUMBERS.get(it) for it in said.groups()] != meant:
         yield f"CHANGELOG.md: there are {meant} kinds and dimensions"
@@ -269,7 +269,7 @@ class Tables(judge.Judge):
     """The rows of tables are of what they are about."""
 
     controls = [
-        ("ARCHITECTURE.md", "| `wkb_laws` | laws", "| `wkb_lost` | laws", "of the table differ"),
+        ("ARCHITECTURE.md", "| `wkb_laws` | lemmas", "| `wkb_lost` | lemmas", "of the table differ"),
         ("ARCHITECTURE.md", "| `wkb_geom/src/error.rt` (", "| `wkb_view/src/error.rt` (", "no `wkb_view/src/error.rt`"),
         ("ARCHITECTURE.md", "`Refusal`), `specs/Errors`", "`Refusal`), `specs/Pieces`", "has no `specs/Pieces`"),
         ("crates.txt", "wkb_geom: byteorder", "wkb_geom: wkb_read", "wkb_geom uses wkb_read"),
