@@ -201,7 +201,7 @@ def packaged():
 def lost_files():
     """The files that the table of c/package/package.md names, and that are not in the package."""
     for number, heads, row in rows_of("c/package/package.md"):
-        for name in spans(row[0]) if heads == ["file", "what it is"] else []:
+        for name in spans(row[0]) if heads == ["file", "contents"] else []:
             if not fnmatch.filter(packaged(), name.rstrip("/")):
                 yield f"c/package/package.md:{number}: the package has no `{name}`"
 
