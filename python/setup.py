@@ -76,17 +76,22 @@ class Build(build_ext):
 
 
 class Sources(sdist):
-    """The package in sources, with the same bytes each time."""
+    """The package in sources, with the same bytes each time, named as PEP 625 says, which older setuptools don't do."""
 
     def make_archive(self, base_name, format, root_dir=None, base_dir=None, owner=None, group=None):
         if format != "gztar":
             return super().make_archive(base_name, format, root_dir, base_dir, owner, group)
-        name = f"{base_name}.tar.gz"
+        name = normalized(f"{base_name}.tar.gz")
         with open(name, "wb") as file, gzip.GzipFile("", "wb", fileobj=file, mtime=0) as out:
             with tarfile.open(fileobj=out, mode="w", format=tarfile.PAX_FORMAT) as archive:
                 for path in sorted(it for it in pathlib.Path(root_dir or ".", base_dir).rglob("*") if it.is_file()):
-                    archive.add(path, os.fspath(path.relative_to(root_dir or ".")), filter=plain)
+                    archive.add(path, normalized(os.fspath(path.relative_to(root_dir or "."))), filter=plain)
         return name
+
+
+def normalized(path):
+    """A path in which the package's name has no hyphen."""
+    return path.replace("porchsorrel-wkb-", "porchsorrel_wkb-")
 
 
 def plain(member):

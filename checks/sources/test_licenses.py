@@ -29,6 +29,18 @@ class Lines(judge.Judge):
                 yield f"{path} doesn't begin with {LINE}"
 
 
+class Texts(judge.Judge):
+    """The licences that packages have, which hold no files above their own folders."""
+
+    controls = [("python/LICENSE-MIT", "2024", "2023", "python/L"), ("LICENSE-APACHE", "2.0", "2.1", "rust/geo/L")]
+
+    def wrong(self):
+        for name in "LICENSE-APACHE", "LICENSE-MIT":
+            for folder in "python", "rust/geo":
+                if text_of(f"{folder}/{name}") != text_of(name):
+                    yield f"{folder}/{name} is not {name} at the top"
+
+
 class Sbom(unittest.TestCase):
     """The list of tools/sbom."""
 
