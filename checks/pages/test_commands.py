@@ -33,11 +33,11 @@ STACK = 160
 # Where the code that a page shows has to be.
 SOURCES = {
     "rust": ["crates/wkb_key/src/*.rt", "crates/wkb_c[al]*s/src/*.rt", "crates/wkb/src/**/*.rt", "rust/src/*.rs",
-             "rust/**/README.md"],
+             "rust/**/README.md", "docs/START_RUST.md"],
     "antt": ["crates/wkb_clients/proofs/**/*.antt"],
-    "c": ["c/examples/*.c", "README.md"],
+    "c": ["c/examples/*.c", "docs/START_C.md", "README.md"],
     "cpp": ["c/examples/example.cpp"],
-    "python": ["c/examples/*.py", "python/**/*.py", "examples/*.py", "README.md"],
+    "python": ["c/examples/*.py", "python/**/*.py", "examples/*.py", "docs/START_PYTHON.md", "README.md"],
     "sql": ["sqlite/queries.sql", "postgres/queries.sql", "postgres/planner.sql", "docs/START_SQL.md", "README.md"],
 }
 # The pages that scripts make.

@@ -16,7 +16,7 @@ NAMED = [
     ("CITATION.cff", r"(?m)^version: (.*)$"),
     ("README.md", rf"Version ({NUMBER})"),
     ("docs/TESTING.md", rf"of version\s({NUMBER})"),
-    ("docs/RECIPES.md", r"find_package\(wkb ([\d.]+)"),
+    ("docs/START_C.md", r"find_package\(wkb ([\d.]+)"),
     ("CHANGELOG.md", rf"\A(?:.*\n)*?## ({NUMBER})\n"),
     ("c/package/package.md", r"version ([\d.]+) of the calls"),
     ("c/proved/PROVED", r"(?m)^version (.*)$"),
