@@ -1,4 +1,4 @@
-"""What the tests of the pages and of the sources share."""
+"""Shared code of the tests of the pages and of the sources."""
 import functools
 import pathlib
 import shutil

@@ -1,4 +1,4 @@
-"""What is counted falls below no floor of checks/floors: who takes something away lowers the floor with it."""
+"""No count falls below its floor in checks/floors: whoever removes something lowers the floor with it."""
 import unittest
 
 from checks import judge
@@ -15,14 +15,14 @@ def tests_in(suite):
 
 
 def counts():
-    """How many there are today of each thing that is counted."""
+    """The current number of each thing that is counted."""
     tests = [*tests_in(unittest.TestLoader().discover(str(ROOT / "checks"), top_level_dir=str(ROOT)))]
     judges = {type(it) for it in tests if isinstance(it, judge.Judge)}
     rows = test_cases.rows()[0]
     files = {
-        "wrong bodies": "checks/edits/wkb*/*.edit",
-        "wrong bodies that rt ci tries": "crates/*/must-fail/*.edit",
-        "right bodies": "checks/edits/right_bodies/*/*.edit",
+        "mutants": "checks/edits/wkb*/*.edit",
+        "mutants that rt ci tries": "crates/*/must-fail/*.edit",
+        "equivalent mutants": "checks/edits/equivalent/*/*.edit",
         "faults": "checks/faults/*.fault",
     }
     return {
@@ -33,7 +33,7 @@ def counts():
         "names and signatures of the interface": len([*test_interface.rows(text_of(test_interface.LIST))]),
         "sentences of wkb.h": len(test_sentences.rows()),
         "worked cases": len({*rows, *test_cases.listed()}),
-        "rows of worked cases": sum(rows.values()),
+        "test vectors of worked cases": sum(rows.values()),
         "tests and programs whose allocations fail": len(text_of("checks/memory/expected").splitlines()),
         **{name: len([*ROOT.glob(pattern)]) for name, pattern in files.items()},
     }
@@ -43,7 +43,7 @@ class Floors(judge.Judge):
     """Each count, and its floor."""
 
     controls = [
-        (FLOORS, "wrong bodies: ", "wrong bodies: 9", "wrong bodies: there are "),
+        (FLOORS, "\nmutants: ", "\nmutants: 9", "mutants: there are "),
         (FLOORS, "faults: ", "lost faults: ", "there is no floor of faults"),
         (FLOORS, "faults: ", "lost faults: ", "nothing counts lost faults"),
     ]

@@ -1,4 +1,4 @@
-"""The gate, `.ci/run`, over stubs of its steps."""
+"""Runs CI, `.ci/run`, over stubs of its steps."""
 import os
 import pathlib
 import re
@@ -16,7 +16,7 @@ it="{name}${{*:+ $*}}"
 echo "$it" >>"$SAID"
 [ "$it" != "$FAILS" ] && [ "$STRICT" = 1 ]
 """
-# What the gate calls besides its steps.
+# What CI calls besides its steps.
 OTHERS = {"rt version", "tools/kit.py take"}
 JUDGE = "checks/sources/left_out"
 
@@ -58,7 +58,7 @@ class Gate(unittest.TestCase):
         cls.git("commit", "-qm", "as it is", "--allow-empty")
 
     def gate(self, fails="none"):
-        """The status of the gate, and what it calls, where one step fails."""
+        """The status of CI, and what it calls, where one step fails."""
         said = pathlib.Path(self.room.name, "said")
         said.write_text("")
         path = f"{self.top}/bin:{os.environ['PATH']}"

@@ -1,4 +1,4 @@
-"""A judge fails where something is wrong and where it is blind, and checks/run where a test fails or is skipped."""
+"""A judge fails if there is an error and if it is blind, and checks/run fails if a test fails or is skipped."""
 import os
 import pathlib
 import shutil

@@ -1,4 +1,4 @@
-"""tools/kit.py over two crates of a template of the kit: what it takes for built, after `rt ci` and after changes."""
+"""Runs tools/kit.py over two crates of a template of the kit: after `rt ci` and after changes."""
 import os
 import pathlib
 import shutil

@@ -1,4 +1,4 @@
-"""What runs things says so where one goes wrong: each script runs over stand-ins, of which some must not pass."""
+"""The runners report failures: each script runs over stand-ins, of which some must not pass."""
 import contextlib
 import importlib.machinery
 import importlib.util
@@ -16,7 +16,7 @@ from unittest import mock
 from checks.judge import need
 from pages import ROOT
 
-# A program of tests that asks for memory, and passes on that there is none; and one that hides it.
+# A program of tests that allocates, and passes on that there is none; and one that hides it.
 TESTS = """
 #include <stdlib.h>
 #include <string.h>
@@ -109,7 +109,7 @@ class Hosts(Copy):
 
 
 class Memory(Copy):
-    """checks/memory/run over a program that asks for memory once."""
+    """checks/memory/run over a program that allocates once."""
 
     def of(self, hides, expected):
         """The status over a program, and what it prints."""
@@ -165,7 +165,7 @@ class Edits(Copy):
         change = "file: src/it.rt\nold: one\n"
         self.write("edits/it/wrong.edit", f"shows: it\nrefused: f\nexpected: {wrong}\n{change}new: wrong\n")
         if right is not None:
-            self.write("edits/right_bodies/it/right.edit", f"rewritten: f\nexpected: {right}\n{change}new: right\n")
+            self.write("edits/equivalent/it/right.edit", f"rewritten: f\nexpected: {right}\n{change}new: right\n")
         if more:
             self.write("edits/it/more.edit", f"shows: it\nrefused: f\nexpected: {wrong}\n{change}new: {more}\n")
         crate = types.SimpleNamespace(name="it", folder=str(self.top / "crates/it"))
@@ -186,7 +186,7 @@ class Edits(Copy):
             stack.enter_context(mock.patch.object(sys, "path", path))
             stack.enter_context(contextlib.redirect_stdout(printed))
             edits = module("checks/edits/run")
-            edits.HERE, edits.RIGHT = folder, folder / "right_bodies"
+            edits.HERE, edits.EQUIVALENT = folder, folder / "equivalent"
             try:
                 status = edits.main([])
             except SystemExit as ended:
@@ -201,15 +201,15 @@ class Edits(Copy):
     def test_what_must_not_pass(self):
         good = {"wrong": self.FALSE, "right": self.PROVED}
         for name, says, how in [
-            ("a wrong body is proved", {**good, "wrong": self.PROVED}, {}),
-            ("a sort is another", {**good, "wrong": self.OPEN.format("")}, {}),
-            ("a right body is false", {**good, "right": self.FALSE}, {}),
-            ("a right body is not proved", {**good, "right": self.OPEN.format("")}, {}),
-            ("a right body is not reached", {**good, "right": "rattle: error: killed"}, {}),
-            ("a wrong body is not reached", {**good, "wrong": "rattle: error: killed"}, {}),
-            ("a right body names no sort", good, {"right": ""}),
-            ("a wrong body names no sort", good, {"wrong": ""}),
-            ("no right body is proved", good, {"right": None}),
+            ("a mutant is proved", {**good, "wrong": self.PROVED}, {}),
+            ("a reason is another", {**good, "wrong": self.OPEN.format("")}, {}),
+            ("an equivalent mutant is false", {**good, "right": self.FALSE}, {}),
+            ("an equivalent mutant is not proved", {**good, "right": self.OPEN.format("")}, {}),
+            ("an equivalent mutant is not reached", {**good, "right": "rattle: error: killed"}, {}),
+            ("a mutant is not reached", {**good, "wrong": "rattle: error: killed"}, {}),
+            ("an equivalent mutant names no reason", good, {"right": ""}),
+            ("a mutant names no reason", good, {"wrong": ""}),
+            ("no equivalent mutant is proved", good, {"right": None}),
             ("two are equal", good, {"more": "wrong"}),
         ]:
             with self.subTest(name):

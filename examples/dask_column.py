@@ -7,14 +7,14 @@ and has one more number than there are rows. Where some rows are null, `validity
 OUT gets a file NAME.npz for each partition, with the results of column calls:
 
     statuses        a wkb.Status for each row
-    keys, offsets   the canonical encoding of each row that is not refused: rows of one value have the same
+    keys, offsets   the canonical encoding of each row that is not rejected: rows of one value have the same
     boxes           the bounds of each row, with fields x, y, z and m, each with least, greatest and count
     digests         128 bits of each key, by which rows are compared
     source          the size and the time of the partition, and the version of the library
 
 and two tables over all partitions:
 
-    refused.csv     each refused row: why, the part that is refused, and the byte where the part begins in the row
+    refused.csv     each rejected row: why, the part that is rejected, and the byte where the part begins in the row
     duplicates.csv  each row whose key an earlier row has, and the first such row
 
 A partition that can't be read, or by which three processes die, is a line of refused.csv without a row, with the status
@@ -124,7 +124,7 @@ def entries_of(partition, statuses, digests):
 
 
 def faults_of(name, statuses, data, offsets):
-    """A line of refused.csv for each refused row. A null row is not refused."""
+    """A line of refused.csv for each rejected row. A null row is not rejected."""
     for row in numpy.flatnonzero((statuses != wkb.Status.OK) & (statuses != wkb.Status.NULL_ROW)).tolist():
         status = wkb.Status(statuses[row])
         line = [name, row, status.name, "", "", wkb.status_text(status)]
@@ -204,7 +204,7 @@ def wait(outcomes, seconds):
 
 
 def run(client, folder, out, seconds):
-    """Rewrite all partitions of a folder. Return the numbers of rows, of refused ones, of duplicates, and of
+    """Rewrite all partitions of a folder. Return the numbers of rows, of rejected ones, of duplicates, and of
     partitions that can't be read."""
     files = sorted(folder.glob("*.npz"))
     names = [file.stem for file in files]

@@ -67,7 +67,7 @@ def ended(found, summary):
 
 
 def program(crate, name=None):
-    """The path of a program that was built of a crate; None where it isn't there, or is older than a source."""
+    """The path of a program that was built of a crate; None if it isn't there, or is older than a source."""
     built = ROOT / f"crates/{crate}/out/{name or crate}"
     below = subprocess.run([ROOT / "tools/crates", "below", crate], stdout=subprocess.PIPE, check=True).stdout.decode()
     folders = [ROOT / f"crates/{it}/{part}" for it in below.split() for part in ("src", "specs", "proofs")]
@@ -95,7 +95,7 @@ def shown(page):
 
 
 def commands(page):
-    """The commands of a page, each with its line's number and what it has to print, or None where it has no `$ `."""
+    """The commands of a page, each with its line's number and what it has to print, or None if it has no `$ `."""
     command, before = None, 0
     for number, line in [*shown(page), (0, "")]:
         if command and (number != before + 1 or line.startswith("$ ") or not line):

@@ -28,7 +28,7 @@ def split_items(text):
 
 
 def use_targets(text):
-    """(module, name, local name) of each name of a `use`; the name is None where the module itself is meant."""
+    """(module, name, local name) of each name of a `use`; the name is None if the module itself is meant."""
     text = " ".join(text.split()).rstrip(";").strip()
     braces = re.match(r"(\S+?)\.\s*\{(.*)\}$", text)
     if not braces:

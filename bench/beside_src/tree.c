@@ -81,7 +81,7 @@ static size_t read_node(struct node *node, const uint8_t *bytes, size_t length, 
     return read_header(bytes, length, &header) ? read_body(node, header, bytes, length, levels) : 0;
 }
 
-/* The part of a list at the bytes: its length, 0 where it is refused. */
+/* The part of a list at the bytes: its length, 0 where it is rejected. */
 static size_t read_part(struct node *node, uint32_t i, const uint8_t *at, size_t length, int levels)
 {
     struct header member;

@@ -12,7 +12,7 @@ enum { DEPTH_LIMIT = 128 };
 typedef struct {
   const uint8_t *at;
   const uint8_t *end;
-  uint8_t *to; /* where it is written; null where its bounds are taken */
+  uint8_t *to; /* where it is written; null if its bounds are taken */
   uint8_t *to_end;
   bool to_big;
   wkb_box *box;
@@ -106,7 +106,7 @@ static inline bool take_line(pass *it, header of, uint32_t count) {
   return true;
 }
 
-/* A point's coordinate. An empty point is written in one way, whatever not-a-numbers it holds. */
+/* A point's coordinate. An empty point is written in one way, whatever NaNs it holds. */
 static inline bool take_point(pass *it, header of) {
   bool is_empty = it->to != NULL;
   if (!has(it, 8 * width_of(of)) || !fits(it, 8 * width_of(of))) return false;

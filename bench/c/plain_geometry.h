@@ -9,10 +9,10 @@ extern "C" {
 #endif
 
 /* Writes the input's geometry in an order, with ISO codes and no SRID, and tells its length. Returns 1, or 0 if the
- * input is refused or ROOM is too small; OUT then holds what was written before that was known. */
+ * input is rejected or ROOM is too small; OUT then holds what was written before that was known. */
 int plain_write(const void *buf, size_t len, uint32_t order, void *out, size_t room, size_t *size);
 
-/* The bounds of the input's geometry. Returns 1, or 0 if the input is refused. -0 and +0 are equal here. */
+/* The bounds of the input's geometry. Returns 1, or 0 if the input is rejected. -0 and +0 are equal here. */
 int plain_bounds(const void *buf, size_t len, wkb_box *box);
 
 #ifdef __cplusplus

@@ -290,7 +290,7 @@ void print_head(const std::vector<std::string> &heads) {
   std::printf("\n");
 }
 
-// A number below its head, or nothing where there is none.
+// A number below its head, or nothing if there is none.
 void print_cell(const std::string &head, double number, int digits) {
   const int width = static_cast<int>(std::max<std::size_t>(head.size(), 7));
   if (number < NEVER)

@@ -1,4 +1,4 @@
-// Sees that the plain C that bench/c/speed times beside the library does as much, and ends the program where they differ.
+// Checks that the plain C that bench/c/speed times beside the library does as much, and ends the program where they differ.
 #ifndef SPEED_COMPARE_HPP
 #define SPEED_COMPARE_HPP
 
@@ -19,7 +19,7 @@ inline bool same_range(const wkb_range &a, const wkb_range &b) {
   return a.least == b.least && a.greatest == b.greatest && a.count == b.count;
 }
 
-// Sees that plain C takes and refuses an input as the library does, also for want of room, and has its encodings.
+// Checks that plain C takes and rejects an input as the library does, also for want of room, and has its encodings.
 inline void compare_writes(const row &input, const wkb_options &options, std::size_t room) {
   std::size_t size = 0, plain_size = 0;
   row ours(room + 1), plain(room + 1);
@@ -82,7 +82,7 @@ inline bool same_bits(const wkb::row_coordinates &a, const wkb::row_coordinates 
          std::memcmp(a.words.data(), b.words.data(), a.words.size() * sizeof(double)) == 0;
 }
 
-// Sees that the reader in plain C has the numbers of wkb_column_coordinates.
+// Checks that the reader in plain C has the numbers of wkb_column_coordinates.
 inline void compare_column(const whole_column &column) {
   wkb::row_coordinates plain = column.levels;
   for (auto *ends : {&plain.row_ends, &plain.single_ends, &plain.ring_ends}) std::fill(ends->begin(), ends->end(), 0);

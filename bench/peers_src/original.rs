@@ -1,5 +1,5 @@
 //! The original on a geometry, whose hex digits are a line of input. `original` prints what is written of it, or
-//! `refused`. `original refuse N` has allocation N of its reading refused, and prints what became of it, or `none`
+//! `refused`. `original refuse N` has allocation N of its reading rejected, and prints what became of it, or `none`
 //! where it makes fewer. `original time N` prints the shortest time of N readings, in nanoseconds.
 
 use std::env::args;
@@ -17,7 +17,7 @@ fn bytes_of(hex: &str) -> Vec<u8> {
     (0..hex.len()).step_by(2).map(digits).collect()
 }
 
-/// The hex digits of what is written of a geometry, or that it is refused.
+/// The hex digits of what is written of a geometry, or that it is rejected.
 fn written(bytes: &[u8]) -> String {
     let Ok(wkb) = read_wkb(bytes) else {
         return "refused".to_string();
@@ -29,7 +29,7 @@ fn written(bytes: &[u8]) -> String {
     }
 }
 
-/// A reading in which an allocation is refused.
+/// A reading in which an allocation fails.
 fn refused_at(bytes: &[u8], n: i64) -> &'static str {
     // The call only stores a number.
     unsafe { peers_refuse(n) };

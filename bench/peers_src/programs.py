@@ -1,8 +1,8 @@
 """The programs that bench/peers compares. Each is a class whose methods take and return bytes of geometries.
 
-`written` reads bytes and writes them again, with all that the program keeps, or returns None where it refuses them;
-`with_srid` does so with the SRID 4326. `is_valid` and `text` return None where the program has no such call.
-`refused_at` reads while allocation N is refused, and returns `read`, `error`, or `none` where there are fewer. `time`
+`written` reads bytes and writes them again, with all that the program keeps, or returns None if it rejects them;
+`with_srid` does so with the SRID 4326. `is_valid` and `text` return None if the program has no such call.
+`refused_at` reads while allocation N fails, and returns `read`, `error`, or `none` where there are fewer. `time`
 returns the shortest time of N readings, in nanoseconds.
 """
 import ctypes
@@ -228,7 +228,7 @@ class PostGis:
         shutil.rmtree(self.work)
 
     def ask(self, question):
-        """The answer, or None where it is an error. Where the server goes down, so does this process."""
+        """The answer, or None if it is an error. Where the server goes down, so does this process."""
         words = ["psql", "-h", self.work, "-U", "wkb", "-qAtX", "-d", "postgres", "-v", "ON_ERROR_STOP=1"]
         ran = subprocess.run(words, input=question, capture_output=True, text=True)
         if ran.returncode not in (0, SCRIPT_FAILED):

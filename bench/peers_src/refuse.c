@@ -1,5 +1,5 @@
-/* The allocator of the process, which can be told to refuse one allocation: it is loaded before the C library. And
- * calls of a reader, in which one is refused, or which are timed. */
+/* The allocator of the process, which can be told to reject one allocation: it is loaded before the C library. And
+ * calls of a reader, in which one is rejected, or which are timed. */
 #include <stddef.h>
 #include <time.h>
 
@@ -7,7 +7,7 @@ extern void *__libc_malloc(size_t size);
 extern void *__libc_calloc(size_t count, size_t size);
 extern void *__libc_realloc(void *old, size_t size);
 
-/* How many allocations there are up to the one that is refused; 0 where none is. */
+/* How many allocations there are up to the one that is rejected; 0 where none is. */
 static long left;
 
 static int is_refused(void) { return left > 0 && --left == 0; }
@@ -16,7 +16,7 @@ void *malloc(size_t size) { return is_refused() ? NULL : __libc_malloc(size); }
 void *calloc(size_t count, size_t size) { return is_refused() ? NULL : __libc_calloc(count, size); }
 void *realloc(void *old, size_t size) { return is_refused() ? NULL : __libc_realloc(old, size); }
 
-/* Has allocation N from now on refused. Returns whether the one that was told before is still to come. */
+/* Has allocation N from now on rejected. Returns whether the one that was told before is still to come. */
 int peers_refuse(long n) {
   int is_to_come = left > 0;
   left = n;
@@ -25,7 +25,7 @@ int peers_refuse(long n) {
 
 typedef void *reader(void *, void *, void *, void *);
 
-/* Makes a call of four words, in which allocation N is refused. *IS_TO_COME says that it made fewer. */
+/* Makes a call of four words, in which allocation N fails. *IS_TO_COME says that it made fewer. */
 void *peers_call(long n, reader *call, void *const word[4], int *is_to_come) {
   peers_refuse(n);
   void *result = call(word[0], word[1], word[2], word[3]);

@@ -1,4 +1,4 @@
-"""What was found earlier on this machine, one file for each sum of all that it stands on."""
+"""Stores earlier verdicts on this machine, one file for each checksum of everything that a verdict depends on."""
 import hashlib
 import json
 import os

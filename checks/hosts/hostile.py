@@ -1,5 +1,5 @@
-"""The extensions of SQLite and PostgreSQL beside the Python package, over geometries of each kind, dimension, byte
-order and form, and over some with each byte changed, and cut at each byte.
+"""Compares the extensions of SQLite and PostgreSQL with the Python package, over geometries of each type, dimension,
+byte order and form, and over some with each byte changed, and cut at each byte.
 
     python3 hostile.py sqlite PACKAGE EXTENSION    # tries all functions, also over the blobs of GeoPackages
     python3 hostile.py rows PACKAGE                # prints what the functions have to return, for postgres/run
@@ -129,7 +129,7 @@ def named(code):
 
 
 def refusal_of(refused, before):
-    """What is wrong with bytes that are refused, with so many bytes before them."""
+    """What is wrong with bytes that are rejected, with so many bytes before them."""
     fault, text = refused.fault, refused.text
     if refused.status == Status.CODE_OUT_OF_RANGE:
         text += named(fault.code)

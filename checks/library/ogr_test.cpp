@@ -246,7 +246,7 @@ bool are_lists_of(const arrays &expected, const wkb::row_coordinates &it) {
   return are_same(singles, expected.lists[1]) && are_same(rings, expected.lists[2]);
 }
 
-// Of points: a coordinate a row, of not-a-numbers where there is no point.
+// Of points: a coordinate a row, of NaNs where there is no point.
 bool are_points_of(const arrays &expected, const wkb::row_coordinates &it) {
   std::vector<double> all;
   const auto width = static_cast<std::ptrdiff_t>(expected.width);

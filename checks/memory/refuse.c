@@ -30,7 +30,7 @@ static void go_on_without(void) {
   alarm(SECONDS);
 }
 
-// Nothing here asks for memory, as dprintf would.
+// Nothing here allocates, as dprintf would.
 static void tell(const char *text, int length) {
   if (write(report, text, length) != length) abort();
 }

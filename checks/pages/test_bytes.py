@@ -1,10 +1,10 @@
-"""Compares what docs/BYTES.md shows and works out with examples/polygon_with_hole.hex and with the C library.
+"""Compares the dumps and the figures of docs/BYTES.md with examples/polygon_with_hole.hex and with the C library.
 
-Each line of a dump has the bytes of the example at its place, and a number that they are: of one or four bytes an
-integer, of eight a double, all little endian. The lines follow one another without a gap, but for coordinates that are
-left out, as many as are said. test_commands sees that `wkb_dump` prints these lines. The codes at a glance are those
-that the library reads and writes, the lengths of the two forms those that it writes, and the place of the refusal is
-where it reports one. The drawing of a point is read by the library, too. The library is built first.
+Each line of a dump has the bytes of the example at its offset, and their number: an integer of one or four bytes, or a
+double of eight, all little-endian. The lines follow one another without a gap, except for coordinates that are left
+out, with their count. test_commands checks that `wkb_dump` prints these lines. The codes at a glance are those that the
+library reads and writes, the lengths of the two forms are those that it writes, and the place of the error is the one
+that it reports. The drawing of a point is read by the library, too. The library is built first.
 """
 import re
 import struct

@@ -1,16 +1,16 @@
-"""Runs each command that the pages show, and compares what it prints; looks up the rest.
+"""Runs each command that the pages show, and compares its output; looks up the rest.
 
-A command is an indented line that begins with `$ `; the lines below it, up to an empty one or the next command, are
-what it has to print. It has to end with 0, or with 1 where one of the last two begins with `refused`. They run in a
-folder of their own, where `wkb_hex`, `examples` and `c` are symbolic links and some files lie ready. Those that name
-the program are skipped where it isn't built of today's sources: they would prove it first, for many minutes. Those that
-name `wkb_dump` are skipped where that can't be built.
+A command is an indented line that begins with `$ `; the lines below it, up to an empty one or the next command, are its
+output. It has to exit with status 0, or 1 if one of the last two lines begins with `refused`. They run in a separate
+folder, where `wkb_hex`, `examples` and `c` are symbolic links and some files are prepared. Commands that use the
+program are skipped if it isn't built of the current sources: they would prove it first, for many minutes. Commands that
+use `wkb_dump` are skipped if that can't be built.
 
-A command without `$ ` isn't run, but for those that run the program: a page has what they print in backticks. The files
-that such a command names have to be there. Code between lines ```rust, ```antt, ```c, ```cpp, ```python or ```sql
-and ``` has to be, piece by piece, in the SOURCES below, which are compiled and run elsewhere. An edit or a fault that a
-page shows has to be one. What a page says to be printed is in some source. docs/API.md is
-the page that tools/api makes.
+A command without `$ ` isn't run, unless it runs the program: the page then has its output in backticks. The files that
+such a command names have to exist. Code between lines ```rust, ```antt, ```c, ```cpp, ```python or ```sql and ``` has
+to be, piece by piece, in the SOURCES below, which are compiled and run elsewhere. An edit or a fault that a page shows
+has to be one of the repository. Text that a page says is printed is in some source. docs/API.md is the page that
+tools/api makes.
 """
 import functools
 import os

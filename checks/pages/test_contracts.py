@@ -1,14 +1,14 @@
-"""Looks up each clause that docs/PROMISES.md names, in the function or record that it names, and compares what README
-says is proved with the clauses that PROMISES gives for it.
+"""Looks up each clause that docs/PROMISES.md names, in its function or record, and compares the statements of README on
+proofs with the clauses that PROMISES gives for them.
 
-There a row's last cell names clauses. They are of what the cell names (`clause` of `NAME`, the trait `NAME`: `clause`),
-else of the calls that the first cell names, else of those of the row above. A table of *facts* lists all fields of the
-record that the text above names last. A test that the page names with its crate has to be one of that crate. On the
+In PROMISES a row's last cell names clauses. They belong to the owner in the cell (`clause` of `NAME`, the trait `NAME`:
+`clause`), else to the calls of the first cell, else to those of the row above. A table of *facts* lists all fields of
+the record that the text above names last. A test that the page names with its crate has to be one of that crate. On the
 other pages a clause that is said to be `of` a call or a record has to be one of its.
 
-The first column of README's table says what is proved, as statements between semicolons. Each of them has a row in the
-table of PROMISES that begins with "README says", with the crate, the function or record, and its clauses: a statement
-without such a row ends with 1.
+The first column of README's table has the proved statements, between semicolons. Each of them has a row in the table of
+PROMISES that begins with "README says", with the crate, the function or record, and its clauses: a statement without
+such a row is an error.
 """
 import re
 

@@ -1,11 +1,11 @@
-"""Runs what docs/FORMAT.md says over the C library, which is built first.
+"""Tests the statements of docs/FORMAT.md with the C library, which is built first.
 
-The tables are read off the page row by row, and so are the sentences of SENTENCES. Inputs are made from what they say,
-and the library has to say the same of each: the kind and the dimension of every code, where every body ends, which
-members are taken, which fault is reported first, and how long every encoding is. A shape that only the Rattle library
-writes is compared with the row of what it is written as. A status of the table of faults is that of the error in Rattle
-by crates/wkb_c, its number that of c/wkb.h, its text that of the library. Printed texts are those of
-crates/wkb_geom/src/error.rt. Left out is the fault `Memory`, which no call of the C library reports.
+The tables are read off the page row by row, and so are the sentences of SENTENCES. Inputs are made from them, and the
+library has to agree on each: the type and the dimension of every code, the end of every body, the members that are
+accepted, the error that is reported first, and the length of every encoding. A shape that only the Rattle library
+writes is compared with the row of the geometry that is written. A status of the table of errors is that of the error in
+Rattle by crates/wkb_c, its number that of c/wkb.h, its text that of the library. Printed texts are those of
+crates/wkb_geom/src/error.rt. The error `Memory` is left out, which no call of the C library reports.
 """
 import functools
 import itertools
@@ -83,7 +83,7 @@ class Page:
         return words[dim]
 
     def meant(self, code):
-        """(kind, dimension, whether it has an SRID) of a code; None where it is out of range."""
+        """(kind, dimension, whether it has an SRID) of a code; None if it is out of range."""
         z, m, srid = (int(it, 16) for it in self.said["flags"])
         thousand, *ends = map(int, self.said["code"])
         q, k = divmod(code & ~(z | m | srid), thousand)
@@ -94,7 +94,7 @@ class Page:
         return kind[k], f"Xy{letters}", bool(code & srid)
 
     def header(self, kind, dim, srid=b""):
-        """A little endian header, with these bytes of SRID."""
+        """A little-endian header, with these bytes of SRID."""
         flag = int(self.said["flags"][2], 16) if srid else 0
         code = int(self.said["code"][0]) * self.dims[dim] + self.kinds[kind] | flag
         return struct.pack("<BI", int(self.said["orders"][1]), code) + srid
@@ -126,7 +126,7 @@ class Page:
 
 
 def answer(data):
-    """What the library finds, or the name of the status that it refuses with."""
+    """What the library finds, or the name of the status that it rejects with."""
     try:
         return wkb().check(data)
     except wkb().Refused as refused:
@@ -134,7 +134,7 @@ def answer(data):
 
 
 def written(data, form="ISO", srid=None):
-    """What the library writes for an input; nothing for one that it refuses."""
+    """What the library writes for an input; nothing for one that it rejects."""
     try:
         return wkb().write(data, form=wkb().Form[form], srid=srid)
     except wkb().Refused:
@@ -171,14 +171,14 @@ def wrong_codes(page):
 
 
 def wrong_numbers(page):
-    """What is wrong with orders, not-a-numbers and widths."""
+    """What is wrong with orders, NaNs and widths."""
     for order, form, name in zip(map(int, page.said["orders"]), "><", ("BIG", "LITTLE")):
         found = answer(struct.pack(f"{form}BI2d", order, 1, 1, 2))
         if isinstance(found, str) or found.order.name != name:
             yield f"order byte {order} isn't {name.lower()} endian"
     mask, most = (int(it, 16) for it in page.said["nan"])
     for word in (0, most - 1, most, most + 1, mask, mask + 1, most | 1 << 63, (most | 1 << 63) + 1, 2**64 - 1):
-        # Among the numbers of the bounds there is none that is a not-a-number.
+        # Among the numbers of the bounds there is none that is a NaN.
         is_number = wkb().bounds(struct.pack("<BI2Q", 1, 1, word, word)).x.count == 1
         if is_number == (word & mask > most):
             yield f"the word {word:016x} is {'a' if is_number else 'no'} number for the library"

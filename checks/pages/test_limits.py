@@ -1,7 +1,7 @@
-"""A limit that a page, wkb.h or CITATION.cff names is that of the source which has it.
+"""A limit on a page, in wkb.h or in CITATION.cff is that of its source.
 
-A phrase of FACTS has, wherever a page says it, the number that a source has. The sums that a page works out, as
-`113 - 16 = 97`, are worked out again. The logic that README names is the kit's, if there is one.
+A phrase of FACTS has, on every page that contains it, the number of the source. The sums on a page, as `113 - 16 = 97`,
+are computed again. The logic that README names is the kit's, if there is one.
 """
 import re
 import subprocess

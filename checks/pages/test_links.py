@@ -1,7 +1,7 @@
-"""links: follows every link on the pages.
+"""Follows every link on the pages.
 
-Its file has to be there, and its anchor has to be a heading of that page. The text of the link names the file, or
-shares a word with the heading that it leads to: else it leads to another page than it says.
+Its file has to exist, and its anchor has to be a heading of that page. The text of the link names the file, or shares a
+word with the heading that it leads to: else it leads to another page than it says.
 """
 import os
 import re

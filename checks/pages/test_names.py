@@ -1,9 +1,9 @@
 """Looks up every name in backticks on every page.
 
-A path of files has to be there, from the top, from docs/ or edits/, or in a crate. A path of code, as `a::b`, has to
-end in names that a source defines one inside the other. Each other word has to stand in a source that is no page and no
-script of this folder, outside comments, or among the FOREIGN words below. In ARCHITECTURE's tables of files and calls
-each call is defined in the file beside it.
+A path of files has to exist, from the top, from docs/ or edits/, or in a crate. A path of code, as `a::b`, has to end
+in names that a source defines one inside the other. Each other word has to be in a source that is no page and no script
+of this folder, outside comments, or among the FOREIGN words below. In ARCHITECTURE's tables of files and calls each
+call is defined in the file beside it.
 """
 import collections
 import functools

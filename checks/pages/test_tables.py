@@ -1,14 +1,14 @@
-"""Compares the rows of tables with what they are about.
+"""Compares the rows of tables with their sources.
 
-- docs/PROGRAM.md: what each command prints, and each status with its line, in runs of the program `wkb_hex`.
+- docs/PROGRAM.md: the output of each command, and each status with its line, in runs of the program `wkb_hex`.
 - ARCHITECTURE.md: its crates are those of crates.txt, each below those that use it. A path in the table of rules is one
-  of the crate that its row names last. What a drawing names is an item of the code.
+  of the crate that its row names last. A name in a drawing is an item of the code.
 - c/package/package.md: each file is in the package that c/package/dist writes.
 - docs/SYSTEMS.md: the scripts that are said to have tried a system build for it.
 - CITATION.cff: the licences are those of the files LICENSE-*, and the title begins as README's does.
-- CHANGELOG.md: the calls that it lists for one geometry and for columns are in c/wkb.h, and as many kinds and
-  dimensions as it says in docs/FORMAT.md.
-- README's times in C are those of docs/SPEED.md, where those of plain C are quotients.
+- CHANGELOG.md: the calls that it lists for one geometry and for columns are in c/wkb.h, and its numbers of types and
+  dimensions are those of docs/FORMAT.md.
+- README's times in C are those of docs/SPEED.md, those of plain C as quotients.
 """
 import fnmatch
 import functools

@@ -1,7 +1,7 @@
-"""The C tests that are to make every call make it.
+"""The C tests that have to make every call make it.
 
-A call is what c/wkb_raw.h declares as wkb_raw_NAME, and c/wkb.h as wkb_NAME. The tests of EVERY go through the calls by
-lists that are kept by hand.
+A call is declared by c/wkb_raw.h as wkb_raw_NAME, and by c/wkb.h as wkb_NAME. The tests of EVERY go through the calls
+by lists that are kept by hand.
 """
 import re
 

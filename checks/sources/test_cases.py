@@ -1,8 +1,8 @@
-"""The rows of the worked cases are in crates/rows/stdin, their tests in the table of docs/TESTING.md.
+"""The test vectors of the worked cases are in crates/rows/stdin, their tests in the table of docs/TESTING.md.
 
-Each test of the table is there. In crates/rows/stdin each line is laid out as its head says, each paragraph has rows,
-and each question is one that the head lists: of refused bytes the program answers any question by the fault. The rows
-are as many as the last line of crates/rows/stdout says.
+Each test of the table exists. In crates/rows/stdin each line is laid out as its head says, each paragraph has test
+vectors, and each question is one that the head lists: for rejected bytes the program answers any question with the
+error. The number of test vectors is that of the last line of crates/rows/stdout.
 """
 import itertools
 import re

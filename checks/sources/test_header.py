@@ -1,4 +1,4 @@
-"""Doxygen takes c/wkb.h without a warning: each call names all its parameters, and what it returns."""
+"""Doxygen reads c/wkb.h without a warning: each call documents all its parameters and its result."""
 import re
 import subprocess
 import tempfile

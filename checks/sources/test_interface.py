@@ -1,7 +1,7 @@
-"""Looks up in the sources each name and signature of checks/sources/interface.txt, whose head says how it is read.
+"""Looks up in the sources each name and signature of checks/sources/interface.txt, whose head explains its form.
 
-Each item is there, can be named by users, and has this signature. No enum has a variant more than the list has, no
-struct a field, and no trait asks its implementations for more.
+Each item exists, can be named by users, and has this signature. No enum has a variant more than the list has, no struct
+a field, and no trait requires more of its implementations.
 """
 import collections
 import re
@@ -127,7 +127,7 @@ class Sources:
 
 
 class Interface(unittest.TestCase):
-    """The list, one that has to be let pass, and some that have to be refused."""
+    """The list, one that has to be let pass, and some that have to be rejected."""
 
     listed = staticmethod(lambda: list(rows(pages.text_of(LIST))))
 

@@ -1,11 +1,11 @@
-"""Compares what crosses between c/wkb.c and the proved calls: structs, and the parameters of each call.
+"""Compares the interface between c/wkb.c and the proved calls: structs, and the parameters of each call.
 
 In wkb.c a struct has its size, its alignment, and the offset of each member, which C asserts. In
-crates/wkb_c/specs/Layouts a struct has its fields, its size, its alignment and the offsets, which are proved. Both name
-the fields alike. A slice is one field there, and here a pointer and, eight bytes after it, a length.
+crates/wkb_c/specs/Layouts a struct has its fields, its size, its alignment and the offsets, which are proved. Both use
+the same names for the fields. A slice is one field there, and here a pointer and, eight bytes after it, a length.
 
 c/wkb_raw.h declares each call that crates/wkb_c exports, with the same parameters in the same order: a slice is a
-pointer and a length, a reference a pointer, and what isn't written is const.
+pointer and a length, a reference a pointer, and an input is const.
 """
 import re
 
@@ -87,7 +87,7 @@ def crossing(parameter):
 
 
 def exported():
-    """The same of each call that the crate exports; the result is None where there is none."""
+    """The same of each call that the crate exports; the result is None if there is none."""
     found = {}
     for it in (it for text in texts(EXPORTS).values() for it in items(text)):
         head = re.fullmatch(r'extern "C" fn (wkb_raw_\w+)\((.*)\)(?: -> (\w+))?', it.signature)

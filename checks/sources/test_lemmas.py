@@ -1,8 +1,8 @@
-"""Something cites each lemma.
+"""Each lemma is cited.
 
-A lemma is what a file of proofs/ defines, but for the files of functions' proofs, whose names the prover reads. Another
-definition, a contract or an attribute of the code has to name it. The worked values whose names begin with `worked_`
-are cited by nothing on purpose: that they are proved shows them.
+A lemma is a definition of a file of proofs/, except the files of functions' proofs, whose names the prover reads.
+Another definition, a contract or an attribute of the code has to name it. The worked values, whose names begin with
+`worked_`, are cited by nothing on purpose: their proof is the test.
 """
 import collections
 import pathlib

@@ -1,4 +1,4 @@
-"""No line of a script is too wide, and shellcheck finds nothing in those of bash."""
+"""No line of a script is too wide, and shellcheck has no warning about those of bash."""
 import pathlib
 import re
 import subprocess

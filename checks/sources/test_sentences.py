@@ -1,21 +1,21 @@
-"""Each sentence of c/wkb.h is carried by a clause that is proved or by a test.
+"""Each sentence of c/wkb.h is backed by a clause that is proved or by a test.
 
 A row of checks/sources/sentences.txt is `NAME: SENTENCE` as the header has them, in its order. NAME is the declaration,
-the member or the constant that the comment is about. A line of a table is a sentence, and so is what is said of a
-parameter. A sentence goes on in lines that are indented by two blanks. The lines below it that are indented by four say
-what carries it:
+the member or the constant that the comment is about. A line of a table is a sentence, and so is the description of a
+parameter. A sentence goes on in lines that are indented by two blanks. The lines below it that are indented by four
+name its evidence:
 
     clause CRATE OWNER LABEL..    these clauses of a function, or fields of a definition; or a definition as a whole
     test FILE: WORDS              a test: the file has these words
-    meaning                       nothing is stated: the sentence says what a word or a number means
-    caller                        it says what the caller has to do
-    later                         it says what later versions keep
+    meaning                       the sentence defines a word or a number
+    caller                        it is a requirement on the caller
+    later                         it is a promise for later versions
 
-A sentence that ends in (tested) has tests alone, and so may those of the names in TESTED. Any other sentence that
-states something has a clause. A definition that a row names is on the way from the clauses of the functions that the
-row names, of its call, or of any call where it is about none: they name it, or what they name does, and so on. No row
-and no sentence lacks the other, no clause and no words of a test are gone, and a sentence without a clause says that it
-is tested. That a clause says what a sentence says is for readers to see.
+A sentence that ends in (tested) has tests alone, and so may those of the names in TESTED. Any other statement has a
+clause. A definition that a row names is reachable from the clauses of the functions that the row names, of its call, or
+of any call if it is about none: they name it, or a definition that they name does, and so on. No row and no sentence
+lacks the other, no clause and no words of a test are gone, and a sentence without a clause says that it is tested.
+Whether a clause means the same as a sentence is for readers to check.
 """
 import collections
 import functools
@@ -84,7 +84,7 @@ def rows():
 
 @functools.lru_cache(maxsize=None)
 def definitions(crate):
-    """The definitions of a crate's specs that are public: those at the front of a line, and those of mutual blocks."""
+    """The definitions of a crate's specs that are public: those at the start of a line, and those of mutual blocks."""
     found = set()
     for path in sorted(ROOT.glob(f"crates/{crate}/specs/**/*.antt")):
         text = path.read_text(encoding="utf-8")

@@ -1,4 +1,4 @@
-"""Each file that names the version names the one that tools/version tells."""
+"""Each file that has the version has the one of tools/version."""
 import re
 import subprocess
 import unittest

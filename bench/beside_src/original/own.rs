@@ -205,7 +205,7 @@ pub struct Own {
 }
 
 impl Own {
-    /// None where an item is of another kind.
+    /// None if an item is of another kind.
     pub fn of(parsed: &[Wkb<'_>]) -> Option<Own> {
         let mut own = Own::default();
         for wkb in parsed {

@@ -7,7 +7,7 @@ import model
 from model import COLLECTION, Geometry, LINE_STRING, MULTI_POINT, POINT, POLYGON, WIDTHS
 
 numbers = random.Random("lasting")
-# The bits of numbers that a program could take for something else: zeros, not-a-numbers, infinities, subnormal ones.
+# The bits of numbers that a program could take for something else: zeros, NaNs, infinities, subnormal ones.
 WORDS = [0, 1 << 63, 0x3FF0000000000000, 0x4000000000000000, 0x7FF8000000000000, 0xFFF8000000000001, 0x7FF0000000000001,
          0x7FF0000000000000, 0xFFF0000000000000, 1, 0x7FEFFFFFFFFFFFFF, 0x0102030405060708, 0xFFFFFFFFFFFFFFFF]
 FORMS = (model.ISO, model.OWN_SRID)
@@ -97,7 +97,7 @@ def nested():
 
 
 def wrong_codes():
-    """Codes of all sorts before the words of a point and more, at the front and as a member."""
+    """Codes of all sorts before the words of a point and more, at the start and as a member."""
     codes = [*range(19), 999, *range(1000, 1018), 2000, 2004, 2008, 3000, 3001, 3007, 3008, 4000, 4001, 4007, 65537,
              0x10000001, 0x08000003, 0x20000000, 0x40000008, 0x80000000, 0xE0000000, 0xFFFFFFFF]
     flags = [it << 29 | code for it in range(1, 8) for code in (1, 2, 7, 8, 1001, 2004, 3002, 3007, 4001)]

@@ -1,7 +1,7 @@
 """The format in plain Python, written from docs/FORMAT.md and c/wkb.h, and from no other source of this repository.
 
-`read` returns the geometry at the front of some bytes, or raises Refused; `write` returns the bytes of a geometry under
-the options. It is simple and slow: what it says is compared with the library, so neither may be made of the other.
+`read` returns the geometry at the start of some bytes, or raises Refused; `write` returns the bytes of a geometry under
+the options. It is simple and slow: its answers are compared with the library's, so neither may be made of the other.
 """
 import dataclasses
 import struct
@@ -17,7 +17,7 @@ EMPTY = 0x7FF8000000000000
 
 
 class Refused(Exception):
-    """Why bytes are refused: the members of wkb_fault."""
+    """Why bytes are rejected: the members of wkb_fault."""
 
     def __init__(self, status, part, offset, end=0, length=0, code=0):
         super().__init__(status)
@@ -134,7 +134,7 @@ class Reader:
 
 
 def read(data):
-    """The geometry at the front, and the members of wkb_found in their order."""
+    """The geometry at the start, and the members of wkb_found in their order."""
     reader = Reader(data)
     it = reader.geometry()
     count = 1 if it.kind == POINT else len(it.body)

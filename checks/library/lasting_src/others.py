@@ -1,6 +1,6 @@
-"""Other programs, and what they write of bytes that they read: a mapping of (order, form) to bytes, or None.
+"""Other programs, and their output for bytes that they read: a mapping of (order, form) to bytes, or None.
 
-`writes` is asked for many inputs at once. `made_of` returns what a program writes of a text in WKT, in all its ways.
+`writes` takes many inputs at once. `made_of` returns the program's output for a text in WKT, in all its forms.
 """
 import ctypes
 import itertools
