@@ -1,9 +1,9 @@
 #!/usr/bin/env python3
-"""The clauses of the contracts, by the crate and the name of what has them.
+"""Looks up the clauses of the contracts, by crate and name.
 
-    tools/contracts.py NAME..     prints where a call, a trait or a record is, with its clauses and the command that
-                                  proves the call; or where the clauses of this name are. It may be named with what it
-                                  is of: wkb::canon::same, Writes.refused
+    tools/contracts.py NAME..     prints the place of a call, a trait or a record, with its clauses and the command
+                                  that proves the call; or the places of the clauses of this name. The name may have
+                                  its owner: wkb::canon::same, Writes.refused
 """
 import collections
 import re

@@ -5,20 +5,20 @@
                                        proves crates/NAME, a static library, and builds it into FILE
     tools/kit.py program NAME FILE     proves crates/NAME, a program, and builds it into FILE
     tools/kit.py built NAME            prints the libraries below crates/NAME that are built
-    tools/kit.py take                  takes what `rt ci` has proved of these sources on this machine
+    tools/kit.py take                  takes the libraries that `rt ci` has proved of these sources on this machine
 
-A library is built where the sum beside it, the kit's own `stamp`, is that of its sources and of those below it. `rt ci`
-writes no such sum, and puts what was there before back over what it has proved; but the kit keeps that. So after
-`rt ci`, in this folder or in another one with the same files, `take` gives each crate its library, and the sum beside
-it, with which `rt check` and the scripts begin; and the programs.
+A library is built if the checksum beside it, the kit's own `stamp`, is that of its sources and of those below it.
+`rt ci` writes no such checksum, and restores the earlier files after it has proved them; but the kit keeps the proved
+ones. So after `rt ci`, in this folder or in another one with the same files, `take` gives each crate its library, and
+the checksum beside it, with which `rt check` and the scripts begin; and the programs.
 
 `archive` and `program` first prove and build each library below the crate that is not built, and those above it; as
-many side by side as RT_JOBS says. TOOLCHAIN stands for the kit's folder of that name; TARGET and CPU are a target and a
-processor of its prover's `build`. What is proved for one target is kept in the folder KEPT for the next. BACKEND is
-llvm, or rattle, which is the kit's own compiler.
+many in parallel as RT_JOBS says. TOOLCHAIN stands for the kit's folder of that name; TARGET and CPU are a target and a
+processor of its prover's `build`. Proofs for one target are kept in the folder KEPT for the next. BACKEND is llvm, or
+rattle, which is the kit's own compiler.
 
 The command is a program and no library, so another kit may have other names inside. BORROWED lists each name that is
-used here, and a name that is missing ends the script with 2 before anything is tried.
+used here, and if a name is missing the script exits with status 2 before it tries anything.
 """
 import functools
 import hashlib

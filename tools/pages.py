@@ -1,4 +1,4 @@
-"""What the scripts share that judge pages and sources."""
+"""Shared code of the scripts that check pages and sources."""
 import functools
 import pathlib
 import re

@@ -1,13 +1,13 @@
 #!/usr/bin/env python3
-"""The names of public clauses that a user of the crate `wkb` can't write, and the crate that writes all words.
+"""The names of public clauses that a user of the crate `wkb` can't write, and the crate that writes all definitions.
 
-    tools/public_words.py            prints them, and what of crates/wkb_words is out of date
+    tools/public_words.py            prints them, and the differences from crates/wkb_words
     tools/public_words.py --write    makes crates/wkb_words
 
-A crate that lists `wkb` alone writes the names that crates/wkb/specs passes on. This looks at every type, trait and
-function that crates/wkb/src exports, and at the names in their clauses and ghost members. It prints each name that is
-not passed on, with a clause that names it. The crate wkb_words names each word that is passed on, so that its check
-fails where the kit doesn't hand one to other crates.
+A crate that lists `wkb` alone can write the names that crates/wkb/specs re-exports. This script reads every type, trait
+and function that crates/wkb/src exports, and the names in their clauses and ghost members. It prints each name that is
+not re-exported, with a clause that names it. The crate wkb_words names each re-exported definition, so that its check
+fails if the kit doesn't export one to other crates.
 """
 import re
 import shutil

@@ -1,4 +1,4 @@
-"""What scripts share that read the code in src/."""
+"""Shared code of scripts that read the code in src/."""
 import re
 
 

@@ -1,4 +1,4 @@
-"""The files of specs/: what each passes on from another, and what it defines."""
+"""The files of specs/: the definitions of each, and those that it re-exports."""
 
 import re
 

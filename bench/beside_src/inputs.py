@@ -1,7 +1,7 @@
 """inputs.py FOLDER [PART]: makes the files that are timed, always the same ones; with a PART of 20 a twentieth of each.
 
-An item is a length, as four bytes in little endian, and the bytes of a geometry in ISO codes. Rings are closed, so that
-a program which looks at validity takes them.
+An item is a length, as four little-endian bytes, and the bytes of a geometry in ISO codes. Rings are closed, so that a
+program which checks validity accepts them.
 """
 import pathlib
 import random

@@ -1,7 +1,7 @@
 """table.py TIMES ROUNDS: ours as a part of the others' time, by the shortest pass of all rounds, as a Markdown table.
 
-A line of TIMES is a file, and what a program prints of it: who, what, the items, nanoseconds, what was computed.
-Besides the table, TIMES.all gets the nanoseconds for each geometry of each file.
+A line of TIMES is a file, and a line of a program's output for it: the program, the task, the items, nanoseconds, the
+result. Besides the table, TIMES.all gets the nanoseconds for each geometry of each file.
 """
 import math
 import sys

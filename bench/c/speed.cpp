@@ -1,6 +1,6 @@
 // speed ROUNDS: nanoseconds of a call over random geometries of one shape after another, and by the row of a call for a
 // column of them, beside the readers of GEOS and OGR where they are, and beside plain C, which is compared with the
-// library before. All calls of a shape are timed in each round, and the shortest of the rounds counts. What is printed is
+// library before. All calls of a shape are timed in each round, and the shortest of the rounds counts. It prints
 // tables in Markdown.
 // speed --count: calls each once over all geometries of a shape, between two looks at the clock, and prints a line for
 // it: the shape, the call and the geometries, with tabs between them. bench/instructions counts what lies between.

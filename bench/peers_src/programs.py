@@ -1,9 +1,9 @@
 """The programs that bench/peers compares. Each is a class whose methods take and return bytes of geometries.
 
 `written` reads bytes and writes them again, with all that the program keeps, or returns None if it rejects them;
-`with_srid` does so with the SRID 4326. `is_valid` and `text` return None if the program has no such call.
-`refused_at` reads while allocation N fails, and returns `read`, `error`, or `none` where there are fewer. `time`
-returns the shortest time of N readings, in nanoseconds.
+`with_srid` does so with the SRID 4326. `is_valid` and `text` return None if the program has no such call. `refused_at`
+reads while allocation N fails, and returns `read`, `error`, or `none` if there are fewer. `time` returns the shortest
+time of N readings, in nanoseconds.
 """
 import ctypes
 import os
