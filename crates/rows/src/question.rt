@@ -40,7 +40,7 @@ fn show_of_geometry(line: &mut Line, question: &str, wkb: &Wkb<'_>) {
     }
 }
 
-/// Answers what is asked of the geometry at the front of some bytes; of refused bytes by the fault.
+/// Answers what is asked of the geometry at the start of some bytes; of rejected bytes by the fault.
 fn show_of_front(line: &mut Line, alloc: Global, question: &str, input: &[u8]) {
     match read(alloc, input) {
         Ok(wkb) => show_of_geometry(line, question, &wkb),
