@@ -9,7 +9,7 @@ use Rattle.std.proofs.lemmas.Nat.{and_mask}
 use lib.Ieee.Bits.{to_bits-of_bits, nan_bits_is}
 use Rattle.wkb.specs.Prelude.{is_nan}
 
--- a word that is no not-a-number has no bits of one
+-- a word that is no NaN has no bits of one
 pub is_number : (w : ℕ) → is_nan w ≡ false → T (not (nan_bits binary64 w))
 is_number w h = not_nan_f64_bits w (grind (arith, nat_tests, and_mask w 63))
 

@@ -1,4 +1,4 @@
--- What the check finds in an input is what is rewritten and compared; what it refuses is what the reader refuses.
+-- What the check finds in an input is what is rewritten and compared; what it rejects is what the reader rejects.
 use Rattle.std.proofs.Common.{◌≡◌, ℕ, List, ◌++◌, length, Bool, true, false}
 use Rattle.std.proofs.Common.{refl, sym, ap, ◌∙◌}
 use Rattle.std.proofs.Common.{take, drop, ◌↔◌, IsTrue, MatchBool, subst, arith, append-nil}
@@ -50,7 +50,7 @@ made_with_srid {order = order} only is = record {
       is.written ∙ ap (λ z. encoding order (Ewkb z) (geometry_of is.t)) (only is.s is.t is.rest is.front).srid;
 }
 
--- ---- what is refused
+-- ---- what is rejected
 
 -- the error of a refusal is the reader's
 pub refusal : {buf : List ℕ} {e : WkbError} (refused : Refused) → IsRefusedFor buf refused → Tells e refused.cause

@@ -74,7 +74,7 @@ member_of w ms k m c is =
     (unlisted c.whole.spelled c.whole.dimension c.whole.parts k m.spelled m.value
     (subst (λ ss. IsOneOf k ss c.whole.parts m.spelled m.value) c.all.spelled inside))
 
--- a writer that returns Ok has appended the encoding, since nothing was refused
+-- a writer that returns Ok has appended the encoding, since nothing was rejected
 appended_by : (options : WriteOptions) (g : Geometry) (x : Unit {0}) (untouched : Type 0) (old new : Option (List ℕ))
     (failed : Bool)
     (fails_by : Option Error → Type 0) (o : Option Fault) → refusal options.endianness options.form g ≡ o

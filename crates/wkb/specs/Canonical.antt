@@ -33,11 +33,11 @@ pub record OverflowsWithSrid (order : Endianness) (form : Form) (input : List �
 abbrev pub IsRewritingUnder : WriteOptions → List ℕ → List ℕ → Type 0
 IsRewritingUnder options input out = IsRewriting options.endianness options.form input out
 
--- the input is refused, or its encoding under these options is too long, and the error says which
+-- the input is rejected, or its encoding under these options is too long, and the error says which
 abbrev pub IsRefusedUnder : WriteOptions → List ℕ → WkbError → Type 0
 IsRefusedUnder options input e =
     IsRefusal input e ⊎ (OverflowsWithSrid options.endianness options.form input × IsSize e)
 
--- the first input is refused, or it begins with a geometry and the second is refused, and the error says why
+-- the first input is rejected, or it begins with a geometry and the second is rejected, and the error says why
 abbrev pub IsPairRefusal : List ℕ → List ℕ → WkbError → Type 0
 IsPairRefusal a b e = IsRefusal a e ⊎ (IsAccepted a × IsRefusal b e)

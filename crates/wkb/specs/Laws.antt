@@ -1,4 +1,4 @@
--- The laws of `wkb::laws`, and the records that they speak of.
+-- The lemmas of `wkb::laws`, and the records that they name.
 pub use Rattle.wkb_laws.specs.Laws.{HasOneFront, RestIsFree, BytesAreRead, HasFront, HasRefusal, ReadOrRefused}
 pub use Rattle.wkb_laws.specs.Laws.{NeverBoth, OneRefusal, WritableIsRead, listed_inside, RefusedOutward, EndsTooEarly}
 pub use Rattle.wkb_laws.specs.Laws.{CutIsRefused, Agrees, GeometryAgrees, FrontIsRead, RefusalIsRead, FrontIsBounded}

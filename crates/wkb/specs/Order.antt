@@ -1,4 +1,4 @@
--- That words are in the order of numbers: the statement of the law `ranks_in_order`, and lemmas over it.
+-- That words are in the order of numbers: the statement of the lemma `ranks_in_order`, and lemmas over it.
 use Rattle.std.proofs.Common.{◌≡◌, ℕ, ◌≤◌, List, [], ◌∷◌, Bool, true, false, nat_lt, if◌then◌else◌, refl}
 use Rattle.std.specs.Prelude.{from_bits}
 use Rattle.std.specs.Float.{binary64, ◌≤ᶠ◌}

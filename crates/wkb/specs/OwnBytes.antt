@@ -13,7 +13,7 @@ use Rattle.wkb.specs.Canonical.{HaveOneValue, HaveTwoValues, IsRewritingUnder, I
 use Rattle.wkb.specs.Bridges.{memory_or}
 use Rattle.wkb.specs.Laws.{NeverBoth, HasOneFront}
 
--- Bytes that begin with a geometry, as those that `buf` of a geometry returns, are never refused by a call that refuses
+-- Bytes that begin with a geometry, such as those of a geometry's `buf`, are never rejected by a call that rejects
 -- only bytes that begin with none.
 pub never_refused : {A E : Type 0} {buf : List ℕ} {w : Item} (r : Result A E) → IsFront buf w
     → IfErr r (λ _. HasNoFront buf) → IfErr r (λ _. ⊥)
@@ -40,7 +40,7 @@ read_the_same (Err e) f reads = tt
 
 -- ---- a refusal by its cause
 
--- No error says why such bytes are refused.
+-- No error says why such bytes are rejected.
 pub no_refusal : NeverBoth → {buf : List ℕ} {w : Item} {e : WkbError} → IsFront buf w → IsRefusal buf e → ⊥
 no_refusal never {buf = buf} {w = w} f r =
     never buf w.spelled w.value f.rest r.cause r.turns r.slots f.front r.refuses

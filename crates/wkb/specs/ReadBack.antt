@@ -40,7 +40,7 @@ words_by : (b : Bool) (words read : Coordinate) → Some read ≡ (if b then Non
 words_by true words read h = absurd (cc)
 words_by false words read h = cc
 
--- A point that is read as the empty one was written with not-a-numbers alone.
+-- A point that is read as the empty one was written with NaNs alone.
 pub empty_point_read : (d : Dimension) (words : Coordinate) (t : Value) → point d (normal_point (Some words)) ≡ t
     → None ≡ point_of t → all_nan words ≡ true
 empty_point_read d words t same none = empty_by (all_nan words) words (none ∙ ap point_of (sym same))

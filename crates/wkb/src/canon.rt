@@ -1,4 +1,4 @@
-//! The canonical form: the one encoding of the value at the front of an input. Inputs are checked, and then rewritten
+//! The canonical form: the one encoding of the value at the start of an input. Inputs are checked, and then rewritten
 //! and compared where they are.
 
 ghost use Rattle.std.specs.Prelude.{◌≡◌, ◌<◌, ◌⊎◌, IfOk, IfErr, MatchBool};
@@ -24,9 +24,9 @@ use wkb_rewrite::{
 };
 use wkb_write::WriteOptions;
 
-/// The encoding under the options of the geometry at the front of the bytes.
+/// The encoding under the options of the geometry at the start of the bytes.
 ///
-/// Refused as `read_wkb` refuses the bytes. Only the result is allocated.
+/// Rejected as `read_wkb` rejects the bytes. Only the result is allocated.
 ///
 /// ```
 /// // A key of the value: the same bytes whatever the order, the codes and the SRIDs it was read in.
@@ -44,7 +44,7 @@ pub fn canonical(alloc: Global, buf: &[u8], options: &WriteOptions) -> WkbResult
 
 /// The encoding under EWKB with the geometry's own SRID, where it has one.
 ///
-/// Refused as `read_wkb` refuses the bytes. Only the result is allocated.
+/// Rejected as `read_wkb` rejects the bytes. Only the result is allocated.
 pub fn canonical_with_srid(alloc: Global, buf: &[u8], order: Endianness) -> WkbResult<Vec<u8>>
     ensures ok { IfOk result (λ encoding. IsRewritingWithSrid order buf.now encoding.items) }
     ensures err { IfErr result (λ e. IsMemory e ⊎ IsRefusal buf.now e) }
@@ -60,7 +60,7 @@ pub fn canonical_with_srid(alloc: Global, buf: &[u8], order: Endianness) -> WkbR
 
 /// Whether two inputs begin with geometries of the same value, SRIDs aside.
 ///
-/// Refused as `read_wkb` refuses the first, which is checked before the second is looked at, or else the second.
+/// Rejected as `read_wkb` rejects the first, which is checked before the second is looked at, or else the second.
 /// Nothing is allocated.
 ///
 /// ```
@@ -79,7 +79,7 @@ pub fn same(alloc: Global, a: &[u8], b: &[u8]) -> WkbResult<bool>
     Ok(have_one_value(a, b))
 }
 
-/// What the check finds at the front of the bytes, or the error that reading them returns.
+/// What the check finds at the start of the bytes, or the error that reading them returns.
 fn summary_or_error(buf: &[u8]) -> WkbResult<Summary>
     ensures front { IfOk result (λ found. DescribesFront buf.now found) }
     ensures one_front { IfOk result (λ found. DescribesOnlyFront buf.now found) }

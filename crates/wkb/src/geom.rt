@@ -22,7 +22,7 @@ pub use wkb_plain::{
     Triangle,
 };
 
-/// The number that a coordinate's word stands for; `None` for a not-a-number.
+/// The number that a coordinate's word stands for; `None` for a NaN.
 ///
 /// ```
 /// // The x of a point, as a number.

@@ -1,4 +1,4 @@
-//! Laws over the definitions: what they say of any two inputs, and of any encoding.
+//! Lemmas over the definitions: what they say of any two inputs, and of any encoding.
 
 ghost use Rattle.wkb.specs.Prelude.{AreBytes};
 ghost use Rattle.wkb.specs.Encodings.{IsForm};
@@ -19,12 +19,12 @@ pub use wkb_laws::{
     rewriting_is_read, work_is_bounded, writable_is_read, written_is_read,
 };
 
-/// The bytes of a slice are numbers below 256, as laws require of their lists.
+/// The bytes of a slice are numbers below 256, as the lemmas require of their lists.
 pub fn are_bytes(_bytes: &[u8])
     ensures { AreBytes _bytes.now }
 {}
 
-/// The SRID of a form fits in four bytes, as laws require of the form that is written.
+/// The SRID of a form fits in four bytes, as the lemmas require of the form that is written.
 pub fn srid_fits(form: Form)
     ensures { IsForm form }
 {

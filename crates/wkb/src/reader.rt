@@ -1,4 +1,4 @@
-//! The reader: a geometry at the front of some bytes, as a view that borrows them.
+//! The reader: a geometry at the start of some bytes, as a view that borrows them.
 
 pub use wkb_geom::Dimension;
 pub use wkb_read::geometry::{GeometryCollection, Wkb};
