@@ -59,7 +59,7 @@ module _ {c : Column} {i start status count : ℕ} {before lent sub after : List
         ),
       ))
 
--- the geometry at the front, as the only one of some
+-- the geometry at the start, as the only one of some
 abbrev pub one_geometry : (input : List ℕ) (s : Spelling) (t : Value) (rest : List ℕ) → Front input s t rest
     → HasGeometries 1 input rest
 one_geometry input s t rest f = alone (geometry_of_front f)

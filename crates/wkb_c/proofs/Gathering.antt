@@ -82,7 +82,7 @@ same_value a b =
 pub one_value : {w : Wanted} {row : List ℕ} {t : Value} → BeginsWithMember w row t → (a : IsAccepted row) → a.t ≡ t
 one_value b a = same_value a (there b)
 
--- what is accepted isn't refused
+-- what is accepted isn't rejected
 pub never_refused : {row : List ℕ} {status : ℕ} → IsAccepted row → IsRefusedWith row status → ⊥
 never_refused {row} a why =
     let r = why.1 in never_both_lem row a.s a.t a.rest r.cause r.turns r.slots a.front r.refuses

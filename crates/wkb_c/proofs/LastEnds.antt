@@ -8,7 +8,7 @@ use Rattle.wkb_c.proofs.RowItems.{RowsDone}
 use Rattle.wkb_c.proofs.Rows.{below_more}
 
 module _ {A : Type 0} {Has : ℕ → List A → Type 0} {Fails : ℕ → ℕ → Type 0} where
-  -- a row ends no earlier than it begins, and its end is a number of 64 bits
+  -- a row ends no earlier than it begins, and its end is a 64-bit integer
   ends_later : {i status start end : ℕ} {out : List A} → length out < 2 ^ 63 → start < 2 ^ 64
       → IsRowAnswer Has Fails i status start end out → (start ≤ end) × (end < 2 ^ 64)
   ends_later small fits (handed items has ok end_is inside range) = omega (arith, end_is, inside, small)

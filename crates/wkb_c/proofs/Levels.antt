@@ -193,7 +193,7 @@ module _ {input : List ℕ} {p : Piece} {ps : List Piece} {xs : List Subject} (f
       ≡ length (single_sizes p) + length (flat_map single_counts f.others)
   singles_many = ap length singles_are ∙ length-append (single_sizes p) (flat_map single_counts f.others)
 
--- totals are numbers of 64 bits
+-- totals are 64-bit integers
 pub record AreSmall (at : Totals) : Type 0 where
   pub coordinates : at.coordinates < 2 ^ 64
   pub rings : at.rings < 2 ^ 64

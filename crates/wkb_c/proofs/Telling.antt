@@ -40,7 +40,7 @@ pub others_tell_no_end : OthersTellNoEnd
 others_tell_no_end (general g) part offset long = general_tells_end g part offset long
 others_tell_no_end _ part offset long = (refl, refl)
 
--- the status of its cause says why the bytes are refused
+-- the status of its cause says why the bytes are rejected
 pub refused_with : (buf : List ℕ) (e : Refused) (status : ℕ) → IsRefusedFor buf e → status ≡ cause_status e.cause
     → IsRefusedWith buf status
 refused_with buf e status r is = (

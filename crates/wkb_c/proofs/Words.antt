@@ -77,7 +77,7 @@ each_holds input (e ∷ es) (p ∷ ps) (x ∷ xs) f = (
 )
 each_holds input _ _ _ f = absurd f
 
--- the entries of the geometry at the front of an input
+-- the entries of the geometry at the start of an input
 pub holds : {input : List ℕ} (s : Spelling) (t : Value) {rest : List ℕ} → Begins (Spells s t) input rest
     → HoldEach input (geometry_entries 0 0 s t) (subjects s t)
 holds {input} s t g = each_holds input _ (pieces_of 0 s t) _ (all_placed input 0 s t g)

@@ -1,4 +1,4 @@
--- What `wkb_check` reports of the geometry at the front of an input.
+-- What `wkb_check` reports of the geometry at the start of an input.
 use Rattle.std.specs.Prelude.{◌≡◌, ◌≢◌, ℕ, suc, List, length, is_some, unwrap_or}
 use mir.Val.{bool_byte as from_bool}
 use Rattle.wkb_geom.specs.Codes.{thousands}
@@ -35,7 +35,7 @@ pub record IsFound (input : List ℕ) (found : Found) : Type 0 where
   pub srid_is : found.srid ≡ unwrap_or (header s).srid 0
   pub order_is : found.order ≡ order_byte (header s).order
 
--- what a call does that reports the geometry at the front of an input, or why there is none
+-- what a call does that reports the geometry at the start of an input, or why there is none
 pub record TellsFound (input : List ℕ) (before after : Found) (fault fault' : WkbFault) (status : ℕ) : Type 0 where
   pub accepted : status ≡ OK → IsFound input after
   pub refused : status ≢ OK → IsFault input status fault'

@@ -6,19 +6,19 @@ pub record IsRowStatus (status : ℕ) : Type 0 where
   pub least : 16 ≤ status
   pub below : status < 32
 
--- a row has no bytes, or is refused
+-- a row has no bytes, or is rejected
 abbrev pub TellsOfRow : ℕ → Type 0
 TellsOfRow status = 16 ≤ status
 
--- the input is refused
+-- the input is rejected
 abbrev pub IsRefusalStatus : ℕ → Type 0
 IsRefusalStatus status = 32 ≤ status
 
--- the input isn't refused, or nobody looked at it
+-- the input isn't rejected, or nobody looked at it
 abbrev pub IsNoRefusal : ℕ → Type 0
 IsNoRefusal status = status < 32
 
--- the input is refused because it ends too early, and the fault tells where it ends and where it would
+-- the input is rejected because it ends too early, and the fault tells where it ends and where it would
 abbrev pub IsShortStatus : ℕ → Type 0
 IsShortStatus status = 48 ≤ status
 

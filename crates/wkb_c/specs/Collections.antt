@@ -99,7 +99,7 @@ pub record CollectedExceeds (c : Column) (rows k d : ℕ) (o : Options) (before 
   pub is : IsCollected c rows k d o encoding
   pub lacks : Exceeds encoding before size
 
--- ---- what is refused
+-- ---- what is rejected
 
 -- the bytes begin with a geometry that is no member, and this status and this fault say so
 pub record IsUnwanted (w : Wanted) (row : List ℕ) (status : ℕ) (fault : WkbFault) : Type 0 where

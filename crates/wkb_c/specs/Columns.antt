@@ -96,7 +96,7 @@ pub data LacksRow (c : Column) (i status : ℕ) : Type 0 where
   bad_offsets : is_null_row c i ≡ false → HasNoSlice c.bytes.now c.offsets.now c.offset_size i → status ≡ BAD_OFFSETS
       → LacksRow c i status
 
--- the bytes are refused, and this status says why
+-- the bytes are rejected, and this status says why
 abbrev pub IsRefusedWith : List ℕ → ℕ → Type 0
 IsRefusedWith row status = (fault : WkbFault) × IsFault row status fault
 

@@ -73,7 +73,7 @@ pub record HaveOrderNumbers : Type 0 where
   pub big : order_byte BigEndian ≡ BIG_ENDIAN
   pub little : order_byte LittleEndian ≡ LITTLE_ENDIAN
 
--- which of two inputs is refused, and whether they have one value
+-- which of two inputs is rejected, and whether they have one value
 pub record HaveInputNumbers : Type 0 where
   pub first : FIRST ≡ 1
   pub second : SECOND ≡ 2

@@ -22,7 +22,7 @@ all_zeros = record {
   order = 0;
 }
 
--- `wkb_check` returns this status for these bytes, and finds this in them; the entry of what it refuses is all zeros
+-- `wkb_check` returns this status for these bytes, and finds this in them; the entry of what it rejects is all zeros
 pub data IsFoundIn (row : List ℕ) (status : ℕ) (found : Found) : Type 0 where
   accepted : status ≡ OK → IsFound row found → IsFoundIn row status found
   refused : IsRefusedWith row status → found ≡ all_zeros → IsFoundIn row status found

@@ -32,7 +32,7 @@ request_in o None = None
 abbrev pub request_of : Options → Option Request
 request_of o = request_in o (order_asked o.order)
 
--- the encoding that is asked for of the geometry at the front of the input
+-- the encoding that is asked for of the geometry at the start of the input
 abbrev pub IsRequested : Request → List ℕ → List ℕ → Type 0
 IsRequested (Encoding o) input encoding = IsRewriting o.endianness o.form input encoding
 IsRequested (OwnSrid order) input encoding = IsRewritingWithSrid order input encoding

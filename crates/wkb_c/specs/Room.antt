@@ -1,7 +1,7 @@
 -- A slice that items are written into.
 use Rattle.std.specs.Prelude.{◌≡◌, ℕ, ◌<◌, ◌++◌, List, length, drop}
 
--- the items are at the front, nothing after them has changed, and this is their number
+-- the items are at the start, nothing after them has changed, and this is their number
 pub record IsHeld {A : Type 0} (items before after : List A) (count : ℕ) : Type 0 where
   pub count_is : count ≡ length items
   pub whole : after ≡ items ++ drop (length items) before

@@ -14,7 +14,7 @@ use Rattle.wkb_c.specs.declared.status.TheConstants.{OK, NO_ROOM}
 abbrev pub rows_of : {A : Type 0} → List ℕ → List A → ℕ
 rows_of statuses items = min (length statuses) (length items)
 
--- where they end; a number of 64 bits goes no further than this
+-- where they end; a 64-bit integer goes no further than this
 abbrev pub end_of : ℕ → ℕ → ℕ
 end_of start n = min (start + n) (2 ^ 64 - 1)
 

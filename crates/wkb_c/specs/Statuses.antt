@@ -23,7 +23,7 @@ use Rattle.wkb_c.specs.declared.status.TheConstants.{SHORT_LINE_STRING, SHORT_MU
 use Rattle.wkb_c.specs.declared.inputs.TheConstants.{FIRST, SECOND, DIFFERENT, EQUAL}
 use Rattle.wkb_c.specs.declared.fault.WkbFault.{WkbFault}
 
--- the status of a fault of the bytes (no reading refuses an unsupported dimension)
+-- the status of a fault of the bytes (no reading rejects an unsupported dimension)
 abbrev pub general_status : General → ℕ
 general_status InvalidByteOrder = INVALID_BYTE_ORDER
 general_status (CodeOutOfRange code) = CODE_OUT_OF_RANGE
@@ -40,12 +40,12 @@ cause_status (general g) = general_status g
 cause_status incorrect_type = INCORRECT_TYPE
 cause_status (nesting_depth_exceeded n) = NESTING_DEPTH_EXCEEDED
 
--- the part of this number is refused, which begins at this offset, and has no more numbers
+-- the part of this number is rejected, which begins at this offset, and has no more numbers
 abbrev pub plain_fault : ℕ → ℕ → ℕ → WkbFault
 plain_fault status part offset =
     record { part = part; offset = offset; end = 0; len = 0; code = 0; status = status }
 
--- a part is refused that would end there, where the input ends here
+-- a part is rejected that would end there, where the input ends here
 abbrev pub short_fault : ℕ → ℕ → ℕ → ℕ → ℕ → WkbFault
 short_fault status part offset end len =
     record { part = part; offset = offset; end = end; len = len; code = 0; status = status }
@@ -61,13 +61,13 @@ general_fault status part offset (ShortLineString end len) = short_fault status 
 general_fault status part offset (ShortMultiPoint end len) = short_fault status part offset end len
 general_fault status part offset (ShortLinearRing end len) = short_fault status part offset end len
 
--- the numbers of a cause that refuses the part of this number and this offset
+-- the numbers of a cause that rejects the part of this number and this offset
 abbrev pub cause_fault : ℕ → ℕ → Cause → WkbFault
 cause_fault part offset (general g) = general_fault (general_status g) part offset g
 cause_fault part offset cause = plain_fault (cause_status cause) part offset
 
--- The input is refused, with room for this many collections. The status says why, and the fault says which part, its
--- numbers, and where it begins: from there on the input has as many bytes as from the refused part on.
+-- The input is rejected, with room for this many collections. The status says why, and the fault says which part, its
+-- numbers, and where it begins: from there on the input has as many bytes as from the rejected part on.
 pub record IsFaultWithin (room : ℕ) (input : List ℕ) (status : ℕ) (fault : WkbFault) : Type 0 where
   pub cause : Cause
   pub turns : ℕ
@@ -78,16 +78,16 @@ pub record IsFaultWithin (room : ℕ) (input : List ℕ) (status : ℕ) (fault :
   pub fault_is : fault ≡ cause_fault turns offset cause
   pub begins : offset + length (left_in refuses) ≡ length input
 
--- whatever input is refused so, with whatever room, this status and this fault say so
+-- whatever input is rejected so, with whatever room, this status and this fault say so
 abbrev pub ReportsRefusal : Refused → ℕ → WkbFault → Type 0
 ReportsRefusal e status fault =
     (room : ℕ) (input : List ℕ) → IsRefusedForWithin room input e → IsFaultWithin room input status fault
 
--- The input is refused. The status says why, and the fault says which part, its numbers, and where it begins.
+-- The input is rejected. The status says why, and the fault says which part, its numbers, and where it begins.
 abbrev pub IsFault : List ℕ → ℕ → WkbFault → Type 0
 IsFault input status fault = IsFaultWithin max_nesting input status fault
 
--- the first input is refused, or it begins with a geometry and the second is refused; the status and the fault tell
+-- the first input is rejected, or it begins with a geometry and the second is rejected; the status and the fault tell
 -- why, and `which` the input
 abbrev pub IsRefusedInTurn : List ℕ → List ℕ → ℕ → WkbFault → ℕ → Type 0
 IsRefusedInTurn a b status fault which =

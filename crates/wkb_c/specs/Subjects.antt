@@ -31,7 +31,7 @@ HoldEach input (p ∷ parts) (x ∷ xs) = HoldsSubject input p x × HoldEach inp
 HoldEach input [] (x ∷ xs) = ⊥
 HoldEach input (p ∷ parts) [] = ⊥
 
--- the table of the parts of the geometry at the front of the input was written: where their bytes and words are
+-- the table of the parts of the geometry at the start of the input was written: where their bytes and words are
 pub record IsTable (input : List ℕ) (before after : List Part) (count : ℕ) : Type 0 where
   pub s : Spelling
   pub t : Value

@@ -80,7 +80,7 @@ impl CollectTarget {
     }
 }
 
-/// The geometry at the front of a row that is to be a member; or the status of the one refusal, and its numbers.
+/// The geometry at the start of a row that is to be a member; or the status of the one refusal, and its numbers.
 #[inline(never)]
 fn check_member_row(row: &[u8], fault: &mut WkbFault) -> Result<Summary, u32>
     ensures accepted { IfOk result (λ found. DescribesFrontWithin member_room row.now found) }
@@ -269,7 +269,7 @@ fn write_collected(
 ///
 /// The rows are those of `wkb_raw_column_check`. Members keep neither their byte order nor their SRID, and
 /// `EWKB_OWN_SRID` writes none. `NO_ROOM` writes the length too, but no encoding. Kind, dimension and options are
-/// checked first; then the first row that is no valid member refuses the whole call: `row` is its index, and its fault
+/// checked first; then the first row that is no valid member rejects the whole call: `row` is its index, and its fault
 /// is counted from its own front.
 #[unsafe(no_mangle)]
 pub extern "C" fn wkb_raw_collect(

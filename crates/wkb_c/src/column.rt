@@ -20,7 +20,7 @@ use wkb_geom::words::{u32_at, u64_at};
 pub struct Column<'a> {
     /// The bytes of the rows.
     pub bytes: &'a [u8],
-    /// Where each row begins, and where the last one ends: signed little endian numbers.
+    /// Where each row begins, and where the last one ends: signed little-endian numbers.
     pub offsets: &'a [u8],
     /// The bytes of an offset, which are 4 or 8.
     pub offset_size: usize,
@@ -142,7 +142,7 @@ fn span_of_row(bytes: &[u8], offsets: &[u8], size: usize, i: usize) -> Option<(u
     Some((start, end))
 }
 
-/// The geometry at the front of a row, or the status of its refusal.
+/// The geometry at the start of a row, or the status of its refusal.
 ///
 /// It isn't inlined, so that rows that take the short way don't pay for its frame.
 #[inline(never)]
@@ -157,7 +157,7 @@ pub fn check_row(row: &[u8]) -> Result<Summary, u32>
     }
 }
 
-/// What is at the front of a row, or the status of its refusal. The short way comes first: most rows hold no
+/// What is at the start of a row, or the status of its refusal. The short way comes first: most rows hold no
 /// collection, and it counts in registers.
 #[inline(always)]
 pub fn found_in(row: &[u8]) -> Result<Summary, u32>
@@ -197,10 +197,10 @@ fn status_of_row(column: &Column, i: usize, reach: &mut u64) -> u32
     }
 }
 
-/// Whether a geometry is at the front of each row of a column: a status a row.
+/// Whether a geometry is at the start of each row of a column: a status a row.
 ///
-/// Row i has the bytes from offset i up to offset i + 1. An offset is a signed little endian number of `offset_size`
-/// bytes, 4 or 8. A row is null where bit `validity_offset + i` of `validity` is 0. No row stops the others.
+/// Row i has the bytes from offset i up to offset i + 1. An offset is a signed little-endian number of `offset_size`
+/// bytes, 4 or 8. A row is null if bit `validity_offset + i` of `validity` is 0. No row stops the others.
 #[unsafe(no_mangle)]
 pub extern "C" fn wkb_raw_column_check(column: &Column<'_>, statuses: &mut [u8])
     ensures each { AreStatuses column.now (length statuses.old) statuses.new }

@@ -29,7 +29,7 @@ pub fn options_for(request: Request, srid: Option<u32>) -> WriteOptions
     }
 }
 
-/// Writes the encoding that is asked for of the geometry at the front of bytes in which the check found this, and
+/// Writes the encoding that is asked for of the geometry at the start of bytes in which the check found this, and
 /// reports its length. Without room nothing is written.
 pub fn write_requested(
     buf: &[u8],

@@ -1,4 +1,4 @@
-//! Where and why some bytes are refused.
+//! Where and why some bytes are rejected.
 
 ghost use Rattle.std.specs.Prelude.{◌≡◌, IfOk, IfErr, IfSome, None};
 ghost use Rattle.wkb_check.specs.Public.{DescribesFront};
@@ -17,7 +17,7 @@ use wkb_geom::{Cause, General};
 #[repr(C)]
 #[derive(Clone, Copy)]
 pub struct WkbFault {
-    /// How many parts come before the one that is refused.
+    /// How many parts come before the one that is rejected.
     pub part: u64,
     /// Where that part begins, counted from the front of the input.
     pub offset: u64,
@@ -102,7 +102,7 @@ pub fn report_refusal(refused: &Refused, fault: &mut WkbFault) -> u32
     fault.status
 }
 
-/// What is at the front of the bytes; or the status of the one refusal, and its numbers.
+/// What is at the start of the bytes; or the status of the one refusal, and its numbers.
 ///
 /// It isn't inlined, so that bytes that take the short way don't pay for its frame.
 #[inline(never)]
@@ -119,7 +119,7 @@ pub fn check_input(buf: &[u8], fault: &mut WkbFault) -> Result<Summary, u32>
     }
 }
 
-/// The status of the one refusal of some bytes, and its numbers; none where a geometry is at their front. The short way
+/// The status of the one refusal of some bytes, and its numbers; none where a geometry is at their start. The short way
 /// comes first, and it counts in registers.
 #[tactic(auto, using(crate::proofs::Telling::found_is_accepted))]
 #[inline(always)]

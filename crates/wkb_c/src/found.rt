@@ -1,11 +1,11 @@
-//! What `wkb_check` reports of the geometry at the front of some bytes.
+//! What `wkb_check` reports of the geometry at the start of some bytes.
 
 ghost use Rattle.wkb_check.specs.Public.{DescribesFront};
 ghost use Rattle.wkb_c.specs.Checks.{IsFound};
 
 use wkb_check::{Piece, Summary, width_number};
 
-/// The geometry at the front of some bytes.
+/// The geometry at the start of some bytes.
 #[repr(C)]
 #[derive(Clone, Copy)]
 pub struct Found {

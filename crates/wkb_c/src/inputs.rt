@@ -1,14 +1,14 @@
-//! Two inputs of one call: which of them is refused, and whether they have one value.
+//! Two inputs of one call: which of them is rejected, and whether they have one value.
 
 ghost use Rattle.wkb_rewrite.specs.Inputs.{IsAccepted};
 ghost use Rattle.wkb_c.specs.Statuses.{IsComparison};
 
 use wkb_rewrite::have_one_value;
 
-/// The first input is refused.
+/// The first input is rejected.
 pub const FIRST: u32 = 1;
 
-/// The second input is refused.
+/// The second input is rejected.
 pub const SECOND: u32 = 2;
 
 /// The values are different.

@@ -40,7 +40,7 @@ use parts::list_parts;
 use status::{NO_MEMORY, NO_ROOM, OK, UNKNOWN_OPTION};
 use wkb_check::{Bounds, Part, check_plain, put_bounds};
 
-/// Whether a geometry is at the front of the bytes.
+/// Whether a geometry is at the start of the bytes.
 ///
 /// Returns `OK` and what was found, or the status of the one refusal and its numbers.
 #[unsafe(no_mangle)]
@@ -60,7 +60,7 @@ pub extern "C" fn wkb_raw_check(buf: &[u8], found: &mut Found, fault: &mut WkbFa
     }
 }
 
-/// Checks any bytes by the long way, which collections and refused bytes need.
+/// Checks any bytes by the long way, which collections and rejected bytes need.
 ///
 /// It isn't inlined, so that other bytes don't pay for its frame.
 #[inline(never)]
@@ -76,7 +76,7 @@ fn check_any(buf: &[u8], found: &mut Found, fault: &mut WkbFault) -> u32
     }
 }
 
-/// The bounds of the geometry at the front of the bytes.
+/// The bounds of the geometry at the start of the bytes.
 ///
 /// Returns `OK` and the bounds, or what `wkb_raw_check` returns.
 #[unsafe(no_mangle)]
@@ -125,7 +125,7 @@ pub extern "C" fn wkb_raw_write(
     }
 }
 
-/// Writes by the long way, which collections and refused bytes need.
+/// Writes by the long way, which collections and rejected bytes need.
 ///
 /// It isn't inlined, so that other bytes don't pay for its frame.
 #[inline(never)]
@@ -149,7 +149,7 @@ fn write_any(
 
 /// Whether two inputs begin with geometries of one value, SRIDs and byte orders aside.
 ///
-/// Refused as the first is, or else as the second; `which` is the one that is refused.
+/// Rejected as the first is, or else as the second; `which` is the one that is rejected.
 #[unsafe(no_mangle)]
 pub extern "C" fn wkb_raw_same(
     a: &[u8],
@@ -177,7 +177,7 @@ pub extern "C" fn wkb_raw_same(
     OK
 }
 
-/// Lists the parts of the geometry at the front of the bytes in preorder, and writes their number.
+/// Lists the parts of the geometry at the start of the bytes in preorder, and writes their number.
 ///
 /// `NO_ROOM` writes their number too. A refusal leaves `parts` unchanged.
 #[unsafe(no_mangle)]

@@ -29,7 +29,7 @@ fn whole_part(found: &Found) -> Part
     }
 }
 
-/// Lists the parts of the geometry at the front of bytes in which the check found this, and reports how many there are.
+/// Lists the parts of the geometry at the start of bytes in which the check found this, and reports how many there are.
 /// Without room nothing is put. Most geometries of a column are their only part, which needs no walk.
 #[inline(always)]
 pub fn list_parts(buf: &[u8], found: &Summary, parts: &mut [Part], count: &mut u64) -> u32

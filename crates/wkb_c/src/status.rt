@@ -1,5 +1,5 @@
 //! What a call returns. The numbers have classes, with room in each for later versions: from 1 on what a call couldn't
-//! do, from 16 on what is wrong with a row, from 32 on why the input is refused, from 48 on that it ends too early.
+//! do, from 16 on what is wrong with a row, from 32 on why the input is rejected, from 48 on that it ends too early.
 
 /// The call did what it promises.
 pub const OK: u32 = 0;
