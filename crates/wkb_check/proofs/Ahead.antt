@@ -21,7 +21,7 @@ use Rattle.wkb_check.specs.declared.pieces.Piece.{Piece}
 use Rattle.wkb_check.proofs.Public.{geometry_opens}
 use Rattle.wkb_check.proofs.Bodies.{rest_smaller}
 
--- the count at the front of a body
+-- the count at the start of a body
 count_first : (order : Endianness) (n : ℕ) (x rest more : List ℕ) {front : List ℕ} → x ≡ front ++ rest
     → IsNumber order 4 n front → (4 ≤ length (x ++ more)) × (number order 4 (x ++ more) ≡ n)
 count_first order n x rest more {front} whole h =
@@ -45,7 +45,7 @@ pub type_dimension_is : (t : Value) → type_dimension (type_of (kind t) (dimens
 type_dimension_is (point d c) = refl
 type_dimension_is _ = refl
 
--- what is read of a geometry at the front of the bytes up to its rings or members
+-- what is read of a geometry at the start of the bytes up to its rings or members
 pub record Says (bytes : List ℕ) (s : Spelling) (t : Value) (h : Head) : Type 0 where
   pub long : body_start h.has_srid ≤ length bytes
   pub start_is : body_start h.has_srid ≡ 5 + srid_size (is_some (header s).srid)

@@ -1,4 +1,4 @@
--- What stands at the front of the bytes of a geometry, and behind its header.
+-- What stands at the start of the bytes of a geometry, and behind its header.
 use Rattle.std.proofs.Common.{◌≡◌, ℕ, ◌+◌, ◌≤◌, List, [], ◌∷◌, ◌++◌, length}
 use Rattle.std.proofs.Common.{Err, refl, sym, ap, ◌∙◌, arith, length-append}
 use Rattle.wkb_geom.specs.Reading.{cause_alone}
@@ -44,7 +44,7 @@ rest_smaller g =
 
 -- ---- rings
 
--- these rings are at the front
+-- these rings are at the start
 pub record RingsFirst (order : Endianness) (d : Dimension) (rings : List (List Coordinate)) (n : ℕ)
     (body : List ℕ) : Type 0 where
   pub whole : AreWhole order d n body

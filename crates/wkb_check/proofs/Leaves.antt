@@ -51,7 +51,7 @@ line_string_tells l bytes =
     cond_image told (nat_lt (length bytes) (body_start l.has_srid + 4)) _ _ _ _ refl
     (ap at_no_cost (cond_image (tells bytes) (nat_lt (length bytes) end) _ _ _ _ refl refl))
 
--- what is refused itself
+-- what is rejected itself
 pub refused_walked : {A : Type 0} (many : A → ℕ) (e : Cause × ℕ) (t : Tally)
     → walked many (refused e) t ≡ Err (t.0, e)
 refused_walked many e t = simp add-zero

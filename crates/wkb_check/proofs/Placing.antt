@@ -218,7 +218,7 @@ pub first_one : (n m : ℕ) (bytes more : List ℕ) (all : HasGeometries n bytes
     → First n bytes more all m
 first_one n m bytes more all e = first_by n m bytes more all.spelled all.values all.begins all.counted e
 
--- geometries at the front of some bytes are at the front of equal ones
+-- geometries at the start of some bytes are at the start of equal ones
 abbrev pub begun_at : {n : ℕ} {start bytes more : List ℕ} → start ≡ bytes → HasGeometries n bytes more
     → HasGeometries n start more
 begun_at e all = record {
@@ -252,7 +252,7 @@ pub none_of : (ts : Values) → 0 ≡ count ts → ts ≡ no_members
 none_of no_members e = refl
 none_of (member t ts) e = absurd (omega (arith, e))
 
--- no geometries are at the front of any bytes
+-- no geometries are at the start of any bytes
 abbrev pub none_at : {start bytes : List ℕ} → start ≡ bytes → HasGeometries 0 start bytes
 none_at e = record {
   spelled = no_spellings;

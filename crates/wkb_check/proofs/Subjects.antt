@@ -146,7 +146,7 @@ abbrev pub count_in : Subject → ℕ
 count_in (whole s t) = count_of t
 count_in (ring order d cs) = length cs
 
--- of a point: whether its words are all not-a-numbers
+-- of a point: whether its words are all NaNs
 abbrev pub PointIs : Subject → Type 0
 PointIs (whole (node h words ss) (point d None)) = all_nan words ≡ true
 PointIs (whole (node h words ss) (point d (Some c))) = all_nan c ≡ false

@@ -117,7 +117,7 @@ abbrev mutual
   pieces_of_each at no_spellings (member t ts) = []
   pieces_of_each at (spelling s ss) (member t ts) = pieces_of at s t ++ pieces_of_each (at + size s t) ss ts
 
--- all pieces of a geometry at the front of some bytes
+-- all pieces of a geometry at the start of some bytes
 abbrev pub all_pieces : {bytes : List ℕ} → HasGeometry bytes → List Piece
 all_pieces g = pieces_of 0 g.spelled g.value
 
@@ -160,7 +160,7 @@ pub record Takes (w now : Pieces) (p : Piece) : Type 0 where
   pub inside : IsInside w.bytes.now w.at now.at p
   pub same : now.bytes.now ≡ w.bytes.now
 
--- all pieces of a geometry at the front of these bytes are to come
+-- all pieces of a geometry at the start of these bytes are to come
 pub record HasAll (bytes : List ℕ) (w : Pieces) : Type 0 where
   pub ahead : (g : HasGeometry bytes) → IsAhead w (all_pieces g)
   pub begins : w.at ≡ 0

@@ -21,7 +21,7 @@ abbrev pub dimension_in : Subject → Dimension
 dimension_in (whole s t) = dimension t
 dimension_in (ring order d cs) = d
 
--- the coordinates of a point or a line string; the words of an empty point are not-a-numbers
+-- the coordinates of a point or a line string; the words of an empty point are NaNs
 abbrev pub coordinates_of : List ℕ → Value → List Coordinate
 coordinates_of words (point d None) = words ∷ []
 coordinates_of words (point d (Some c)) = c ∷ []

@@ -21,7 +21,7 @@ abbrev pub Tally : Type 0
 Tally = ℕ × ℕ
 
 -- what was counted, and the bytes that are left; or how many parts are begun, the fault, and how many bytes are left
--- where the refused part begins
+-- where the rejected part begins
 abbrev pub Walked : Type 0
 Walked = Result (Tally × List ℕ) (ℕ × (Cause × ℕ))
 

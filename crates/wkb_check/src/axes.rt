@@ -179,7 +179,7 @@ impl AxisRanks {
         }
     }
 
-    /// Widens the ranges by the `count` coordinates at the front of the bytes.
+    /// Widens the ranges by the `count` coordinates at the start of the bytes.
     #[inline(always)]
     pub(crate) fn widen(
         &mut self,

@@ -30,7 +30,7 @@ impl Range {
         }
     }
 
-    /// The range of the word at this place of the coordinate at the front of the bytes, if it has one there.
+    /// The range of the word at this place of the coordinate at the start of the bytes, if it has one there.
     #[inline(always)]
     fn of_ordinate(
         place: Option<usize>,
@@ -50,7 +50,7 @@ impl Range {
 }
 
 impl Bounds {
-    /// The bounds of the coordinate at the front of the bytes.
+    /// The bounds of the coordinate at the start of the bytes.
     #[inline(always)]
     pub(crate) fn of_coordinate(order: Endianness, dimension: Dimension, bytes: &[u8]) -> Bounds
         requires { 8 * width dimension ≤ length bytes.now }

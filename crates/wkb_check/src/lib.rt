@@ -1,5 +1,5 @@
 //! A check of Well-Known Binary that allocates nothing. It accepts what the reader accepts, and reports why and where
-//! the reader refuses, by one walk over the bytes with a fixed stack of counts. Bounds are found without allocation,
+//! the reader rejects, by one walk over the bytes with a fixed stack of counts. Bounds are found without allocation,
 //! too.
 #![tactic(auto)]
 

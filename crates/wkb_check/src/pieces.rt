@@ -106,7 +106,7 @@ impl Piece {
         Piece::of_header(bytes, begin, kind, layout.dimension, layout.order, srid)
     }
 
-    /// The geometry at the front of the bytes in which the check found this, up to its rings or members.
+    /// The geometry at the start of the bytes in which the check found this, up to its rings or members.
     #[inline(always)]
     pub fn outermost(bytes: &[u8], found: &Summary) -> Piece
         requires { DescribesFront bytes.now found.now }
@@ -151,7 +151,7 @@ pub struct Pieces<'a> {
 }
 
 impl<'a> Pieces<'a> {
-    /// All pieces of the geometry at the front of the bytes.
+    /// All pieces of the geometry at the start of the bytes.
     #[inline(always)]
     pub fn of(bytes: &'a [u8]) -> Pieces<'a>
         requires here { HasGeometry bytes.now }
@@ -167,7 +167,7 @@ impl<'a> Pieces<'a> {
         }
     }
 
-    /// All pieces but the first one of the geometry at the front of the bytes.
+    /// All pieces but the first one of the geometry at the start of the bytes.
     #[inline(always)]
     pub fn behind(bytes: &'a [u8], first: &Piece) -> Pieces<'a>
         requires here { HasGeometry bytes.now }

@@ -49,7 +49,7 @@ fn only_piece(buf: &[u8], found: &Summary) -> Option<Piece>
     }
 }
 
-/// Puts the bounds of the geometry at the front of bytes in which the check found this.
+/// Puts the bounds of the geometry at the start of bytes in which the check found this.
 #[inline(always)]
 fn put_bounds_found(buf: &[u8], found: &Summary, bounds: &mut Bounds)
     requires { DescribesFront buf.now found.now }
@@ -61,7 +61,7 @@ fn put_bounds_found(buf: &[u8], found: &Summary, bounds: &mut Bounds)
     }
 }
 
-/// Puts the bounds of the geometry at the front of the bytes, which is known to be there.
+/// Puts the bounds of the geometry at the start of the bytes, which is known to be there.
 fn put_bounds_of_front(buf: &[u8], bounds: &mut Bounds)
     requires here { HasGeometry buf.now }
     ensures { (g : HasGeometry buf.now) → AreBounds bounds.new g.value }
@@ -93,8 +93,8 @@ pub fn put_bounds(buf: &[u8], bounds: &mut Bounds) -> Result<(), Refused>
     Ok(())
 }
 
-/// The bounds of the geometry at the front of the bytes, over its coordinates at every level. What follows it is not
-/// looked at. It accepts and refuses what `check` does, and allocates nothing.
+/// The bounds of the geometry at the start of the bytes, over its coordinates at every level. What follows it is not
+/// looked at. It accepts and rejects what `check` does, and allocates nothing.
 ///
 /// Each word that is a number counts, whatever the other words of its coordinate are. The order is that of numbers,
 /// with minus zero below zero.
