@@ -9,7 +9,7 @@ use Rattle.wkb_clients.specs.declared.collections.WordPath.{WordPath}
 abbrev pub HasNoWordOn : List ℕ → ℕ → WordPath → Type 0
 HasNoWordOn blob offset at = HasNoRingWordAt blob offset at.member at.ring at.coordinate at.word
 
--- what is found is the word, or nothing where there is none; and an error is an allocation failure, or there is none
+-- what is found is the word, or nothing if there is none; and an error is an allocation failure, or there is none
 abbrev pub FindsRingWord : List ℕ → ℕ → WordPath → Result (Option ℕ) WkbError → Type 0
 FindsRingWord blob offset at result =
     MatchResult result

@@ -19,6 +19,6 @@ pub record IsRingOf (whole : Item) (k j : ℕ) (ring : List Coordinate) : Type 0
 abbrev pub HasNoRing : Item → ℕ → ℕ → Type 0
 HasNoRing whole k j = (ring : List Coordinate) → IsRingOf whole k j ring → ⊥
 
--- what is found is such a ring, or nothing where there is none
+-- what is found is such a ring, or nothing if there is none
 abbrev pub FindsRing : Item → ℕ → ℕ → Option LinearRing → Type 0
 FindsRing whole k j found = MatchOption found (HasNoRing whole k j) (λ r. IsRingOf whole k j (ring_seen r))

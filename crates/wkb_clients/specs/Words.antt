@@ -21,7 +21,7 @@ pub record IsWordAt (blob : List ℕ) (offset i n w : ℕ) : Type 0 where
 abbrev pub HasNoWordAt : List ℕ → ℕ → ℕ → ℕ → Type 0
 HasNoWordAt blob offset i n = (w : ℕ) → IsWordAt blob offset i n w → ⊥
 
--- what is found is such a word, or nothing where there is none; and an error is an allocation failure, or there is none
+-- what is found is such a word, or nothing if there is none; and an error is an allocation failure, or there is none
 abbrev pub FindsWord : List ℕ → ℕ → ℕ → ℕ → Result (Option ℕ) WkbError → Type 0
 FindsWord blob offset i n result =
     MatchResult result (λ found. MatchOption found (HasNoWordAt blob offset i n) (λ w. IsWordAt blob offset i n w))

@@ -26,7 +26,7 @@ pub struct WordPath {
 
 /// The bytes of a member of the collection that the input begins with: a slice of the input, at the member's place.
 ///
-/// None where another geometry is there, or the collection has no such member.
+/// None if another geometry is there, or the collection has no such member.
 pub fn member_bytes<'a>(alloc: Global, input: &'a [u8], index: usize) -> WkbResult<Option<&'a [u8]>>
     ensures { IfOk result (λ found. IfSome found (λ bytes. IsMemberOf input.now index bytes.now)) }
 {
@@ -50,7 +50,7 @@ pub fn member_bytes<'a>(alloc: Global, input: &'a [u8], index: usize) -> WkbResu
 
 /// A ring of the polygon that is a member of this collection, the exterior first.
 ///
-/// None where this is no collection, the member no polygon, or one of the indices too large.
+/// None if this is no collection, the member no polygon, or one of the indices too large.
 pub fn ring_of_member<'a>(geometry: &Wkb<'a>, member: usize, ring: usize) -> Option<LinearRing<'a>>
     ensures { FindsRing geometry.now member ring result }
 {
@@ -72,7 +72,7 @@ pub fn ring_of_member<'a>(geometry: &Wkb<'a>, member: usize, ring: usize) -> Opt
 
 /// The word on this path in the collection at the offset in the blob.
 ///
-/// None where another geometry is there, or the collection has no such word. Refused as `read_wkb` refuses the bytes
+/// None if another geometry is there, or the collection has no such word. Rejected as `read_wkb` rejects the bytes
 /// from the offset on.
 pub fn ring_word(alloc: Global, blob: &[u8], offset: usize, at: WordPath) -> WkbResult<Option<u64>>
     ensures { FindsRingWord blob.now offset at result }

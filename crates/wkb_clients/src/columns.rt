@@ -12,7 +12,7 @@ use wkb::geom::Dimensions;
 use wkb::geom::levels::{Kind, Levels, Place, Row};
 use wkb::writer::{WriteOptions, to_vec};
 
-/// The encoding of row i of a column of polygons. None where the row's levels fall, pass the next level's end, begin
+/// The encoding of row i of a column of polygons. None if the row's levels fall, pass the next level's end, begin
 /// before an earlier row's end, or hold no single polygon.
 ///
 /// Rows are asked for in turn, from `Place::front` on.

@@ -12,7 +12,7 @@ use wkb::writer::{VecSink, WriteOptions, to_vec, write_geometry};
 
 /// The encoding of a geometry and a byte after it, which are read as the geometry's value and that byte.
 ///
-/// Refused as `to_vec` refuses the geometry, or `Memory`.
+/// Rejected as `to_vec` rejects the geometry, or `Memory`.
 pub fn marked<G: GeometryTrait>(
     alloc: Global,
     geom: &G,

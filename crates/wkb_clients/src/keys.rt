@@ -16,10 +16,10 @@ use wkb::laws::{
 };
 use wkb::writer::{Form, WriteOptions};
 
-/// The key of the geometry at the front of the bytes: equal values have equal keys, whatever their byte orders, codes
+/// The key of the geometry at the start of the bytes: equal values have equal keys, whatever their byte orders, codes
 /// and SRIDs.
 ///
-/// Refused as `read_wkb` refuses the bytes.
+/// Rejected as `read_wkb` rejects the bytes.
 pub fn key(alloc: Global, bytes: &[u8]) -> WkbResult<Vec<u8>>
     ensures ok { IfOk result (λ key. IsKey bytes.now key.items) }
     ensures err { IfErr result (λ e. IsMemory e ⊎ IsRefusal bytes.now e) }
@@ -38,9 +38,9 @@ pub fn one_key()
     equal_encodings();
 }
 
-/// The key of the geometry at the front of the bytes with its SRID.
+/// The key of the geometry at the start of the bytes with its SRID.
 ///
-/// Refused as `read_wkb` refuses the bytes.
+/// Rejected as `read_wkb` rejects the bytes.
 pub fn ewkb_key(alloc: Global, bytes: &[u8], order: Endianness) -> WkbResult<Vec<u8>>
     ensures ok { IfOk result (λ key. IsRewritingWithSrid order bytes.now key.items) }
     ensures err { IfErr result (λ e. IsMemory e ⊎ IsRefusal bytes.now e) }
@@ -89,9 +89,9 @@ impl Store {
         }
     }
 
-    /// Stores the value of the geometry at the front of the bytes, and returns whether it was there before.
+    /// Stores the value of the geometry at the start of the bytes, and returns whether it was there before.
     ///
-    /// Refused as `read_wkb` refuses the bytes; then nothing changes.
+    /// Rejected as `read_wkb` rejects the bytes; then nothing changes.
     pub fn insert(&mut self, bytes: &[u8]) -> WkbResult<bool>
         ensures ok { IfOk result (λ was. Inserts self.old self.new bytes.now was) }
         ensures err { IfErr result (λ e. IsMemory e ⊎ IsRefusal bytes.now e) }

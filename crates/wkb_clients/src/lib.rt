@@ -1,4 +1,4 @@
-//! Clients: what a user of the library proves of their own code, from its public clauses and laws only.
+//! Clients: what a user of the library proves of their own code, from its public clauses and lemmas only.
 #![tactic(auto)]
 
 pub mod boxes;

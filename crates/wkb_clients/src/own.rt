@@ -16,7 +16,7 @@ use wkb::geom::{GeometryTrait, GeometryType};
 use wkb::laws::{are_bytes, one_front, read_or_refused, spelled_in_full};
 use wkb::reader::{Polygon, Wkb, read_wkb};
 
-/// The check never refuses the bytes of a geometry.
+/// The check never rejects the bytes of a geometry.
 pub fn check_again(w: &Wkb<'_>) -> Result<Summary, Refused>
     ensures { IfErr result (λ _. ⊥) }
 {
@@ -33,7 +33,7 @@ pub fn bounds_of(w: &Wkb<'_>) -> Bounds
     }
 }
 
-/// The check of a member of a collection, if there is one of this index, which never refuses it.
+/// The check of a member of a collection, if there is one of this index, which never rejects it.
 pub fn check_member_again(w: &Wkb<'_>, i: usize) -> Option<Result<Summary, Refused>>
     ensures { IfSome result (λ found. IfErr found (λ _. ⊥)) }
 {
@@ -54,7 +54,7 @@ pub fn read_anew<'a>(alloc: Global, w: &Wkb<'a>) -> WkbResult<Wkb<'a>>
     read_wkb(alloc, w.buf())
 }
 
-/// The check never refuses the bytes of a polygon's view, which holds no collection.
+/// The check never rejects the bytes of a polygon's view, which holds no collection.
 pub fn check_polygon_again(p: &Polygon<'_>) -> Result<Summary, Refused>
     ensures { IfErr result (λ _. ⊥) }
 {
@@ -64,7 +64,7 @@ pub fn check_polygon_again(p: &Polygon<'_>) -> Result<Summary, Refused>
     check(bytes)
 }
 
-/// The encoding of a geometry with its own SRID, which nothing but an allocation failure can refuse.
+/// The encoding of a geometry with its own SRID, which nothing but an allocation failure can reject.
 pub fn key_anew(alloc: Global, w: &Wkb<'_>, order: Endianness) -> WkbResult<Vec<u8>>
     ensures ok { IsEncodingOf (own_options order w.now) (geometry_of w.now.value) result }
     ensures err { IfErr result IsMemory }

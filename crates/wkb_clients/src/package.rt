@@ -18,8 +18,8 @@ pub(crate) fn from_offset(blob: &[u8], offset: usize) -> &[u8]
 
 /// Word `n` of coordinate `i` of the line string at the offset in the blob: 0 is x, 1 is y.
 ///
-/// None where another geometry is there, or the line string has no such coordinate or word. Refused as `read_wkb`
-/// refuses the bytes from the offset on.
+/// None if another geometry is there, or the line string has no such coordinate or word. Rejected as `read_wkb`
+/// rejects the bytes from the offset on.
 pub fn word(alloc: Global, blob: &[u8], offset: usize, i: usize, n: usize) -> WkbResult<Option<u64>>
     ensures { FindsWord blob.now offset i n result }
 {

@@ -12,7 +12,7 @@ use wkb_cases::places::Place;
 
 /// The words that are read again after the place is written: its own.
 ///
-/// `None` if both are not-a-numbers, since an empty point is written so.
+/// `None` if both are NaNs, since an empty point is written so.
 pub fn round_trip(
     alloc: Global,
     place: &Place,

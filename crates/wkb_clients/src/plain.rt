@@ -26,7 +26,7 @@ pub fn has_no_coord(point: &Point) -> bool
     }
 }
 
-/// The line string of these pairs of words. None where the last has no pair.
+/// The line string of these pairs of words. None if the last has no pair.
 pub fn line_of_pairs<'w>(words: &'w [u64]) -> Option<LineString<'w>>
     ensures some { IsSome result ↔ (length words.now % 2 ≡ 0) }
     ensures dimensions { HasDimensions line_string_dimensions result Xy }
