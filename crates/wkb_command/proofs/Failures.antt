@@ -37,7 +37,7 @@ call_failure texts IsRefused (errors.Memory x) failure h is = rw is tt
 call_failure texts IsRefused e failure (inl memory) is = absurd memory
 call_failure texts IsRefused e failure (inr refused) is = rw is refused
 
--- the only input is refused, and the error tells why
+-- the only input is rejected, and the error tells why
 pub refused_alone : (input : List ℕ) (e : WkbError) (cause : Cause) (turns slots : ℕ)
     → Refuses max_nesting any input cause turns slots → Tells e cause → RefusedFirst (input ∷ []) e
 refused_alone input e cause turns slots refuses told =
@@ -51,13 +51,13 @@ first_of : (input : List ℕ) (others : List (List ℕ)) (cause : Cause) → Fir
 first_of input others cause (this_one refused) = this_one refused
 first_of input others cause (later_one accepted never) = absurd (never_refused cause never)
 
--- of two inputs the first one is refused
+-- of two inputs the first one is rejected
 refused_before : (input other : List ℕ) (e : WkbError) → RefusedFirst (input ∷ []) e
     → RefusedFirst (input ∷ other ∷ []) e
 refused_before input other e h =
     record { cause = h.cause; refusal = first_of input (other ∷ []) h.cause h.refusal; told = h.told }
 
--- of two inputs the second one is refused
+-- of two inputs the second one is rejected
 refused_behind : (input other : List ℕ) (e : WkbError) → IsAccepted input → RefusedFirst (other ∷ []) e
     → RefusedFirst (input ∷ other ∷ []) e
 refused_behind input other e accepted h =
@@ -78,7 +78,7 @@ refused_pair first second a b read other e hex hex' is is' (inl h) =
 refused_pair first second a b read other e hex hex' is is' (inr (accepted, h)) =
     (read ∷ other ∷ [], ((rw is hex), ((rw is' hex'), tt)), refused_behind read other e accepted h)
 
--- a failed allocation, or what a call on the only input's bytes refuses
+-- a failed allocation, or what a call on the only input's bytes rejects
 pub refused_or_long : (text bytes read : List ℕ) (e : WkbError) (IsLong : List ℕ → Type 0) → IsHexOf text bytes
     → read ≡ bytes
     → IsMemory e ⊎ (RefusedFirst (read ∷ []) e ⊎ (IsLong read × IsSize e))

@@ -53,7 +53,7 @@ AreHexOf [] [] = Unit {0}
 AreHexOf (text ∷ others) (bytes ∷ more) = IsHexOf text bytes × AreHexOf others more
 AreHexOf _ _ = ⊥
 
--- the first of these inputs that is refused has this cause
+-- the first of these inputs that is rejected has this cause
 pub data FirstRefusal : List (List ℕ) → Cause → Type 0 where
   this_one : {bytes : List ℕ} {others : List (List ℕ)} {cause : Cause} {turns slots : ℕ}
       → IsRefused bytes cause turns slots → FirstRefusal (bytes ∷ others) cause
@@ -83,7 +83,7 @@ abbrev pub IsDecodingFailure : List ℕ → HexFault → Type 0
 IsDecodingFailure text failure = (failure ≡ Memory) ⊎ ((failure ≡ NotHex) × ¬ IsHex text)
 
 -- A failure of a call on these texts, other than a failed allocation: one of them isn't hex, or all of them are and
--- what they spell is refused.
+-- what they spell is rejected.
 abbrev pub IsFailureOf : List (List ℕ) → (List (List ℕ) → WkbError → Type 0) → HexFault → Type 0
 IsFailureOf texts IsRefused NotHex = ¬ AreHex texts
 IsFailureOf texts IsRefused (Wkb e) = (inputs : List (List ℕ)) × AreHexOf texts inputs × IsRefused inputs e

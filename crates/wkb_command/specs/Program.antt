@@ -84,11 +84,11 @@ IsNotSingle lines = (line : List ℕ) → lines ≢ line ∷ []
 abbrev pub IsNotPair : List (List ℕ) → Type 0
 IsNotPair lines = (first second : List ℕ) → lines ≢ first ∷ second ∷ []
 
--- the only line, or None where there is another number of them
+-- the only line, or None if there is another number of them
 abbrev pub IsOnlyLine : List (List ℕ) → Option (Bor (List ℕ)) → Type 0
 IsOnlyLine lines result = MatchOption result (IsNotSingle lines) (λ line. lines ≡ line.now ∷ [])
 
--- the two lines, or None where there is another number of them
+-- the two lines, or None if there is another number of them
 abbrev pub AreTwoLines : List (List ℕ) → Option (Bor (List ℕ) × Bor (List ℕ)) → Type 0
 AreTwoLines lines result = MatchOption result (IsNotPair lines) (λ pair. lines ≡ pair.0.now ∷ pair.1.now ∷ [])
 
@@ -108,7 +108,7 @@ pub record Gives (command : Command) (lines : List (List ℕ)) (inputs : List (L
 abbrev pub status_answered : ℕ
 status_answered = 0
 
--- of an input that is refused
+-- of an input that is rejected
 abbrev pub status_refused : ℕ
 status_refused = 1
 

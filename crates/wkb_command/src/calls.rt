@@ -24,7 +24,7 @@ use wkb::writer::WriteOptions;
 pub enum HexFault {
     /// A character is no hex digit, or the digits are odd in number.
     NotHex,
-    /// The bytes that the text spells are refused.
+    /// The bytes that the text spells are rejected.
     Wkb(WkbError),
     /// An allocation failed.
     Memory,

@@ -21,7 +21,7 @@ use wkb::writer::{Form, WriteOptions};
 
 /// The status of a run whose input was accepted.
 const ANSWERED: u8 = 0;
-/// The status of a run whose input was refused.
+/// The status of a run whose input was rejected.
 const REFUSED: u8 = 1;
 /// The status of a run with other arguments, or an input that isn't hex.
 const MISUSED: u8 = 2;
@@ -326,7 +326,7 @@ fn tell<W: Write>(report: Result<Report, AllocError>, out: &mut W) -> u8
 
 /// Runs the program: writes the line for the arguments and the input, and returns the status.
 ///
-/// The status is 0 for an accepted input, 1 for a refused one, 2 for an input that isn't hex and for
+/// The status is 0 for an accepted input, 1 for a rejected one, 2 for an input that isn't hex and for
 /// other arguments, and 3 where an allocation, a read or a write failed. The arguments are looked at
 /// before the input is read. At most 16777216 reads are made, and no read or write is tried again.
 pub fn run<R: Read, W: Write>(alloc: Global, arguments: &[String], input: &mut R, out: &mut W) -> u8
