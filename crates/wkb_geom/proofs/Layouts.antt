@@ -1,4 +1,4 @@
--- The layout of a member that is known to stand at the front of the bytes, by its first byte and the flag of its code.
+-- The layout of a member that is known to stand at the start of the bytes, by its first byte and the flag of its code.
 use Rattle.std.proofs.Common.{◌≡◌, ℕ, ◌≤◌, List, [], ◌∷◌, length, drop, Option, Some, None, Bool, true, false, refl}
 use Rattle.std.proofs.Common.{sym, ap, ◌∙◌, arith, length-drop, Result, Ok, Err}
 use Rattle.std.specs.Prelude.{IsOk, nat_lt, ◌==◌, ◌&&◌, if◌then◌else◌, slice_index_or, not}

@@ -3,7 +3,7 @@ use Rattle.std.specs.Prelude.{ℕ, ◌+◌, length, sum_by}
 use Rattle.wkb_geom.specs.Values.{Value, Values, point, line_string, polygon, multi_point, multi_line_string}
 use Rattle.wkb_geom.specs.Values.{multi_polygon, collection, no_members, member}
 
--- How many coordinates a value has at every level. A point has one: those of an empty point are all not-a-numbers.
+-- How many coordinates a value has at every level. A point has one: those of an empty point are all NaNs.
 abbrev mutual
   pub coordinate_count : Value → ℕ
   coordinate_count (point d c) = 1

@@ -38,7 +38,7 @@ pub enum General {
     ShortMultiPoint { end: u64, len: usize },
 }
 
-/// Why bytes are refused: the first fault from left to right.
+/// Why bytes are rejected: the first fault from left to right.
 #[derive(Clone, Copy)]
 pub enum Cause {
     /// The input ends inside a header or before a count.
@@ -51,7 +51,7 @@ pub enum Cause {
     NestingDepthExceeded(usize),
 }
 
-/// Why a reader stops: the bytes are refused, or an allocation failed.
+/// Why a reader stops: the bytes are rejected, or an allocation failed.
 #[derive(Clone, Copy)]
 pub enum Refusal {
     Cause(Cause),
@@ -135,7 +135,7 @@ impl<T: Drop> From<AllocFailed<T>> for WkbError {
     }
 }
 
-/// Bytes that are refused stop the reader.
+/// Bytes that are rejected stop the reader.
 impl From<Cause> for Refusal {
     ghost from_gives = { λ cause refusal. refusal ≡ refusals.Cause cause };
 
@@ -153,7 +153,7 @@ impl From<AllocError> for Refusal {
     }
 }
 
-/// The error that reports why bytes are refused.
+/// The error that reports why bytes are rejected.
 impl From<Cause> for WkbError {
     ghost from_gives = { λ cause e. Tells e cause };
 

@@ -69,7 +69,7 @@ impl Head {
     ghost use Rattle.std.specs.Prelude.{◌≡◌, IfSome, Ok};
     ghost use Rattle.wkb_geom.specs.Reading.{head_at, layout_of};
 
-    /// The header at the front of the bytes, or why there is none. Its geometry may follow.
+    /// The header at the start of the bytes, or why there is none. Its geometry may follow.
     #[inline(always)]
     pub fn read(bytes: &[u8]) -> Result<Head, Cause>
         ensures { head_at bytes.now ≡ result }
@@ -127,7 +127,7 @@ impl Head {
         }
     }
 
-    /// The header at the front of the bytes, if it has the code that ISO writes of this type.
+    /// The header at the start of the bytes, if it has the code that ISO writes of this type.
     #[inline]
     fn read_iso(wanted: WkbType, bytes: &[u8]) -> Option<Head>
         ensures head { IfSome result (λ header. head_at bytes.now ≡ Ok header) }
@@ -168,7 +168,7 @@ impl Layout {
     ghost use Rattle.wkb_geom.specs.Reading.{count_in, HasNoCount};
     ghost use Rattle.wkb_geom.specs.Encodings.{type_code, form_with_flags};
 
-    /// The layout of the member of this type at the front of the bytes, whose order and flag are its own.
+    /// The layout of the member of this type at the start of the bytes, whose order and flag are its own.
     ///
     /// A member that is a point has no SRID. `IncorrectType` if another is there.
     #[inline]
@@ -309,7 +309,7 @@ impl Layout {
     ghost use Rattle.wkb_geom.specs.Reading.{line_string_item, ring_part, count_in, multi_point_at, refused};
     ghost use Rattle.wkb_geom.specs.Reading.{points_counted, HoldPoints};
 
-    /// Where the point at the front of the bytes ends.
+    /// Where the point at the start of the bytes ends.
     #[tactic(auto, unfolding(crate::specs::Reading::point_told))]
     #[inline(always)]
     pub fn end_of_point(self, bytes: &[u8]) -> Result<usize, Cause>
@@ -327,7 +327,7 @@ impl Layout {
         Ok(end)
     }
 
-    /// How many coordinates the line string at the front of the bytes has, and where it ends.
+    /// How many coordinates the line string at the start of the bytes has, and where it ends.
     #[tactic(auto, unfolding(crate::specs::Reading::line_string_told))]
     #[inline(always)]
     pub fn end_of_line_string(self, bytes: &[u8]) -> Result<(u32, usize), Cause>
@@ -348,7 +348,7 @@ impl Layout {
         Ok((count, end as usize))
     }
 
-    /// How many coordinates the ring at the front of the bytes has, and where it ends. It is in a polygon of this
+    /// How many coordinates the ring at the start of the bytes has, and where it ends. It is in a polygon of this
     /// layout.
     #[tactic(auto, unfolding(crate::specs::Reading::ring_told))]
     #[inline(always)]
@@ -372,7 +372,7 @@ impl Layout {
         Ok((count, end as usize))
     }
 
-    /// How many points the multi point at the front of the bytes has, if the bytes are as many as these take. The
+    /// How many points the multi point at the start of the bytes has, if the bytes are as many as these take. The
     /// points aren't looked at.
     #[tactic(auto, unfolding(crate::specs::Reading::multi_point_told))]
     #[inline(always)]
