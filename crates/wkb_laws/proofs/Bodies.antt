@@ -46,7 +46,7 @@ coordinates_are order d c h =
       second = rw (take_all (8 * width d * n) (drop 4 c) (omega arith)) at (each n (drop 4 c) (omega arith));
     }
 
--- where an encoding is at the front of the input, and another one after it, both are
+-- where an encoding is at the start of the input, and another one after it, both are
 begins_then : {P Q : List ℕ → Type 0} {input rest after : List ℕ} → Begins P input rest → Begins Q rest after
     → Begins (Then P Q) input after
 begins_then a b = record {
@@ -55,7 +55,7 @@ begins_then a b = record {
   first = joined a.front b.front a.first b.first;
 }
 
--- n rings at the front of the input, or the refusal of one
+-- n rings at the start of the input, or the refusal of one
 module _ (order : Endianness) (d : Dimension) where
   rings_has : (n : ℕ) (input : List ℕ)
       → ((rings : List (List Coordinate)) × (rest : List ℕ) × (length rings ≡ n)
@@ -194,7 +194,7 @@ pub refused_each : {room : ℕ} {w : Wanted} {n m : ℕ} {input : List ℕ} {cau
 refused_each {room} {w} {input = input} {cause = cause} e f g r =
     subst (λ T. T) (λ i. RefusesEach room w (e i) input cause (f i) (g i)) r
 
--- these members at the front of the input
+-- these members at the start of the input
 record MembersAre (room : ℕ) (w : Wanted) (n : ℕ) (input : List ℕ) (ts : Values) : Type 0 where
   pub spellings : Spellings
   pub rest : List ℕ
@@ -293,7 +293,7 @@ parts_made k d f g one (spelling s ss) (member t ts) x h Q q =
     (g t ∷ others.0, others.1)
 parts_made k d f g one _ _ x h Q q = absurd h
 
--- a geometry with members, where its opening, its count and these stand at the front of the input
+-- a geometry with members, where its opening, its count and these stand at the start of the input
 module _ (room : ℕ) (w : Wanted) (input : List ℕ) where
   list_is : (t : Value) (order : Endianness) (srid : Bool) → 3 < kind t
       → Opened input (kind t) (laid order (dimension t) srid) → IsAllowed room w (kind t) (dimension t) srid
@@ -317,7 +317,7 @@ module _ (room : ℕ) (w : Wanted) (input : List ℕ) where
       )
 
   module _ (l : Layout) where
-    -- the points of a multi point are all there, or it is refused
+    -- the points of a multi point are all there, or it is rejected
     points_fit : (k : ℕ)
         → OpensCounted room w input l.order k l.dimension l.has_srid (count_in l input) (parts_start l.has_srid input)
         → ((k ≡ 4 → multi_point_end l.dimension l.has_srid (count_in l input) ≤ length input) → HasPart room w input)

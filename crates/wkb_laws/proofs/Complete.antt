@@ -87,7 +87,7 @@ head_cut zero rest h short = rw (lt-ltb _ _ short)
 head_cut (suc zero) rest h short = rw (lt-ltb _ _ short)
 head_cut (suc (suc n)) rest h short = absurd (omega arith)
 
--- Readers, by what they tell of a fault and of the bytes from the refused part on.
+-- Readers, by what they tell of a fault and of the bytes from the rejected part on.
 module _ {F : Type 0} (told : List ℕ → Cause → F) where
   -- the reader of a part, where this number of collections more may be opened
   abbrev pub reader : ℕ → Wanted → List ℕ → ReadingOf F Item
@@ -206,7 +206,7 @@ module _ {F : Type 0} (told : List ℕ → Cause → F) where
   list_counted room (suc (suc (suc (suc (suc (suc (suc zero))))))) l input n low high long = refl
   list_counted room _ l input n low high long = grind arith
 
-  -- ---- words, coordinates and rings, as they are read at the front of the bytes
+  -- ---- words, coordinates and rings, as they are read at the start of the bytes
 
   pub record RingRead (order : Endianness) (d : Dimension) (cs : List Coordinate) (x y : List ℕ) : Type 0 where
     pub many : number order 4 (x ++ y) ≡ length cs
@@ -221,7 +221,7 @@ module _ {F : Type 0} (told : List ℕ → Cause → F) where
       (λ c x y is. (coordinate_length order d c x is, coordinate_read order d c x y is)) cs h.rest y h.second in
       record { many = rw (shape, many); is = rw (shape, many, drop_front 4 h.front _ h.first.len, read) }
 
-  -- a ring at the front is read as its encoding
+  -- a ring at the start is read as its encoding
   ring_found : (order : Endianness) (d : Dimension) (ring : List Coordinate) (x rest : List ℕ)
       → SpellsCoordinates order d ring x
       → ring_told told order d (x ++ rest) ≡ Ok (x, rest)
@@ -412,7 +412,7 @@ module _ {F : Type 0} (told : List ℕ → Cause → F) where
 
   module _ (room : ℕ) (w : Wanted) (good : IsWanted w) (h : Header) (own : List ℕ) (ss : Spellings) (x rest : List ℕ)
       (d : Dimension) where
-    -- a point, by its words and whether all of them are not-a-numbers
+    -- a point, by its words and whether all of them are NaNs
     point_by : (c : Option Coordinate) (a : Spells (node h own ss) (point d c) x) (words : List ℕ) (all : Bool)
         → SpellsCoordinate h.order d words a.second.front
         → all_nan words ≡ all

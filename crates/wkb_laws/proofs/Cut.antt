@@ -1,4 +1,4 @@
--- A strict prefix of a geometry is refused as an input that ends too early.
+-- A strict prefix of a geometry is rejected as an input that ends too early.
 use Rattle.std.proofs.Common.{◌⊎◌, ℕ, ◌+◌, List, [], ◌++◌, length, sym, ap, ◌∙◌, append_assoc, arith, inl, inr}
 use Rattle.std.proofs.Common.{length-append, Bool, append-nil}
 use Rattle.wkb_laws.specs.Prelude.{Endianness, Dimension, ShortPoint, ShortLineString, ShortLinearRing, ShortMultiPoint}
@@ -10,7 +10,7 @@ use Rattle.wkb_laws.specs.Laws.{EndsTooEarly, CutIsRefused}
 use Rattle.wkb_laws.proofs.OneFront.{one_front_lem}
 use Rattle.wkb_laws.proofs.Outcomes.{read_or_refused_lem, never_both_lem}
 
--- what is at the front is there with more bytes after it
+-- what is at the start is there with more bytes after it
 begins_more : {P : List ℕ → Type 0} {input rest : List ℕ} (y : List ℕ) → Begins P input rest
     → Begins P (input ++ y) (rest ++ y)
 begins_more {rest = rest} y b =

@@ -98,7 +98,7 @@ all_good P f [] h e = tt
 all_good P f (a ∷ l) h e =
     let both = or_else_parts (f a) (first_fault f l) e in ((h.0, both.0), all_good P f l h.1 both.1)
 
--- the empty word is a not-a-number
+-- the empty word is a NaN
 empty_coordinate : (d : Dimension)
     → (all_nan (replicate (width d) empty_word) ≡ true) × value.IsValueCoordinate d (replicate (width d) empty_word)
 empty_coordinate Xy = (refl, record { len = refl; words = (lit< tt, (lit< tt, tt)) })

@@ -41,7 +41,7 @@ item_front {i = i} h =
 abbrev pub cost_of : Value → Cost
 cost_of t = record { turns = member_count t; slots = listed_count t }
 
--- The input begins with a part that is wanted, or is refused.
+-- The input begins with a part that is wanted, or is rejected.
 abbrev pub HasPart : ℕ → Wanted → List ℕ → Type 0
 HasPart room w input =
     ((i : Item) × (rest : List ℕ) × ItemIs room w input i rest (cost_of i.value))

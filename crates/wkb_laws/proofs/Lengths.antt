@@ -203,7 +203,7 @@ pub length_of_front_lem : LengthOfFront
 length_of_front_lem order input s t rest b f =
     spelled_written order s t f.front (front_bytes input s t rest b f) f.spelled
 
--- a good value is refused for its length only
+-- a good value is rejected for its length only
 size_refused : (order : Endianness) (form : Form) (t : Value) → Good t
     → refusal order form (geometry_of t) ≡ size_fault (length (encoding order form (geometry_of t)))
 unfolding or_else

@@ -30,7 +30,7 @@ one_refusal_lem input cause other turns turns' slots slots' r q =
     let answers : ◌≡◌ {A = reading.Outcome Item} (Err cause) (Err other) = ap (λ z. z.1) same in
     (cc, ap (λ z. z.0.turns) same, ap (λ z. z.0.slots) same)
 
--- a refused member after some that are spelled
+-- a rejected member after some that are spelled
 refused_behind : (room : ℕ) (w : Wanted) (more : ℕ) (ss : Spellings) (ts : Values) (input x rest : List ℕ) (c : Cause)
     (b z : ℕ)
     → input ≡ x ++ rest → SpellsEach w ss ts x → nest_each ts ≤ room → Refuses room w rest c b z

@@ -85,7 +85,7 @@ each_len P size one [] x h = omega (arith, ap length h)
 each_len P size one (a ∷ l) x h =
     omega (arith, then_length h, one a h.front h.first, each_len P size one l h.rest h.second)
 
--- Where each item is what is read at the front of its bytes, so are n of them.
+-- Where each item is what is read at the start of its bytes, so are n of them.
 pub items_read : {A : Type 0} (P : A → List ℕ → Type 0) (size : ℕ) (item : List ℕ → A)
     → ((a : A) (x y : List ℕ) → P a x → (length x ≡ size) × (item (x ++ y) ≡ a))
     → (l : List A) (x y : List ℕ) → IsEach P l x → items size item (length l) (x ++ y) ≡ l
@@ -95,7 +95,7 @@ items_read P size item one (a ∷ l) x y h =
     let others = items_read P size item one l h.rest y h.second in
     rw (then_append h y, first.1, drop_front size h.front (h.rest ++ y) first.0, others)
 
--- a coordinate at the front of the bytes
+-- a coordinate at the start of the bytes
 pub coordinate_read : (order : Endianness) (d : Dimension) (c : Coordinate) (x y : List ℕ)
     → SpellsCoordinate order d c x → coordinate order d (x ++ y) ≡ c
 coordinate_read order d c x y h =

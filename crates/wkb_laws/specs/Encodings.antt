@@ -1,4 +1,4 @@
--- Laws of bytes that spell a value, however deep its collections nest: they serve every view in hand.
+-- Lemmas on bytes that spell a value, however deep its collections nest: they serve every view in hand.
 use Rattle.std.proofs.Common.{◌≡◌, ◌↔◌, ℕ, ◌+◌, ◌*◌, ◌<◌, ◌^◌, List, length, Option, None}
 use Rattle.wkb_laws.specs.Prelude.{Endianness, Form, Iso, Ewkb, AreBytes, Value, Spelling, header, srid_count, Spells}
 use Rattle.wkb_laws.specs.Prelude.{IsGeometry, normal, geometry_of, byte_size}

@@ -1,4 +1,4 @@
--- The laws, as statements.
+-- The lemmas, as statements.
 use Rattle.std.proofs.Common.{Some, Ok, Err, ◌≡◌, ◌↔◌, ◌⊎◌, ℕ, suc, ◌+◌, ◌*◌, ◌-◌, ◌≤◌, ◌<◌, List, [], ◌++◌, length}
 use Rattle.std.proofs.Common.{None, Bool, ◌^◌, is_some, if◌then◌else◌}
 use Rattle.std.proofs.Common.{Option}
@@ -35,11 +35,11 @@ BytesAreRead =
 abbrev pub HasFront : List ℕ → Type 0
 HasFront input = (s : Spelling) × (t : Value) × (rest : List ℕ) × Front input s t rest
 
--- The input is refused.
+-- The input is rejected.
 abbrev pub HasRefusal : List ℕ → Type 0
 HasRefusal input = (cause : Cause) × (turns : ℕ) × (slots : ℕ) × Refuses max_nesting any input cause turns slots
 
--- Every input begins with a geometry or is refused.
+-- Every input begins with a geometry or is rejected.
 abbrev pub ReadOrRefused : Type 0
 ReadOrRefused = (input : List ℕ) → HasFront input ⊎ HasRefusal input
 
@@ -48,7 +48,7 @@ abbrev pub NeverBoth : Type 0
 NeverBoth = (input : List ℕ) (s : Spelling) (t : Value) (rest : List ℕ) (cause : Cause) (turns slots : ℕ)
     → Front input s t rest → Refuses max_nesting any input cause turns slots → ⊥
 
--- An input is refused with one cause and one pair of counts.
+-- An input is rejected with one cause and one pair of counts.
 abbrev pub OneRefusal : Type 0
 OneRefusal = (input : List ℕ) (cause other : Cause) (turns turns' slots slots' : ℕ)
     → Refuses max_nesting any input cause turns slots → Refuses max_nesting any input other turns' slots'
@@ -82,7 +82,7 @@ EndsTooEarly (general (ShortLinearRing end len)) = Unit {0}
 EndsTooEarly (general (ShortMultiPoint end len)) = Unit {0}
 EndsTooEarly _ = ⊥
 
--- A strict prefix of a geometry is refused as an input that ends too early.
+-- A strict prefix of a geometry is rejected as an input that ends too early.
 abbrev pub CutIsRefused : Type 0
 CutIsRefused =
     (input : List ℕ) (s : Spelling) (t : Value) (rest x y : List ℕ) → (f : Front input s t rest) → f.front ≡ x ++ y
@@ -144,7 +144,7 @@ WrittenIsRead =
     → nest (normal g) ≤ max_nesting
     → (s : Spelling) × Front (encoding order form g ++ rest) s (normal g) rest × HasOptions order form s
 
--- The encoding of a geometry that a writer doesn't refuse is read again as its normal value.
+-- The encoding of a geometry that a writer doesn't reject is read again as its normal value.
 abbrev pub WritableIsRead : Type 0
 WritableIsRead =
     (order : Endianness) (form : Form) (g : Geometry) (rest : List ℕ) → IsForm form → IsGeometry g
@@ -182,7 +182,7 @@ EwkbIsWritable =
     → length input < 2 ^ 64 → Front input s t rest
     → IsWritable order (Ewkb None) (geometry_of t)
 
--- With any SRID it is refused only for its size: where usize doesn't measure its encoding.
+-- With any SRID it is rejected only for its size: where usize doesn't measure its encoding.
 abbrev pub SizeIsRefused : Type 0
 SizeIsRefused =
     (order : Endianness) (form : Form) (input : List ℕ) (s : Spelling) (t : Value) (rest : List ℕ) → AreBytes input

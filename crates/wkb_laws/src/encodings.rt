@@ -1,4 +1,4 @@
-//! Laws of bytes that spell a value, however deep its collections nest: they serve every view in hand, members and
+//! Lemmas on bytes that spell a value, however deep its collections nest: they serve every view in hand, members and
 //! parameters too.
 
 ghost use Rattle.wkb_laws.specs.Encodings.{SpelledInFull, SizeOfSpelled, SpelledIsWritable};

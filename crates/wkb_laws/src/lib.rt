@@ -1,4 +1,4 @@
-//! Laws over the definitions of Well-Known Binary: each function's contract is a law, and its body is empty.
+//! Lemmas over the definitions of Well-Known Binary: each function's contract is a lemma, and its body is empty.
 #![tactic(auto)]
 
 ghost use Rattle.wkb_laws.specs.Laws.{HasOneFront, RestIsFree, BytesAreRead, ReadOrRefused};
@@ -28,7 +28,7 @@ pub fn rest_is_free()
     ensures bytes { BytesAreRead }
 {}
 
-/// Every input begins with a geometry or is refused, never both, and is refused in one way.
+/// Every input begins with a geometry or is rejected, never both, and is rejected in one way.
 pub fn read_or_refused()
     ensures some { ReadOrRefused }
     ensures never_both { NeverBoth }
@@ -40,7 +40,7 @@ pub fn refused_outward()
     ensures { RefusedOutward }
 {}
 
-/// A strict prefix of a geometry is refused as an input that ends too early.
+/// A strict prefix of a geometry is rejected as an input that ends too early.
 pub fn cut_is_refused()
     ensures { CutIsRefused }
 {}
@@ -71,7 +71,7 @@ pub fn written_is_read()
     ensures { WrittenIsRead }
 {}
 
-/// What a writer doesn't refuse is read again, whatever follows it.
+/// What a writer doesn't reject is read again, whatever follows it.
 #[tactic(auto, using(crate::proofs::Rewritings::writable_is_read_lem))]
 pub fn writable_is_read()
     ensures { WritableIsRead }

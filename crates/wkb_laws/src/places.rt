@@ -1,4 +1,4 @@
-//! Laws of places: where the bytes of members, rings and words are in those of a geometry.
+//! Lemmas on places: where the bytes of members, rings and words are in those of a geometry.
 
 ghost use Rattle.wkb_laws.specs.Places.{HasOneEncoding, HaveOneEncoding, CoordinateHasOneEncoding};
 ghost use Rattle.wkb_laws.specs.Places.{MembersStand, RingsStand, MembersInPlace, RingsInPlace};
