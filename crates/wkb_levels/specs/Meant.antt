@@ -99,6 +99,6 @@ pub record IsLevelRow (l : Levels) (kind : Kind) (d : Dimensions) (i : ℕ) (g :
 abbrev pub HasNoLevelRow : Levels → Kind → Dimensions → ℕ → Type 0
 HasNoLevelRow l kind d i = (g : Geometry) → IsLevelRow l kind d i g → ⊥
 
--- what is found is row i as a geometry of this kind, or nothing where it means none
+-- what is found is row i as a geometry of this kind, or nothing if it means none
 abbrev pub FindsRow : Levels → Kind → Dimensions → ℕ → Option Row → Type 0
 FindsRow l kind d i found = MatchOption found (HasNoLevelRow l kind d i) (λ r. IsLevelRow l kind d i (row_meant r))

@@ -22,7 +22,7 @@ pub record IsPast (old new : Rows) : Type 0 where
   pub dimension : new.dim ≡ old.dim
   pub next : new.at ≡ old.at + 1
 
--- the next row is given, as a geometry or as nothing where it means none; or no row is left
+-- the next row is given, as a geometry or as nothing if it means none; or no row is left
 abbrev pub GivesRow : Rows → Option (Option Row) → Rows → Type 0
 GivesRow old None new = (length (ends_of old.levels.row_ends) ≤ old.at) × (new ≡ old)
 GivesRow old (Some row) new =

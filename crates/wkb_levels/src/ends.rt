@@ -83,7 +83,7 @@ impl<'w> Ends<'w> {
         }
     }
 
-    /// The items from one number up to another. None where they fall or pass the level.
+    /// The items from one number up to another. None if they fall or pass the level.
     pub fn range(&self, from: u64, to: u64) -> Option<Ends<'w>>
         ensures some { IsSome result ↔ ((from ≤ to) × (to ≤ length (ends_of self.now))) }
         ensures start { IfSome result (λ e. start_of e ≡ begin_of self.now from) }

@@ -90,7 +90,7 @@ impl<'w> Levels<'w> {
         singles_clear && rings_clear && coordinates_clear
     }
 
-    /// The singles of row i, as polygons are. None where its levels fall, or pass the next level's end, or the
+    /// The singles of row i, as polygons are. None if its levels fall, or pass the next level's end, or the
     /// dimension has no words. It looks at the end of each single and ring that the row spans. Call it only
     /// for rows that share no single and no ring with an earlier row, so that each end is read once.
     pub(crate) fn singles(&self, dim: Dimensions, i: usize) -> Option<Polygons<'w>>

@@ -25,7 +25,7 @@ pub struct Polygons<'w> {
 impl<'w> Polygons<'w> {
     ghost use Rattle.wkb_levels.specs.PolygonLists.{polygons_of, polygons_dimensions, polygons_polygons};
 
-    /// The polygons of these rings that end here. None where the ends fall or pass the rings.
+    /// The polygons of these rings that end here. None if the ends fall or pass the rings.
     pub fn new(rings: Rings<'w>, ends: Ends<'w>) -> Option<Polygons<'w>>
         requires { start_of ends + length (rings_rings rings) < 2 ^ 64 }
         ensures some { IsSome result ↔ FitRings rings.entry ends.entry }

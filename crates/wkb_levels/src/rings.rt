@@ -29,7 +29,7 @@ pub struct Rings<'w> {
 impl<'w> Rings<'w> {
     ghost use Rattle.wkb_levels.specs.RingLists.{rings_dimensions, rings_rings, rings_in, FitWords};
 
-    /// The rings that end here. None where the dimension has no words, or the ends fall or pass the words.
+    /// The rings that end here. None if the dimension has no words, or the ends fall or pass the words.
     pub fn new(dim: Dimensions, words: &'w [u64], ends: Ends<'w>) -> Option<Rings<'w>>
         ensures some { IsSome result ↔ FitWords dim words.now ends.entry }
         ensures dimensions { HasDimensions rings_dimensions result dim }

@@ -65,7 +65,7 @@ impl Row<'_> {
 
 #[tactic(auto, using(crate::proofs::Floors::floor_laws))]
 impl<'w> Levels<'w> {
-    /// Row i as a geometry of the kind and dimension. None where its levels fall, pass the next level's end, begin
+    /// Row i as a geometry of the kind and dimension. None if its levels fall, pass the next level's end, begin
     /// before an earlier row's end, or don't fit the kind: a point, a line string or a polygon is one single, each
     /// single of another kind than a polygon has one ring, and a point's ring has one coordinate.
     ///

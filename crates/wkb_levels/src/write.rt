@@ -12,7 +12,7 @@ use wkb_write::WriteOptions;
 /// What became of a row.
 #[derive(Debug, Clone, Copy, PartialEq)]
 pub enum Written {
-    /// Its encoding is at the front of the slice, and has this many bytes.
+    /// Its encoding is at the start of the slice, and has this many bytes.
     Whole(usize),
     /// The slice is shorter than its encoding, which has this many bytes.
     LacksRoom(usize),
