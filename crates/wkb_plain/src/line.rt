@@ -18,7 +18,7 @@ impl<'w> Line<'w> {
     ghost use Rattle.wkb_plain.specs.Kinds.{coord_dimensions, coord_words, line_dimensions};
     ghost use Rattle.wkb_plain.specs.Kinds.{line_start, line_end};
 
-    /// The line from one coordinate to another. None where they differ in dimension.
+    /// The line from one coordinate to another. None if they differ in dimension.
     pub fn new(start: Coord<'w>, end: Coord<'w>) -> Option<Line<'w>>
         ensures some { IsSome result ↔ (coord_dimensions end.entry ≡ coord_dimensions start.entry) }
         ensures dimensions { HasDimensions line_dimensions result (coord_dimensions start.entry) }

@@ -24,7 +24,7 @@ impl<'w> LineString<'w> {
     ghost use Rattle.wkb_plain.specs.Kinds.{line_string_dimensions, line_string_coordinates};
     ghost use Rattle.wkb_plain.specs.Runs.{coordinates_in};
 
-    /// The line string of the coordinates that follow one another in these words. None where the
+    /// The line string of the coordinates that follow one another in these words. None if the
     /// dimension has no words, or the last coordinate isn't whole.
     pub fn new(dim: Dimensions, words: &'w [u64]) -> Option<LineString<'w>>
         ensures some { IsSome result ↔ ((0 < size dim) × (length words.now % size dim ≡ 0)) }

@@ -20,7 +20,7 @@ impl<'w> MultiLineString<'w> {
     ghost use Rattle.wkb_plain.specs.Kinds.{line_string_coordinates, multi_line_string_dimensions};
     ghost use Rattle.wkb_plain.specs.Kinds.{multi_line_string_line_strings};
 
-    /// These line strings, in order. None where the dimension has no words, or a line string has
+    /// These line strings, in order. None if the dimension has no words, or a line string has
     /// another dimension.
     pub fn new(dim: Dimensions, line_strings: &'w [LineString<'w>]) -> Option<MultiLineString<'w>>
         ensures some { IsSome result ↔ ArePartsFor line_string_dimensions dim line_strings.now }

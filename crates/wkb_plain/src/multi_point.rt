@@ -19,7 +19,7 @@ impl<'w> MultiPoint<'w> {
     ghost use Rattle.wkb_plain.specs.Kinds.{ArePartsFor, ShowsParts, point_dimensions, point_coordinate};
     ghost use Rattle.wkb_plain.specs.Kinds.{multi_point_dimensions, multi_point_points};
 
-    /// These points, in order. None where the dimension has no words, or a point has another
+    /// These points, in order. None if the dimension has no words, or a point has another
     /// dimension.
     pub fn new(dim: Dimensions, points: &'w [Point<'w>]) -> Option<MultiPoint<'w>>
         ensures some { IsSome result ↔ ArePartsFor point_dimensions dim points.now }

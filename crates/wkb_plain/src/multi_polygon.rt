@@ -19,7 +19,7 @@ impl<'w> MultiPolygon<'w> {
     ghost use Rattle.wkb_plain.specs.Kinds.{ArePartsFor, ShowsParts, polygon_dimensions, polygon_rings};
     ghost use Rattle.wkb_plain.specs.Kinds.{multi_polygon_dimensions, multi_polygon_polygons};
 
-    /// These polygons, in order. None where the dimension has no words, or a polygon has another
+    /// These polygons, in order. None if the dimension has no words, or a polygon has another
     /// dimension.
     pub fn new(dim: Dimensions, polygons: &'w [Polygon<'w>]) -> Option<MultiPolygon<'w>>
         ensures some { IsSome result ↔ ArePartsFor polygon_dimensions dim polygons.now }

@@ -31,7 +31,7 @@ impl<'w> Point<'w> {
         }
     }
 
-    /// The empty point. None where the dimension has no words.
+    /// The empty point. None if the dimension has no words.
     pub fn empty(dim: Dimensions) -> Option<Point<'w>>
         ensures some { IsSome result ↔ (0 < size dim) }
         ensures dimensions { HasDimensions point_dimensions result dim }

@@ -20,7 +20,7 @@ impl<'w> Polygon<'w> {
     ghost use Rattle.wkb_plain.specs.Kinds.{line_string_dimensions, line_string_coordinates};
     ghost use Rattle.wkb_plain.specs.Kinds.{polygon_dimensions, polygon_rings};
 
-    /// The polygon of these rings, the exterior first. None where the dimension has no words, or a
+    /// The polygon of these rings, the exterior first. None if the dimension has no words, or a
     /// ring has another dimension.
     pub fn new(dim: Dimensions, rings: &'w [LineString<'w>]) -> Option<Polygon<'w>>
         ensures some { IsSome result ↔ ArePartsFor line_string_dimensions dim rings.now }

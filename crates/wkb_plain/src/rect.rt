@@ -18,7 +18,7 @@ impl<'w> Rect<'w> {
     ghost use Rattle.wkb_plain.specs.Kinds.{coord_dimensions, coord_words, rect_dimensions};
     ghost use Rattle.wkb_plain.specs.Kinds.{rect_min, rect_max};
 
-    /// The rectangle between two corners, which are taken as they are. None where they differ in
+    /// The rectangle between two corners, which are taken as they are. None if they differ in
     /// dimension.
     pub fn new(min: Coord<'w>, max: Coord<'w>) -> Option<Rect<'w>>
         ensures some { IsSome result ↔ (coord_dimensions max.entry ≡ coord_dimensions min.entry) }

@@ -26,7 +26,7 @@ impl<'w> Triangle<'w> {
     ghost use Rattle.wkb_plain.specs.Kinds.{triangle_dimensions};
     ghost use Rattle.wkb_plain.specs.Kinds.{triangle_first, triangle_second, triangle_third};
 
-    /// The triangle of three corners. None where they differ in dimension.
+    /// The triangle of three corners. None if they differ in dimension.
     pub fn new(first: Coord<'w>, second: Coord<'w>, third: Coord<'w>) -> Option<Triangle<'w>>
         ensures some { IsSome result ↔ HaveOneDimension first.entry second.entry third.entry }
         ensures dimensions { HasDimensions triangle_dimensions result (coord_dimensions first.entry) }
