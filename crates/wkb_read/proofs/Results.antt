@@ -31,7 +31,7 @@ pub count_bounded : (buf : List ℕ) (r : Result Wkb Refusal) (new : Counts) →
     → (4 * new.turns ≤ length buf + 4) × (new.slots ≤ 15 * length buf)
 count_bounded buf r new h = grind (arith, reading_is_bounded_lem, counted_of)
 
--- ---- a geometry that was read is at the front
+-- ---- a geometry that was read is at the start
 
 pub record IsRead (buf : List ℕ) (w : Item) (new : Counts) : Type 0 where
   pub front : IsFront buf w

@@ -19,7 +19,7 @@ abbrev pub IsOnlyFront : List ℕ → Item → Type 0
 IsOnlyFront buf w = (s : Spelling) (t : Value) (rest : List ℕ) → (f : Front buf s t rest)
     → (f.front ≡ w.encoding) × (s ≡ w.spelled) × (t ≡ w.value)
 
--- the input is refused, and the error says why
+-- the input is rejected, and the error says why
 pub record IsRefusal (buf : List ℕ) (e : WkbError) : Type 0 where
   pub cause : Cause
   pub turns : ℕ
@@ -27,7 +27,7 @@ pub record IsRefusal (buf : List ℕ) (e : WkbError) : Type 0 where
   pub refuses : Refuses max_nesting any buf cause turns slots
   pub tells : Tells e cause
 
--- whatever cause the input is refused for is the one that the error gives
+-- whatever cause the input is rejected for is the one that the error gives
 abbrev pub TellsEach : List ℕ → WkbError → Type 0
 TellsEach buf e = (cause : Cause) (turns slots : ℕ) → Refuses max_nesting any buf cause turns slots → Tells e cause
 
@@ -51,7 +51,7 @@ abbrev pub CountsRefusal : List ℕ → Counts → Type 0
 CountsRefusal buf c = (cause : Cause) (turns slots : ℕ) → Refuses max_nesting any buf cause turns slots
     → (c.turns ≡ turns) × (c.slots ≡ slots)
 
--- no more was counted than of the geometry at the front, or than of the refusal
+-- no more was counted than of the geometry at the start, or than of the refusal
 pub record CountsAtMost (buf : List ℕ) (c : Counts) : Type 0 where
   pub front : (s : Spelling) (t : Value) (rest : List ℕ) → Front buf s t rest
       → (c.turns ≤ member_count t) × (c.slots ≤ listed_count t)
@@ -85,7 +85,7 @@ abbrev pub TakesNoMemory : List ℕ → Type 0
 TakesNoMemory buf = (order : Endianness) (k : ℕ) (d : Dimension) (srid : Bool) (behind : List ℕ)
     → Opens buf order k d srid behind → KindTakesNone k buf
 
--- What a result says of the bytes: a geometry is the one at the front, and means what its value means; an error gives
+-- What a result says of the bytes: a geometry is the one at the start, and means what its value means; an error gives
 -- the one refusal; and an allocation failure is reported only where memory is taken.
 pub record Reads (buf : List ℕ) (r : Result Wkb WkbError) : Type 0 where
   pub front : IfOk r (λ w. IsFront buf w)

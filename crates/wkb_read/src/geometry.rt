@@ -246,7 +246,7 @@ impl<'a> Wkb<'a> {
     ghost use Rattle.wkb_read.specs.Types.{geometry_type_of, IsListed};
     ghost use Rattle.wkb_read.specs.Reads.{Reads, IsFront};
 
-    /// The geometry at the front of the bytes, as `read_wkb` returns it.
+    /// The geometry at the start of the bytes, as `read_wkb` returns it.
     pub fn try_new(alloc: Global, buf: &'a [u8]) -> WkbResult<Wkb<'a>>
         ensures { Reads buf.now result }
     {

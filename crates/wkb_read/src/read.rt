@@ -1,4 +1,4 @@
-//! The reader: a geometry at the front of some bytes, as a view that borrows them.
+//! The reader: a geometry at the start of some bytes, as a view that borrows them.
 
 ghost use Rattle.std.specs.Prelude.{IfErr};
 ghost use Rattle.wkb_read.specs.Prelude.{max_nesting, geometry_at, CanCount, IsCause};
@@ -21,17 +21,17 @@ use wkb_view::polygon::Polygon;
 
 pub(crate) mod stack;
 
-/// The most collections that may be nested in one another; the 129th is refused.
+/// The most collections that may be nested in one another; the 129th is rejected.
 pub const MAX_WKB_NESTING_DEPTH: usize = MAX_NESTING;
 
-/// Reads the geometry at the front of the bytes; the bytes after it are not looked at.
+/// Reads the geometry at the start of the bytes; the bytes after it are not looked at.
 ///
 /// A refusal is the first fault from left to right: `IOError` where a header or a count is cut short, `General` for a
 /// byte order, a code or a length, `IncorrectType` for a member of another kind or dimension than its multi geometry
 /// takes, `NestingDepthExceeded` for the 129th collection inside one another, `Memory` where an allocation fails.
 ///
 /// ```
-/// // The SRID of the geometry at the front of the bytes.
+/// // The SRID of the geometry at the start of the bytes.
 /// let wkb = read_wkb(alloc, bytes)?;
 /// let srid = wkb.srid();
 /// ```
@@ -64,7 +64,7 @@ fn read_and_count<'a>(alloc: Global, buf: &'a [u8], counts: &mut Counts) -> WkbR
     }
 }
 
-/// Reads the geometry at the front of the bytes. Only a collection that has members needs the loop over a stack.
+/// Reads the geometry at the start of the bytes. Only a collection that has members needs the loop over a stack.
 fn read_geometry<'a>(alloc: Global, buf: &'a [u8], counts: &mut Counts) -> Result<Wkb<'a>, Refusal>
     requires fits { CanCount counts.old (geometry_at max_nesting buf.now).0 }
     ensures reads { ReadsAs (geometry_at max_nesting buf.now) result counts.old counts.new }
