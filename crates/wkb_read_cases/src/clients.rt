@@ -14,7 +14,7 @@ use wkb_clients::kinds::code;
 use wkb_clients::own::{bounds_of, check_again, check_member_again, read_anew};
 use wkb_clients::package::word;
 
-/// Eight bytes that another format's header could have, and a big endian line string of one coordinate with a z.
+/// Eight bytes that another format's header could have, and a big-endian line string of one coordinate with a z.
 const LINE: &str = "47500001 00000000
     00 000003ea 00000001 3ff0000000000000 4000000000000000 4008000000000000";
 
@@ -74,7 +74,7 @@ fn value_stored_once(rt: HostRuntime) -> Result<(), Fail> {
     Ok(())
 }
 
-/// The ISO code of the geometry at the front of a text's bytes.
+/// The ISO code of the geometry at the start of a text's bytes.
 fn code_at_front(text: &str) -> Result<Option<u32>, Fail> {
     let input = bytes(text)?;
     match check(input.as_slice()) {

@@ -1,4 +1,4 @@
-//! Every strict prefix of an input is refused, and a list of fewer entries than it claims.
+//! Every strict prefix of an input is rejected, and a list of fewer entries than it claims.
 
 use std::alloc::Global;
 use std::test::Fail;

@@ -41,7 +41,7 @@ fn packages_read(rt: HostRuntime) -> Result<(), Fail> {
 }
 
 // Another letter, another version, a bit of a later use, an envelope of no kind, one that is cut; one from x 2 on, one
-// of a not-a-number; and a geometry without its last byte.
+// of a NaN; and a geometry without its last byte.
 #[test]
 fn packages_refused(rt: HostRuntime) -> Result<(), Fail> {
     let alloc = rt.alloc();

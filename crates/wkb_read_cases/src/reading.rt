@@ -14,7 +14,7 @@ fn is_accepted(answer: Outcome, case: &Case) -> Result<bool, Fail> {
     }
 }
 
-// Where memory is refused, neither count passes the whole run's.
+// Where an allocation fails, neither count passes the whole run's.
 fn is_counted(alloc: Global, case: &Case) -> Result<bool, Fail> {
     let (answer, turns, slots) = counts(alloc, case.input.as_slice());
     if turns > case.turns || slots > case.turns {

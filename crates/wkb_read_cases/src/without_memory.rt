@@ -20,7 +20,7 @@ const ACCEPTED: &str = "01 03000000 P
 01 03000000 00000000
 01 04000000 01000000 00 00000001 3ff0000000000000 4000000000000000";
 
-/// Inputs that are refused, one a line, of which the first has no bytes.
+/// Inputs that are rejected, one a line, of which the first has no bytes.
 const REFUSED: &str = "
 01
 02
@@ -95,7 +95,7 @@ fn answer(alloc: Global, text: &str) -> Result<Option<Outcome>, Fail> {
     }
 }
 
-/// Whether bytes are accepted; `None` if they are neither that nor refused for what they are.
+/// Whether bytes are accepted; `None` if they are neither that nor rejected for what they are.
 fn is_accepted(alloc: Global, text: &str) -> Result<Option<bool>, Fail> {
     match answer(alloc, text)? {
         Some(Outcome::Accepted(_)) => Ok(Some(true)),
