@@ -77,7 +77,7 @@ own_srid_alone at (node h words ss) t x a p is low =
       srid_size_is (is_some h.srid),
     )
 
--- what was found is at the front of the bytes
+-- what was found is at the start of the bytes
 abbrev pub here : {buf : List ℕ} {found : Summary} → DescribesFront buf found → HasGeometry buf
 here d = record {
   spelled = d.spelled;

@@ -46,7 +46,7 @@ byte_put {a = a} {i = i} {byte = byte} p =
 pub nothing_put : (out : List ℕ) (at : ℕ) → IsPut out out at at []
 nothing_put out at = record { end_is = omega arith; put = refl }
 
--- at the front of a slice
+-- at the start of a slice
 pub put_front : {a b : List ℕ} {j : ℕ} {xs : List ℕ} → IsPut a b 0 j xs → length xs ≤ length a → take j b ≡ xs
 put_front {a = a} {j = j} {xs = xs} p room =
     ap (take j) (p.put ∙ sets-eq xs a 0 (omega (arith, room))) ∙ take_front j xs _ (omega (arith, p.end_is))

@@ -23,7 +23,7 @@ pub record StandsAsWritten (order : Endianness) (form : Form) (buf : List ℕ) (
   pub code : CodeStands order form buf p
   pub some : is_empty_point buf p ≡ false
 
--- the walk passed the next piece, and these are told apart: one that stands as it is written, and one that may not
+-- the walk passed the next piece, and these are distinguished: one that stands as it is written, and one that may not
 pub record HasPassed (order : Endianness) (form : Form) (buf : List ℕ) (old new : Pieces) (stands : Bool) : Type 0 where
   pub piece : Piece
   pub step : Steps old (Some piece) new

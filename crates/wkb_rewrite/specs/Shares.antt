@@ -34,7 +34,7 @@ word_count p = if nat_lt p.kind POLYGON then width p.dimension * p.count else 0
 abbrev pub own_words : List ℕ → Piece → List ℕ
 own_words buf p = items 8 (number p.order 8) (word_count p) (drop p.offset buf)
 
--- whether a piece is a point whose words are all not-a-numbers
+-- whether a piece is a point whose words are all NaNs
 abbrev pub is_empty_point : List ℕ → Piece → Bool
 is_empty_point buf p = (p.kind == POINT) && all_nan (own_words buf p)
 

@@ -58,7 +58,7 @@ fn have_like_pieces(a: &[u8], b: &[u8]) -> bool
     seconds.next().is_none()
 }
 
-/// Whether the values of two geometries are equal, which are known to be at the front of these bytes.
+/// Whether the values of two geometries are equal, which are known to be at the start of these bytes.
 pub fn have_one_value(a: &[u8], b: &[u8]) -> bool
     requires first { HasGeometry a.now }
     requires second { HasGeometry b.now }

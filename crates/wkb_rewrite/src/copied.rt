@@ -128,7 +128,7 @@ impl<'a> Copied<'a> {
         })
     }
 
-    /// Puts its header at the front of a slice that is as long as any header, and returns the index after it.
+    /// Puts its header at the start of a slice that is as long as any header, and returns the index after it.
     #[inline(always)]
     #[tactic(auto, using(crate::proofs::Putting::copy_laws))]
     pub fn put_header(&self, out: &mut [u8]) -> usize
@@ -139,7 +139,7 @@ impl<'a> Copied<'a> {
         put_type_header(self.wkb_type, self.options, out, 0)
     }
 
-    /// Puts the encoding at the front of a slice, and returns the index after it.
+    /// Puts the encoding at the start of a slice, and returns the index after it.
     #[tactic(auto, using(crate::proofs::Putting::copy_laws))]
     pub fn put(&self, out: &mut [u8]) -> usize
         requires { length (copied_encoding self.now) ≤ length out.old }

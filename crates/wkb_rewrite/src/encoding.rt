@@ -58,7 +58,7 @@ pub fn encoded_size(buf: &[u8], found: &Summary, form: Form) -> usize
     size
 }
 
-/// Puts the encoding of a geometry that is known to be at the front of these bytes at the front of a slice, which has
+/// Puts the encoding of a geometry that is known to be at the start of these bytes at the start of a slice, which has
 /// room for it, and returns its size. What comes after it in the slice stays as it was.
 #[tactic(auto, using(crate::proofs::Walks::fewer_left))]
 pub fn put_pieces(buf: &[u8], options: WriteOptions, out: &mut [u8]) -> usize

@@ -1,4 +1,4 @@
-//! Rewrites and compares geometries that are known to be at the front of bytes, piece by piece. No call asks for
+//! Rewrites and compares geometries that are known to be at the start of bytes, piece by piece. No call asks for
 //! memory.
 #![tactic(auto)]
 

@@ -19,7 +19,7 @@ pub fn own_bytes<'a>(buf: &'a [u8], piece: &Piece) -> &'a [u8]
     &buf[piece.offset..piece.end()]
 }
 
-/// Whether bytes hold no words but not-a-numbers.
+/// Whether bytes hold no words but NaNs.
 #[inline(always)]
 #[tactic(auto, using(crate::proofs::Held::word_next, crate::proofs::Held::no_word_next))]
 fn hold_no_number(bytes: &[u8], order: Endianness) -> bool
