@@ -1,4 +1,4 @@
--- The laws that each step of writing rests on.
+-- The lemmas that each step of writing rests on.
 use Rattle.wkb_sink.proofs.Laid.{exits, no_room, cut_first, laid_none, laid_here, laid_now, lays_then}
 use Rattle.wkb_sink.proofs.Laid.{flushed, flush_cut, ready_now, short_now, short_block}
 

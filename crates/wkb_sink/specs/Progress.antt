@@ -17,7 +17,7 @@ pub record Progress : Type 1 where
   pub fails_by : Type 0
   pub block : Waiting
 
--- the encoding was laid after what waited, and some of these bytes were appended, nothing where the block had room for
+-- the encoding was laid after what waited, and some of these bytes were appended, nothing if the block had room for
 -- n bytes. The sink works
 pub record Moves (old new : Progress) (encoding : List ℕ) (n : ℕ) : Type 0 where
   pub same : new.sink ≡ old.sink
