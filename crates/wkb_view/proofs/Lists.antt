@@ -130,7 +130,7 @@ module _ (l : Layout) (bytes : List ℕ) (n : ℕ) (old mid : Counts) (whole : b
   unfolding multi_polygon_told
   polygons_here = list_here 6 (member_at 3 l.dimension) (list_item l multi_polygon_with)
 
--- A list whose count is cut short, or for whose entries memory is refused: its reading, where the count is there, costs
+-- A list whose count is cut short, or for whose entries an allocation fails: its reading, if the count is there, costs
 -- the entries that were asked for.
 module _ (least : ℕ) (l : Layout) (bytes : List ℕ) where
   abbrev has_no_count : Bool

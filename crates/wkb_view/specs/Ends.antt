@@ -55,7 +55,7 @@ line_string_parts l =
     }
 
 module _ {least : ℕ} (parts : Layout → PartsOf least) (l : Layout) where
-  -- the whole at the front of the bytes
+  -- the whole at the start of the bytes
   abbrev pub whole_at : List ℕ → Reading Item
   whole_at bytes = list_at (parts l).kind l (parts l).reading (parts l).whole bytes
 
@@ -71,7 +71,7 @@ module _ {least : ℕ} (parts : Layout → PartsOf least) (l : Layout) where
   abbrev pub AreEndsOf : List ℕ → List ℕ → Bor (List ℕ) → Type 0
   AreEndsOf ends bytes rest = ArePieces (parts l).IsPart (body_start l.has_srid + 4) ends (consumed bytes rest.now)
 
-  -- n parts were passed, and these are their ends, or one is refused
+  -- n parts were passed, and these are their ends, or one is rejected
   abbrev pub PassesParts : ℕ → List ℕ → Result (Reserved ℕ × Bor (List ℕ)) Cause → Counts → Counts → Type 0
   PassesParts n bytes result old new =
       CountsOutcome (λ x. passed_as (parts_ending (entries x.0)) bytes x.1) result (parts_at n bytes) old new

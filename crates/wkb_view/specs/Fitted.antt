@@ -71,7 +71,7 @@ abbrev mutual
   fitted_geometries no_geometries = no_geometries
   fitted_geometries (geometry g gs) = geometry (fitted_geometry g) (fitted_geometries gs)
 
--- ---- the laws of fitting
+-- ---- lemmas on fitting
 
 -- y is lawful, and is a where a is lawful
 pub record IsFitted {A : Type 0} (P : A → Type 0) (a y : A) : Type 0 where

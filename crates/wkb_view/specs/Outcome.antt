@@ -41,7 +41,7 @@ CountsOutcome shown result reading old new = IsOutcome shown result reading.1 ×
 abbrev pub seen_with_rest : {X Y : Type 0} → (X → Y) → X × Bor (List ℕ) → Y × List ℕ
 seen_with_rest seen x = (seen x.0, x.1.now)
 
--- the view and the bytes after it are the outcome, or the bytes are refused as it says
+-- the view and the bytes after it are the outcome, or the bytes are rejected as it says
 abbrev pub IsRead : {X Y : Type 0} → (X → Y) → Result (X × Bor (List ℕ)) Cause → Outcome Y → Type 0
 IsRead seen result outcome = IsOutcome (seen_with_rest seen) result outcome
 
@@ -73,11 +73,11 @@ IsTakenAs seen item bytes x = seen x.0 ≡ item (consumed bytes x.1.now)
 abbrev pub TakesAtLeast : {X : Type 0} → ℕ → List ℕ → X × Bor (List ℕ) → Type 0
 TakesAtLeast least bytes x = length x.1.now + least ≤ length bytes
 
--- the bytes are refused: no allocation failed
+-- the bytes are rejected: no allocation failed
 abbrev pub IsCause : Refusal → Type 0
 IsCause (refusals.Cause cause) = Unit {0}
 IsCause refusals.Memory = ⊥
 
--- a reading that asks for no slot fails only by refusing the bytes
+-- a reading that asks for no slot fails only by rejecting the bytes
 abbrev pub RefusesWithoutSlots : {X Y : Type 0} → Reading Y → Result X Refusal → Type 0
 RefusesWithoutSlots reading result = reading.0.slots ≡ 0 → IfErr result IsCause

@@ -14,17 +14,17 @@ use Rattle.wkb_view.specs.Outcome.{CountsOutcome}
 abbrev pub passed_as : {Y : Type 0} → (List ℕ → Y) → List ℕ → Bor (List ℕ) → Y × List ℕ
 passed_as taken bytes rest = (taken (consumed bytes rest.now), rest.now)
 
--- a part was passed, or is refused; neither costs anything
+-- a part was passed, or is rejected; neither costs anything
 abbrev pub PassesPart : {A : Type 0} → (List ℕ → Reading A) → (List ℕ → A) → List ℕ → Result (Bor (List ℕ)) Cause
     → Type 0
 PassesPart reading seen bytes (Ok rest) = reading bytes ≡ done (seen (consumed bytes rest.now)) rest.now
 PassesPart reading seen bytes (Err cause) = reading bytes ≡ refused cause
 
--- a point without an SRID was passed, or is refused
+-- a point without an SRID was passed, or is rejected
 abbrev pub PassesPoint : Dimension → List ℕ → Result (Bor (List ℕ)) Cause → Type 0
 PassesPoint d bytes result = PassesPart (member_at POINT d) (member_item POINT d) bytes result
 
--- n points were passed, or one is refused
+-- n points were passed, or one is rejected
 abbrev pub PassesPoints : Layout → ℕ → List ℕ → Result (Bor (List ℕ)) Cause → Counts → Counts → Type 0
 PassesPoints l n bytes result old new =
     CountsOutcome (passed_as (points_in l n) bytes) result (members_behind POINT l n bytes) old new

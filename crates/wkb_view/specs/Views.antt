@@ -68,7 +68,7 @@ seen_coordinate p = point_of (point_seen p).value
 abbrev pub seen_points : MultiPoint → List (Option Coordinate)
 seen_points m = points_of (multi_point_seen m).value
 
--- the words of a point, also where all are not-a-numbers
+-- the words of a point, also where all are NaNs
 abbrev pub coordinate_in : Point → Coordinate
 coordinate_in p = coordinate p.layout.order p.layout.dimension (drop (body_start p.layout.has_srid) p.buf.now)
 

@@ -13,7 +13,7 @@ pub trait AsWritten {
 
     /// Whether its bytes are known to be its encoding in this order, with EWKB's flags or without, and with no SRID.
     ///
-    /// False where a point is empty, and where there is an SRID. Order and flags are passed on to the members in
+    /// False if a point is empty, and where there is an SRID. Order and flags are passed on to the members in
     /// registers, which a `Form` isn't.
     fn is_as_written(&self, order: Endianness, has_flags: bool) -> bool
         ensures { result ≡ true → IsSpelledAsWritten order has_flags (seen self.now) };

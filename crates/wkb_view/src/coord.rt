@@ -57,7 +57,7 @@ impl<'a> Coord<'a> {
         self.bytes.len() as u64
     }
 
-    /// Whether all its words are not-a-numbers. Inlined, so that a view of which only this asks needs no memory.
+    /// Whether all its words are NaNs. Inlined, so that a view of which only this asks needs no memory.
     #[inline(always)]
     pub(crate) fn is_all_nan(&self) -> bool
         ensures { result ≡ all_nan (words_seen self.now) }

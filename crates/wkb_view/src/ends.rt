@@ -24,7 +24,7 @@ pub(crate) trait Parts {
 
     const MIN_SIZE: usize;
 
-    /// The bytes after the part at the front of the bytes.
+    /// The bytes after the part at the start of the bytes.
     fn pass<'a>(layout: Layout, bytes: &'a [u8]) -> Result<&'a [u8], Cause>
         ensures answer { PassesPart (parts layout).reading (parts layout).seen bytes.now result }
         ensures passed { IfOk result (λ rest. Passed MIN_SIZE (parts layout).IsPart bytes.now rest.now) };

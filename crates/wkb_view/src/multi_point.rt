@@ -99,7 +99,7 @@ impl<'a> MultiPoint<'a> {
     }
 }
 
-/// Passes the point of this dimension, without an SRID, at the front of the bytes.
+/// Passes the point of this dimension, without an SRID, at the start of the bytes.
 #[inline]
 fn pass_point<'a>(dimension: Dimension, bytes: &'a [u8]) -> Result<&'a [u8], Cause>
     ensures answer { PassesPoint dimension bytes.now result }

@@ -110,7 +110,7 @@ impl<'a> MultiPolygon<'a> {
     }
 }
 
-/// The polygon of this dimension at the front of the bytes, and the bytes after it.
+/// The polygon of this dimension at the start of the bytes, and the bytes after it.
 fn read_member<'a>(
     alloc: Global,
     dimension: Dimension,

@@ -57,7 +57,7 @@ impl<'a> Point<'a> {
         self.layout.dimension
     }
 
-    /// Whether all its words are not-a-numbers.
+    /// Whether all its words are NaNs.
     #[tactic(auto, using(crate::proofs::Items::empty_is))]
     #[inline]
     pub fn is_empty(&self) -> bool
@@ -74,7 +74,7 @@ impl<'a> Point<'a> {
         self.layout.order
     }
 
-    /// The bytes of its words, also where all are not-a-numbers.
+    /// The bytes of its words, also where all are NaNs.
     #[inline]
     pub fn coord_slice(&self) -> &'a [u8]
         ensures { result.now ≡ point_words_bytes self.now }
@@ -91,7 +91,7 @@ impl<'a> Point<'a> {
         self.buf
     }
 
-    /// Its words, also where all are not-a-numbers.
+    /// Its words, also where all are NaNs.
     #[inline]
     pub(crate) fn words(&self) -> Coord<'a>
         ensures words { words_seen result ≡ coordinate_in self.now }
