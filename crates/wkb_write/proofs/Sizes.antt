@@ -42,7 +42,7 @@ no_room_for options g e r is short fits lawful none many =
     let long = measured_length options.endianness options.form g fits lawful none in
     exits e r is (no_room _ short (omega (arith, many, long, size_of_parts g none)))
 
--- a fault is what the size refuses
+-- a fault is what the size rejects
 pub size_refused : {read told : Result ℕ Fault} (e : Fault) (form : Form) (g : Geometry) (r : Result ℕ Fault)
     → IsErrAnd r (λ y. y ≡ e) → IsMeasured g told → read ≡ told → read ≡ Err e → IsSized form g r
 unfolding IsMeasured

@@ -1,4 +1,4 @@
--- The laws that each step of putting a kind rests on.
+-- The lemmas that each step of putting a kind rests on.
 use Rattle.wkb_write.proofs.Prelude.{none_first, none_rest, none_both, count_below}
 use Rattle.wkb_write.proofs.FirstItem.{some_below}
 use Rattle.wkb_write.proofs.Supported.{has_width, none_at, supported_at_least, supported_at_most}

@@ -38,7 +38,7 @@ spelled_as o g (Ok u) old new failed none lawful fits puts =
     record { encoding = encoding_of o g; spelling = s.0; spelled = s.1; options_kept = s.2; appended = puts.0.appended }
 spelled_as o g (Err e) old new failed none lawful fits puts = tt
 
--- bytes that are in memory are not refused for their length
+-- bytes that are in memory are not rejected for their length
 pub encoding_fits : (o : WriteOptions) (g : Geometry) (bytes : List ℕ) → bytes ≡ encoding_of o g → fault g ≡ None
     → length bytes < 2 ^ 64 → refusal_of o g ≡ None
 encoding_fits o g bytes is none fits =
@@ -94,7 +94,7 @@ told old new failed fails_by bytes (Err failure) (Err e) puts tells =
 
 module _ {o : WriteOptions} {g : Geometry} {untouched : Type 0} {old new : Option (List ℕ)} {failed : Bool}
     {fails_by : Option Error → Type 0} where
-  -- what has a fault is refused, and nothing is put
+  -- what has a fault is rejected, and nothing is put
   pub refusal_writes : {f : Fault} {r : Result (Unit {0}) WkbError} → IsSized o.form g (Err f)
       → IsErrAnd r (λ e. TellsFault e f) → untouched → Writes o g r untouched old new failed fails_by
   refusal_writes {r = Ok u} size tells kept = absurd tells
@@ -107,7 +107,7 @@ module _ {o : WriteOptions} {g : Geometry} {untouched : Type 0} {old new : Optio
         own = λ none. absurd (cc);
       }
 
-  -- what was put of a geometry that isn't refused was written
+  -- what was put of a geometry that isn't rejected was written
   pub put_writes : {r : Result (Unit {0}) WkbError} (put : Result (Unit {0}) (Option Error)) → refusal_of o g ≡ None
       → IsGeometry g → IsForm o.form → PutsOrStops old new failed fails_by (encoding_of o g) put → TellsPut put r
       → Writes o g r untouched old new failed fails_by

@@ -32,7 +32,7 @@ member_encoding meant order has_flags x = encoding order (form_with_flags has_fl
 abbrev pub refusal_of : WriteOptions → Geometry → Option Fault
 refusal_of options g = refusal options.endianness options.form g
 
--- the result is the length of the encoding, in either order, or the error that reports what is refused
+-- the result is the length of the encoding, in either order, or the error that reports what is rejected
 abbrev pub IsSizeOf : Form → Geometry → Result ℕ WkbError → Type 0
 IsSizeOf form g r =
     (order : Endianness)
@@ -46,12 +46,12 @@ IsSized form g r =
     → MatchResult r (λ n. (refusal order form g ≡ None) × (n ≡ length (encoding order form g)))
     (λ e. Finds e (refusal order form g))
 
--- what is refused is reported by the error, and the sink is untouched
+-- what is rejected is reported by the error, and the sink is untouched
 abbrev pub IsRefusedAs : WriteOptions → Geometry → Result (Unit {0}) WkbError → Type 0 → Type 0
 IsRefusedAs options g r untouched =
     (f : Fault) → refusal options.endianness options.form g ≡ Some f → IsErrAnd r (λ e. TellsFault e f) × untouched
 
--- what is not refused is put to the sink, at Ok the whole of it
+-- what is not rejected is put to the sink, at Ok the whole of it
 abbrev pub IsWrittenAs : WriteOptions → Geometry → Result (Unit {0}) WkbError → Option (List ℕ) → Option (List ℕ) → Bool
     → Type 0
 IsWrittenAs options g r old new failed =
@@ -72,11 +72,11 @@ abbrev pub IsSpelledAs : WriteOptions → Geometry → Result (Unit {0}) WkbErro
     → Type 0
 IsSpelledAs options g r old new = IfOk r (λ _. IsSpelled options (normal g) old new)
 
--- the error for what is not refused is the sink's own, or says that the sink took nothing
+-- the error for what is not rejected is the sink's own, or says that the sink took nothing
 abbrev pub IsFailedAs : WriteOptions → Geometry → Result (Unit {0}) WkbError → (Option Error → Type 0) → Type 0
 IsFailedAs options g r fails_by = refusal options.endianness options.form g ≡ None → IfErr r (IsOwnError fails_by)
 
--- what a writer promises of a geometry under its options: what it does with a refused one and with one that is not,
+-- what a writer promises of a geometry under its options: what it does with a rejected one and with one that is not,
 -- what the appended bytes spell, and whose error it returns
 pub record Writes (options : WriteOptions) (g : Geometry) (r : Result (Unit {0}) WkbError) (untouched : Type 0)
     (old new : Option (List ℕ)) (failed : Bool) (fails_by : Option Error → Type 0) : Type 0 where
@@ -109,17 +109,17 @@ pub record IsInFront (old new encoding : List ℕ) (n : ℕ) : Type 0 where
   pub len : n ≡ length encoding
   pub whole : new ≡ encoding ++ drop n old
 
--- what isn't refused is longer than the slice, and the error says that nothing was taken
+-- what isn't rejected is longer than the slice, and the error says that nothing was taken
 pub record OutgrowsSlice (options : WriteOptions) (g : Geometry) (old : List ℕ) (e : WkbError) : Type 0 where
   pub writable : refusal_of options g ≡ None
   pub short : length old < length (encoding_of options g)
   pub taken : TellsFailure e None
 
--- the error is an allocation failure, or reports what is refused
+-- the error is an allocation failure, or reports what is rejected
 abbrev pub IsVecError : WriteOptions → Geometry → WkbError → Type 0
 IsVecError options g e = IsMemory e ⊎ Reports e (refusal_of options g)
 
--- what a writer to a vector promises: the vector is the encoding, or the error reports what is refused. Only where
+-- what a writer to a vector promises: the vector is the encoding, or the error reports what is rejected. Only where
 -- nothing is, it may be an allocation failure
 pub record WritesToVec (options : WriteOptions) (g : Geometry) (r : Result (Vec ℕ Global) WkbError) : Type 0 where
   pub ok : IfOk r (λ out. out.items ≡ encoding_of options g)
@@ -127,7 +127,7 @@ pub record WritesToVec (options : WriteOptions) (g : Geometry) (r : Result (Vec 
   pub err : IfErr r (IsVecError options g)
   pub memory : IfErr r (λ e. IsMemory e → refusal_of options g ≡ None)
 
--- the error reports what is refused, or that the slice is too short
+-- the error reports what is rejected, or that the slice is too short
 abbrev pub IsSliceError : WriteOptions → Geometry → List ℕ → WkbError → Type 0
 IsSliceError options g old e = Reports e (refusal_of options g) ⊎ OutgrowsSlice options g old e
 

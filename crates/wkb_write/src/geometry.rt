@@ -98,9 +98,9 @@ impl<G: GeometryTrait> Writable<G> for GeometryKind {
 
 /// The size of a geometry in ISO codes, in bytes.
 ///
-/// Refused by the first of these in preorder: dimensions that can't be written
+/// Rejected by the first of these in preorder: dimensions that can't be written
 /// (`General(UnsupportedDimensions)`), a count that four bytes don't hold (`OverflowError(Count)`).
-/// Where there is none, a size that `usize` doesn't hold is refused (`OverflowError(Size)`).
+/// Where there is none, a size that `usize` doesn't hold is rejected (`OverflowError(Size)`).
 #[inline]
 pub fn geometry_wkb_size<G: GeometryTrait>(geom: &G) -> WkbResult<usize>
     ensures size { IsSizeOf Iso (G.geometry geom.now) result }
@@ -110,7 +110,7 @@ pub fn geometry_wkb_size<G: GeometryTrait>(geom: &G) -> WkbResult<usize>
 
 /// The size of a geometry under the options: four bytes more where they have an SRID.
 ///
-/// Refused as `geometry_wkb_size` refuses it, and where the SRID's bytes make it pass `usize`.
+/// Rejected as `geometry_wkb_size` rejects it, and where the SRID's bytes make it pass `usize`.
 #[inline]
 pub fn geometry_wkb_size_with<G: GeometryTrait>(
     geom: &G,
@@ -131,7 +131,7 @@ pub fn geometry_wkb_size_with<G: GeometryTrait>(
 /// let encoding = sink.into_vec();
 /// ```
 ///
-/// Refused as `geometry_wkb_size_with` refuses it under the same options, with the sink untouched.
+/// Rejected as `geometry_wkb_size_with` rejects it under the same options, with the sink untouched.
 /// `IOError` where the sink fails: then a strict prefix of the encoding was put. It is the sink's own error, or of the
 /// kind `WriteZero` where the sink took nothing.
 #[inline(always)]
@@ -163,7 +163,7 @@ pub fn write_geometry<S: Sink, G: GeometryTrait>(
 /// assert_eq!(rt; encoding.len(), geometry_wkb_size(&geometry)?);
 /// ```
 ///
-/// Refused as `geometry_wkb_size_with` refuses it under the same options. `Memory` is possible only for a geometry
+/// Rejected as `geometry_wkb_size_with` rejects it under the same options. `Memory` is possible only for a geometry
 /// that passes these checks.
 #[inline(always)]
 #[tactic(auto, using(crate::proofs::Writing::encoding_fits))]
@@ -193,7 +193,7 @@ pub fn to_vec<G: GeometryTrait>(
 /// let encoding = &bytes[..size];
 /// ```
 ///
-/// Refused as `geometry_wkb_size_with` refuses it under the same options. `IOError` of the kind `WriteZero` where the
+/// Rejected as `geometry_wkb_size_with` rejects it under the same options. `IOError` of the kind `WriteZero` where the
 /// slice is shorter than the encoding. In both cases the slice is untouched.
 #[inline(always)]
 #[tactic(auto, using(crate::proofs::Writing::encoding_fits, crate::proofs::Writing::encoding_outgrows))]

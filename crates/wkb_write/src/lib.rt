@@ -1,15 +1,15 @@
 //! Sizes and writers of Well-Known Binary (OGC 06-103r4, section 8.2; under EWKB as PostGIS writes
 //! it), one of each for every kind of geometry.
 //!
-//! A writer tests the whole geometry first, and refuses what the size under the same options
-//! refuses, by the same error. Every size refuses as `geometry_wkb_size`, and every writer refuses
+//! A writer tests the whole geometry first, and rejects what the size under the same options
+//! rejects, by the same error. Every size rejects as `geometry_wkb_size`, and every writer rejects
 //! and fails as `write_geometry`, where the docs of one don't say otherwise.
 //!
 //! A file for each kind says what it means, how it is measured and put, and has its size and its writer. What they
 //! share: `writable` (the trait of kinds, and the way from it to a writer), `fixed` (the kinds that are laid at
 //! once), `items` (the kinds of items after a count, and their two loops), `nested` (the recursion of collections,
 //! and the trait of what it knows of a geometry), `measure`, `checked` (a measured geometry as bytes for a sink), and
-//! `slice` (an encoding at the front of a slice).
+//! `slice` (an encoding at the start of a slice).
 #![tactic(auto)]
 
 mod checked;

@@ -39,7 +39,7 @@ impl<P: PointTrait> Fixed<P> for PointKind {
 
 /// The size of a point of these dimensions in ISO codes, whatever its words are.
 ///
-/// Refused where the dimensions can't be written.
+/// Rejected where the dimensions can't be written.
 #[inline]
 pub fn point_wkb_size(dim: Dimensions) -> WkbResult<usize>
     ensures size { (c : Option (List ℕ)) → IsPoint dim c → IsSizeOf Iso (point dim c) result }
@@ -50,7 +50,7 @@ pub fn point_wkb_size(dim: Dimensions) -> WkbResult<usize>
     )
 }
 
-/// Writes a point. The words of an empty point are not-a-numbers.
+/// Writes a point. The words of an empty point are NaNs.
 #[inline(always)]
 pub fn write_point<S: Sink, P: PointTrait>(
     writer: &mut S,

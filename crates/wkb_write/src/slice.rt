@@ -1,4 +1,4 @@
-//! An encoding at the front of a slice.
+//! An encoding at the start of a slice.
 
 ghost use Rattle.std.specs.Prelude.{◌≡◌, ◌<◌, ◌^◌, None, IfOk, IfErr, length};
 ghost use Rattle.wkb_write.specs.Prelude.{IsInFront, TellsFailure, WritesToSlice};
@@ -8,7 +8,7 @@ use crate::measure::refuse;
 use crate::writable::{Writable, checked_size, lay_whole, length, sink_error};
 use wkb_geom::WkbResult;
 
-/// The encoding of a geometry of a kind at the front of a slice.
+/// The encoding of a geometry of a kind at the start of a slice.
 #[inline(always)]
 pub fn slice_as<G, K: Writable<G>>(
     geom: &G,
@@ -28,7 +28,7 @@ pub fn slice_as<G, K: Writable<G>>(
     Ok(size)
 }
 
-/// An encoding that is in memory, at the front of a slice.
+/// An encoding that is in memory, at the start of a slice.
 #[inline(always)]
 pub fn encoding_to_slice(bytes: &[u8], out: &mut [u8]) -> WkbResult<usize>
     ensures ok { IfOk result (IsInFront out.old out.new bytes.now) }

@@ -272,7 +272,7 @@ pub fn length(bytes: &[u8]) -> usize
     bytes.len()
 }
 
-// What is in memory is never refused for its size: its length fits `usize`. This stands for the proof alone.
+// What is in memory is never rejected for its size: its length fits `usize`. This stands for the proof alone.
 #[inline(always)]
 fn length_fits(bytes: &[u8])
     ensures { length bytes.now < 2 ^ 64 }
