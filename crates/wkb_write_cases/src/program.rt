@@ -97,7 +97,7 @@ fn status_of<R: Read, W: Write>(
     Ok(run(alloc, words.as_slice(), input, out))
 }
 
-/// The status of a run, and what it wrote; an error where memory was refused.
+/// The status of a run, and what it wrote; an error if an allocation failed.
 fn outcome<R: Read>(alloc: Global, word: &str, input: &mut R) -> Result<(u8, Spelled), Fail> {
     let mut out = Spelled::new();
     let status = status_of(alloc, word, input, &mut out)?;
@@ -199,7 +199,7 @@ fn line_of_cut(alloc: Global, len: usize) -> Result<String, AllocError> {
     format!(in alloc; "{SHORT_POINT} 21, but buffer length is {left}.\n")
 }
 
-// Whether the first `len` of the bytes that these digits spell are refused as they should be.
+// Whether the first `len` of the bytes that these digits spell are rejected as they should be.
 fn is_refused(alloc: Global, digits: &[u8], len: usize) -> Result<bool, Fail> {
     let mut reader = digits.get(..len.saturating_mul(2)).ok_or("too few digits")?;
     let line = line_of_cut(alloc, len)?;
@@ -231,7 +231,7 @@ fn is_short(alloc: Global, digits: &[u8], len: usize) -> Result<bool, Fail> {
     )
 }
 
-// Whether each strict prefix is refused as too short.
+// Whether each strict prefix is rejected as too short.
 fn are_short(alloc: Global, text: &str) -> Result<bool, Fail> {
     let input = bytes(text)?;
     let digits = digits_of(input.as_slice())?;

@@ -14,7 +14,7 @@ use wkb::writer::{Out, Sink, SliceSink, VecSink, line_string_wkb_size, write_lin
 use wkb_cases::spelled::Spelled;
 use wkb_cases::support::{collection_of_two, empty_point_of, iso};
 
-// Whether size function and writer refuse the kind with five words a coordinate, and the sink has not failed.
+// Whether size function and writer reject the kind with five words a coordinate, and the sink has not failed.
 fn refuses<S: Sink>(alloc: Global, sink: &mut S, kind: Kind) -> Result<bool, Fail>
     requires working { S.has_failed sink.old ≡ false }
 {

@@ -1,4 +1,4 @@
-//! Whole encodings: in a vector of their own, at the front of a slice, and in one put where they are in memory already.
+//! Whole encodings: in a vector of their own, at the start of a slice, and in one put where they are in memory already.
 
 use crate::answers::{Answer, size_answer, writer_answer};
 use crate::kinds::{ENCODINGS, LITTLE};
