@@ -31,7 +31,7 @@ typedef struct dump {
   wkb_dump_put *put;
   void *to;
   uint64_t lines;              /* how many were put */
-  uint64_t refused;            /* the part that is refused, or NO_PART */
+  uint64_t refused;            /* the part that is rejected, or NO_PART */
   wkb_dump_walk walk;
   list lists[DEEPEST];         /* from the outermost one that is open on */
   uint32_t depth;              /* how many are open */
@@ -255,7 +255,7 @@ static bool put_geometry(dump *it) {
   return true;
 }
 
-/* Walks over the parts, up to the end or to that of the refused part. */
+/* Walks over the parts, up to the end or to that of the rejected part. */
 static void put_parts(dump *it) {
   bool is_all_there = put_geometry(it);
   while (is_all_there && !it->is_at_refused && it->depth > 0 && !it->has_stopped) {
@@ -271,7 +271,7 @@ static void put_parts(dump *it) {
   }
 }
 
-/* The items that the refused part is in, from the innermost one on. */
+/* The items that the rejected part is in, from the innermost one on. */
 static void put_path(dump *it) {
   char text[SAYS_ROOM] = "";
   size_t length = 0;

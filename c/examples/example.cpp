@@ -1,4 +1,4 @@
-// Reads a geometry in C++: its bounds, its parts with their words, and why its first half is refused.
+// Reads a geometry in C++: its bounds, its parts with their words, and why its first half is rejected.
 #include "wkb.hpp"
 
 #include <array>

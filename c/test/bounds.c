@@ -19,7 +19,7 @@ static const bounded BOUNDED[] = {
      {{1, 1, 1}, {2, 2, 1}, {3, 3, 1}, {4, 4, 1}}},
     {"01 e9030000 W X Y", {{1, 1, 1}, {2, 2, 1}, {3, 3, 1}, NONE}},
     {"01 d1070000 W X Y", {{1, 1, 1}, {2, 2, 1}, NONE, {3, 3, 1}}},
-    /* Not-a-numbers are left out for each ordinate by itself, whatever their sign and bits. */
+    /* NaNs are left out for each ordinate by itself, whatever their sign and bits. */
     {LINE_OF_3 "W N N X Y N", {{1, 3, 2}, {2, 2, 1}, NONE, NONE}},
     {LINE_OF_2 "010000000000f07f W ffffffffffffffff X", {NONE, {1, 2, 2}, NONE, NONE}},
     {LINE_OF_2 "W 010000000000f0ff N X", {{1, 1, 1}, {2, 2, 1}, NONE, NONE}},
@@ -67,7 +67,7 @@ static void bounds_are_found(void) {
   }
 }
 
-/* What wkb_check refuses has no bounds, and the same fault. */
+/* What wkb_check rejects has no bounds, and the same fault. */
 static void refusals_are_the_same(void) {
   for (int i = 0; i < ANSWER_COUNT; i++) {
     const answer *a = &ANSWERS[i];

@@ -162,7 +162,7 @@ static void options_are_unknown(void) {
   }
 }
 
-/* What two inputs return: whether their values are equal, or why one of them is refused. */
+/* What two inputs return: whether their values are equal, or why one of them is rejected. */
 typedef struct comparison {
   const char *first, *second;
   wkb_status status;
@@ -237,7 +237,7 @@ static void parts_are_listed(void) {
   }
 }
 
-/* 128 collections inside one another are accepted, and one more is refused where it begins. */
+/* 128 collections inside one another are accepted, and one more is rejected where it begins. */
 static void nesting_is_bounded(void) {
   static const uint8_t OPEN[] = {1, WKB_KIND_GEOMETRY_COLLECTION, 0, 0, 0, 1, 0, 0, 0};
   uint8_t bytes[129 * sizeof OPEN];

@@ -11,7 +11,7 @@ enum { ROWS_MOST = 3, DATA_ROOM = 256, OUT_ROOM = 256, UNTOUCHED = 0x5a };
 #define BIG_POINT "00 00000001 " BIG_P
 #define NO_FAULT {0, 0, 0, 0, 0, 0}
 
-/* Rows, and their collection or the first row that refuses it. */
+/* Rows, and their collection or the first row that rejects it. */
 typedef struct collecting {
   const char *rows[ROWS_MOST];
   size_t count;
@@ -97,7 +97,7 @@ static void leaves_all(const wkb_column *column, const collecting *c, wkb_status
   expect(memcmp(&r, &before, sizeof r) == 0, "something was written", what);
 }
 
-/* A row refuses the whole, and only its index and its fault are written. */
+/* A row rejects the whole, and only its index and its fault are written. */
 static void row_refuses(const wkb_column *column, const collecting *c, size_t room, const char *what) {
   results r = untouched(), before = untouched();
   expect(collect(column, c, room, &r) == c->fault.status, "the status of a row", what);
@@ -145,7 +145,7 @@ static void rows_are_collected(void) {
 static const collecting POINTS = {
     {NULL}, 0, WKB_KIND_MULTI_POINT, WKB_DIM_XY, {LITTLE, ISO, 0}, "01 04000000 01000000 01 01000000 P", 0, NO_FAULT};
 
-/* A row that is null or has bad offsets refuses the whole, where no row before it does. No fault is written. */
+/* A row that is null or has bad offsets rejects the whole, where no row before it does. No fault is written. */
 static void bad_rows_are_told(void) {
   static const struct {
     int64_t offsets[4];
@@ -192,7 +192,7 @@ static size_t nest(uint8_t bytes[NESTED_MOST], size_t depth, uint8_t members) {
   return len;
 }
 
-/* 127 collections inside one another are a member of a collection, and one more is refused where it begins, whatever
+/* 127 collections inside one another are a member of a collection, and one more is rejected where it begins, whatever
  * is behind its code and whatever the kind of the whole is. */
 static void nesting_is_bounded(void) {
   uint8_t bytes[NESTED_MOST], out[NESTED_MOST];

@@ -33,7 +33,7 @@ static void clear(collected *it) {
 static const uint8_t *row_at(size_t row) { return made.data + made.offsets[row]; }
 static size_t row_len(size_t row) { return (size_t)(made.offsets[row + 1] - made.offsets[row]); }
 
-/* Rows that fit the whole, but for one of some. Half of the columns have refused rows as they come. */
+/* Rows that fit the whole, but for one of some. Half of the columns have rejected rows as they come. */
 static void make_rows(void) {
   static generated it;
   bool may_be_refused = is_rare(2);

@@ -140,7 +140,7 @@ static void narrow_offsets_are_the_same(void) {
   expect(memcmp(r.words, wanted, spelled(WORDS[WKB_DIM_XYZM], wanted)) == 0, "the words", "narrow offsets");
 }
 
-/* Rows of one kind, of which the second is null, the third empty and the fourth refused; and what the format of
+/* Rows of one kind, of which the second is null, the third empty and the fourth rejected; and what the format of
  * GeoArrow has of them, worked by hand: the offsets of each list, from the outermost on. */
 enum { LIST_ROWS = 5, LISTS_MOST = 3, OFFSETS_MOST = 8, GIVEN = 0x15 };
 typedef struct listed {
@@ -211,7 +211,7 @@ static void ends_become_offsets(void) {
   }
 }
 
-/* GeoArrow's points are a coordinate a row: a null row and a refused one have one of not-a-numbers. */
+/* GeoArrow's points are a coordinate a row: a null row and a rejected one have one of NaNs. */
 static void points_become_coordinates(void) {
   const listed *it = &LISTED[sizeof LISTED / sizeof LISTED[0] - 1];
   double words[2 * OFFSETS_MOST], all[2 * LIST_ROWS];

@@ -10,7 +10,7 @@
 #include <string_view>
 #include <vector>
 
-// Of hpp_refuse.cpp: how many allocations are granted before the rest is refused, and how many blocks are allocated.
+// Of hpp_refuse.cpp: how many allocations are granted before the rest is rejected, and how many blocks are allocated.
 constexpr std::size_t ALL = SIZE_MAX;
 extern std::size_t granted, blocks;
 

@@ -1,6 +1,6 @@
 // Tries what wkb.hpp finds in each row of a column, and the facts of wkb_facts.hpp: over each kind, dimension and byte
-// order, each sort of SRID, null rows, refused rows and columns without rows. It prints nothing, and what is wrong where
-// something is.
+// order, each sort of SRID, null rows, rejected rows and columns without rows. It prints nothing,
+// and an error if there is one.
 #include "hpp_shapes.h"
 
 #include "wkb_facts.hpp"
@@ -57,7 +57,7 @@ void is_found(const expected &it, const wkb_found &found) {
   expect(found.order == it.order, "the byte order of a row");
 }
 
-// All shapes in these dimensions and each order and with each SRID, and between them null rows and refused ones, which
+// All shapes in these dimensions and each order and with each SRID, and between them null rows and rejected ones, which
 // have SRIDs and ordinates of their own that are no facts.
 struct mixed {
   rows all{};
@@ -147,7 +147,7 @@ void columns_without_facts() {
   expect(bad.rows == 3 && bad.null_rows == 0 && bad.accepted == 0 && bad.refused == 2, "a row with bad offsets");
 }
 
-// Zeros of both signs, infinities and not-a-numbers, in each order of the rows.
+// Zeros of both signs, infinities and NaNs, in each order of the rows.
 void signs() {
   const auto point = [](double x) {
     speller it{WKB_ORDER_LITTLE, WKB_DIM_XY};

@@ -1,6 +1,6 @@
-// Tries wkb.hpp where memory is refused: each call that allocates, with all its allocations refused, then with all but
-// the first, and so on until it passes. What a refusal leaves is as it was or empty, loses no memory, and serves the
-// next call. It prints nothing, and what is wrong where something is.
+// Tries wkb.hpp with failing allocations: each call that allocates, with all its allocations failing, then with all but
+// the first, and so on until it passes. After an error an object is as it was or empty, loses no memory, and serves the
+// next call. It prints nothing, and an error if there is one.
 #include "hpp.h"
 
 #include "wkb_facts.hpp"
@@ -25,7 +25,7 @@ const auto POLYGON = spelled("010300000002000000"
 const auto CUT = wkb::bytes(POLYGON).first(30);
 constexpr wkb_options BIG{WKB_ORDER_BIG, WKB_FORM_ISO, 0}, UNKNOWN{2, WKB_FORM_ISO, 0};
 
-// How many allocations of a call are refused until it passes. LEFT looks at what each refusal leaves.
+// How many allocations of a call fail until it passes. LEFT looks at what each refusal leaves.
 std::size_t refusals(auto call, auto left) {
   for (std::size_t n = 0;; n++) {
     const std::size_t before = blocks;
@@ -57,7 +57,7 @@ bool throws(auto call) {
   return false;
 }
 
-// A call that throws an exception of this type throws std::bad_alloc where that gets no memory.
+// A call that throws an exception of this type throws std::bad_alloc where that fails to allocate.
 template <typename Exception>
 void needs_memory_to_throw(auto call, auto left) {
   bool thrown = false;

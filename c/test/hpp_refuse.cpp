@@ -1,4 +1,4 @@
-// The allocations of a C++ program, which refuse memory on demand. It is compiled with exceptions for each program.
+// The allocations of a C++ program, which fail on demand. It is compiled with exceptions for each program.
 #include "hpp.h"
 
 #include <new>

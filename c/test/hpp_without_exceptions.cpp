@@ -46,7 +46,7 @@ void finds() {
   expect(!wkb::try_same(POINT, CUT, &fault, &which) && is_of_cut(fault) && which == 2, "try_same refuses");
 }
 
-// Both forms of try_write refuse alike, and leave what they would have written to.
+// Both forms of try_write reject alike, and leave what they would have written to.
 void writes() {
   std::array<std::byte, 25> room{};
   std::vector<std::byte> out(3);
@@ -72,7 +72,7 @@ void writes() {
   expect(wkb::try_write(POINT, BIG, out, &fault) && out == BIG_POINT && fault.status == 7, "a vector");
 }
 
-// Both forms of try_read read the same parts, and refuse alike.
+// Both forms of try_read read the same parts, and reject alike.
 void reads() {
   const auto polygon = spelled("01030000000200000001000000000000000000f03f000000000000004000000000");
   const auto is_right = [](const std::optional<wkb::part> &whole) {
@@ -116,7 +116,7 @@ void columns() {
 #ifdef _WIN32
 void refused_memory() {}  // there is no fork
 #else
-// Whether a call ends its process by std::terminate where it gets no memory.
+// Whether a call ends its process by std::terminate where it fails to allocate.
 bool ends_without_memory(auto call) {
   constexpr int TERMINATED = 77;
   std::fflush(stdout);

@@ -39,7 +39,7 @@ static void call_for_one(results *r, const uint8_t *bytes, size_t len) {
   for (int i = 0; i < 5; i++) wkb_fault_text(&r->faults[i], r->texts[i], WKB_FAULT_TEXT_ROOM);
 }
 
-/* All rows of a column, of which one refuses the whole, and the first ones in turn that are accepted. */
+/* All rows of a column, of which one rejects the whole, and the first ones in turn that are accepted. */
 static void collect(results *r, wkb_column column) {
   const wkb_kind kind = WKB_KIND_GEOMETRY_COLLECTION;
   size_t first = 0, end;
@@ -127,7 +127,7 @@ static void calls_run_in_a_handler(void) {
   expect(wrong == 0, "the results of calls in a handler", "");
 }
 
-/* Calls and asks for memory all the time. */
+/* Calls and allocates all the time. */
 static void *call_often(void *own) {
   while (!is_over) {
     if (!all_return_the_same(OTHERS, own)) wrong++;

@@ -20,7 +20,7 @@ typedef struct worked {
 #define BAD WKB_STATUS_BAD_LEVELS
 
 static const worked WORKED[] = {
-    /* No ends: a point each. Of not-a-numbers it is empty, and they are written as they are. */
+    /* No ends: a point each. Of NaNs it is empty, and they are written as they are. */
     {"WX NN 010000000000f87f N YZ", WKB_KIND_POINT, WKB_DIM_XY, 4, 4, 4, NULL, NULL, NULL,
      {"01 01000000 WX", "01 01000000 NN", "01 01000000 010000000000f87f N", "01 01000000 YZ"}, {OK, OK, OK, OK}},
     /* Ends of rings alone; no coordinates are an empty line string. The last but one ends before it begins. */

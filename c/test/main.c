@@ -1,7 +1,7 @@
-/* Tries each call on worked cases, and what no proof of the library sees: that no byte after the input is read, that a
- * refusal leaves its outputs, that null may be given for what is empty or unwanted, and that calls may run at the same
- * time, in handlers of signals and in forked children, take little stack and ask for no memory. checks/library/run compares what
- * this prints with expected. */
+/* Tries each call on worked cases, and tests facts that no proof covers: that no byte after the input is read, that an
+ * error leaves its outputs, that null may be given for an empty or unwanted buffer, and that calls may run at the same
+ * time, in signal handlers and in forked children, take little stack and don't allocate. checks/library/run compares
+ * the output with expected. */
 #include "shared.h"
 
 int main(int count, char **words) {
@@ -29,7 +29,7 @@ int main(int count, char **words) {
   nothing_is_read_after_the_input();
   printf("no byte after the input is read, and refusals leave their outputs\n");
   no_memory_is_asked_for();
-  printf("no call asks for memory\n");
+  printf("no call allocates\n");
   little_stack_is_taken();
   printf("calls take little stack\n");
   calls_run_at_the_same_time();

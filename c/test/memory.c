@@ -1,4 +1,4 @@
-/* No call asks for memory: not for accepted inputs, for refused ones, for many parts or deep ones, nor for columns. */
+/* No call allocates: not for accepted inputs, for rejected ones, for many parts or deep ones, nor for columns. */
 #include "shared.h"
 
 enum { PART_COUNT = 10000, DEPTH = 128, LEN_MOST = 9 + 30 * PART_COUNT };

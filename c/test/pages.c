@@ -2,7 +2,7 @@
 #include "shared.h"
 #include <pthread.h>
 
-/* An input that is cut off, so that it ends where the page does, is refused by all calls alike. */
+/* An input that is cut off, so that it ends where the page does, is rejected by all calls alike. */
 static void cut_is_refused(const answer *a, const uint8_t *bytes, size_t len, uint8_t *page_end, size_t cut) {
   uint8_t *start = page_end - cut, out[128];
   wkb_fault fault, again[4];

@@ -14,10 +14,10 @@ extern _Atomic size_t asks;
 void expect(bool holds, const char *what, const char *where);
 
 /* The bytes that a text spells in hex, and how many there are. A capital letter stands for a word in little endian:
- * W, X, Y and Z for 1, 2, 3 and 4, N for a not-a-number, I and J for the infinities, O and M for 0 and -0. P is WX. */
+ * W, X, Y and Z for 1, 2, 3 and 4, N for a NaN, I and J for the infinities, O and M for 0 and -0. P is WX. */
 size_t spelled(const char *text, uint8_t *bytes);
 
-/* An input, and what wkb_check returns: of an accepted one what is found, of a refused one its fault. */
+/* An input, and what wkb_check returns: of an accepted one what is found, of a rejected one its fault. */
 typedef struct answer {
   const char *input;
   wkb_status status;

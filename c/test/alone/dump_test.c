@@ -1,5 +1,5 @@
 /* The dump over worked cases, whose lines are in test/dump.cases; and over random inputs, of which half are broken: its
- * walk ends at the part and the byte that wkb_check refuses, or at the size that it finds, and it puts no more lines
+ * walk ends at the part and the byte that wkb_check rejects, or at the size that it finds, and it puts no more lines
  * than its options say. With a seed and a number it tries so many random inputs. */
 #include "../../wkb_dump.h"
 #include "../generated.h"
@@ -102,7 +102,7 @@ static int try_cases(void) {
   return tried;
 }
 
-/* Texts and the bytes that they are, in hex; NULL where they are no hex. */
+/* Texts and the bytes that they are, in hex; NULL if they are no hex. */
 static void try_hex(void) {
   static const struct { const char *text, *bytes; } TEXTS[] = {
       {"", ""}, {" \n", ""}, {"0x", ""}, {"\\x0aF0", "0af0"}, {"0XfF 00\r\n01\t", "ff0001"}, {" \n0x01", "01"},
