@@ -39,5 +39,5 @@ def geometry(kind, dimension=0, order="<", form=1000):
 
 
 def flat(numbers):
-    """Numbers as text, since a not-a-number isn't equal to itself."""
+    """Numbers as text, since a NaN isn't equal to itself."""
     return " ".join(repr(float(number)) for number in memoryview(numbers).cast("B").cast("d"))

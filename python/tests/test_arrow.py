@@ -95,7 +95,7 @@ class FromArrow(unittest.TestCase):
         self.assertRaises(ValueError, Column.from_arrow, wrong)
 
     def test_refused_and_released(self):
-        """A struct that is refused is released like another, and no struct twice."""
+        """A struct that is rejected is released like another, and no struct twice."""
         for take in (Column.from_arrow, lambda it: list(Column.chunks_from_arrow(Stream(it, [it])))):
             for wrong in (Arrow(n_buffers=2), Arrow(offset=-1), Arrow(n_children=1), Arrow(buffers=[None] * 3)):
                 self.assertRaises(ValueError, take, wrong)

@@ -67,7 +67,7 @@ def items_of(schema, it):
 
 
 def extension_of(schema):
-    """The name of an extension in a type's metadata; None where it has none."""
+    """The name of an extension in a type's metadata; None if it has none."""
     at = ctypes.c_void_p.from_address(ctypes.addressof(schema) + Schema.metadata.offset).value
     if not at:
         return None
@@ -143,7 +143,7 @@ class RowsOfBytes(unittest.TestCase):
 
 class Encodings(unittest.TestCase):
     def test_rows(self):
-        """Null and refused rows are null, and the offsets have the size that is asked for."""
+        """Null and rejected rows are null, and the offsets have the size that is asked for."""
         for asked, form in ((None, "Z"), (b"Z", "Z"), (b"z", "z"), (b"u", "Z")):
             for rows, expected in (([POINT, b"", None, POLYGON], [POINT, None, None, ISO_POLYGON]),
                                    ([POINT, POINT], [POINT, POINT]), ([], []), ([None] * 9, [None] * 9)):
@@ -399,7 +399,7 @@ class Tried(unittest.TestCase):
         self.assertRaisesRegex(ValueError, "from 0 to 4294967295", wkb.write, POINT, srid=-1)
 
     def test_hexadecimal(self):
-        """PostGIS's text is refused by errors that say what to call."""
+        """PostGIS's text is rejected by errors that say what to call."""
         for text in (POINT.hex(), POLYGON.hex().upper(), LINE_WITH_Z.hex(), LINE_WITH_Z.hex().upper()):
             for call in (wkb.check, wkb.bounds, wkb.write, wkb.parts, lambda it: wkb.same(POINT, it)):
                 self.assertRaisesRegex(TypeError, "bytes.fromhex", call, text)

@@ -94,7 +94,7 @@ class Buffers(unittest.TestCase):
             self.assertRaises(TypeError, wkb.check, wrong)
 
     def test_no_byte_after(self):
-        """A refused length is that of the buffer, whatever lies after it in memory."""
+        """A rejected length is that of the buffer, whatever lies after it in memory."""
         data = memoryview(POINT + POINT)[:20]
         with self.assertRaises(Refused) as raised:
             wkb.check(data)

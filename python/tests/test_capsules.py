@@ -1,4 +1,4 @@
-"""Capsules of Arrow with structs that can't be right, each refused by an error, and odd ones that are right.
+"""Capsules of Arrow with structs that can't be right, each rejected by an error, and odd ones that are right.
 
 This file is also the program that takes them, in a process of its own, so that a crash is seen and named. Each buffer
 and each list of pointers ends where a page begins that can't be read.

@@ -291,7 +291,7 @@ class ManyFiles(unittest.TestCase):
                 duplicates.append([name, str(i), *first])
 
     def expected(self, name, i, row, refused):
-        """The key, the status and the bounds of a row; a line in addition, where it is refused."""
+        """The key, the status and the bounds of a row; a line in addition, where it is rejected."""
         nothing = [(float("inf"), float("-inf"), 0)] * 4
         if row is None:
             return b"", wkb.Status.NULL_ROW, nothing

@@ -26,7 +26,7 @@ class Found(unittest.TestCase):
         point = wkb.Found(21, 1, 1, 5, 1, None, Kind.POINT, Dimension.XY, Order.LITTLE)
         polygon = wkb.Found(33, 2, 1, 13, 1, 4326, Kind.POLYGON, Dimension.XY, Order.BIG)
         self.assertEqual((found[0], found[3], len(found)), (point, polygon, 5))
-        self.assertEqual(bytes(found._memory[64:192]), bytes(128))  # null and refused rows are zeros
+        self.assertEqual(bytes(found._memory[64:192]), bytes(128))  # null and rejected rows are zeros
 
     def test_each(self):
         """Each kind, dimension, order and form, and an SRID that needs 32 bits."""
@@ -151,7 +151,7 @@ class GeoParquet(unittest.TestCase):
             self.assertRaisesRegex(ValueError, expected, wkb.geoparquet, column)
 
     def test_bad_rows(self):
-        """Offsets that fall are refused, and read nothing."""
+        """Offsets that fall are rejected, and read nothing."""
         source = Arrow(rows=[POINT, POINT])
         column = Column.from_arrow(source)
         column._offsets = memoryview(struct.pack("=3i", 0, 42, 21)).cast("i")

@@ -1,6 +1,6 @@
-"""References and memory: none is lost by calls that are made again and again, and each allocation is refused in turn.
+"""References and memory: none is lost by calls that are made again and again, and each allocation fails in turn.
 
-This file is also the program that refuses, in a process of its own, so that a crash is seen.
+This file is also the program that rejects, in a process of its own, so that a crash is seen.
 """
 import array
 import contextlib
@@ -174,8 +174,8 @@ def refuse_each(make, call):
             return count
 
 
-# What is tried with refused memory. The stream that fails here has callbacks of ctypes, which return any address as the
-# text of an error where they get no memory.
+# The calls that are tried with failing allocations. The stream that fails here has callbacks of ctypes, which return
+# any address as the text of an error if they fail to allocate.
 REFUSED = {name: of for name, of in ALL.items() if name != "a stream that fails"}
 
 

@@ -128,7 +128,7 @@ class Inside(unittest.TestCase):
 
 class OtherProcesses(unittest.TestCase):
     def test_pool(self):
-        """A refused row raises its error here, and the pool goes on."""
+        """A rejected row raises its error here, and the pool goes on."""
         with concurrent.futures.ProcessPoolExecutor(1) as pool:
             jobs = [pool.submit(wkb.check, data) for data in (POINT, b"\2", POLYGON)]
             self.assertEqual((jobs[0].result(), jobs[2].result()), (wkb.check(POINT), wkb.check(POLYGON)))

@@ -1,4 +1,4 @@
-"""Calls that a checker of types must refuse: `mypy --strict` passes this file only where it refuses each such line."""
+"""Calls that a checker of types must reject: `mypy --strict` passes this file only where it rejects each such line."""
 import array
 import mmap
 from typing import Any, List, Optional, Tuple
@@ -28,7 +28,7 @@ class Stream:
 
 
 def wrong(part: wkb.Part, column: wkb.Column) -> None:
-    """Each line is refused."""
+    """Each line is rejected."""
     wkb.check("text")  # type: ignore[arg-type]
     wkb.check(5)  # type: ignore[arg-type]
     wkb.check(None)  # type: ignore[arg-type]
@@ -55,7 +55,7 @@ def wrong(part: wkb.Part, column: wkb.Column) -> None:
 
 
 def right(data: bytes, mapped: mmap.mmap, rows: List[Optional[bytes]]) -> List[wkb.Found]:
-    """No line is refused."""
+    """No line is rejected."""
     wkb.Column(memoryview(data), array.array("q"), bytearray(data))
     wkb.Column.of(rows)
     wkb.Column.from_arrow(Arrow())

@@ -13,7 +13,7 @@ static PyObject *changed(PyObject *made) {
   return PyErr_Format(PyExc_RuntimeError, "the input has changed during the call");
 }
 
-/* What is at the front of the bytes, or its bounds. */
+/* What is at the start of the bytes, or its bounds. */
 static PyObject *read_one(state *s, PyObject *data, int for_bounds) {
   holds h;
   span in;
@@ -181,7 +181,7 @@ static PyObject *list_of(const void *data, const wkb_part *part) {
   return list;
 }
 
-/* The coordinates of a part, or the bytes where they begin and end; None where the data has no such part. */
+/* The coordinates of a part, or the bytes where they begin and end; None if the data has no such part. */
 static PyObject *read_part_of(state *s, PyObject *const *args, Py_ssize_t count, int for_place) {
   holds h;
   span in;

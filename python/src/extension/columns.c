@@ -76,7 +76,7 @@ static size_t kinds_of(const wkb_column *column, const uint8_t *statuses) {
 }
 
 /* A call for a column of rows, with memory for a result, for offsets that begin with 0, and for statuses. A collection
- * of a kind and a dimension has a fault in the place of offsets, with its status, and returns the row that is refused.
+ * of a kind and a dimension has a fault in the place of offsets, with its status, and returns the row that is rejected.
  */
 enum { CHECK, BOUNDS, PARTS, WRITE, ROOM, ROW_KINDS, COLLECT, FIND };
 static size_t run(int call, const wkb_column *column, const wkb_options *options, const span *out, const uint32_t *of) {

@@ -59,7 +59,7 @@ static PyObject *join(PyObject *module, PyObject *rows) {
   return result;
 }
 
-/* split(data, offsets, statuses, first, end): a list of these rows as bytes, None where the status is not 0. */
+/* split(data, offsets, statuses, first, end): a list of these rows as bytes, None if the status is not 0. */
 static PyObject *split(PyObject *module, PyObject *args) {
   PyObject *given[3], *rows = NULL;
   Py_ssize_t first, end;

@@ -3,7 +3,7 @@
 
 The package itself is tested, and not proved. It needs CPython 3.11 or later.
 
-One geometry, at the front of a blob::
+One geometry, at the start of a blob::
 
     check(blob)                     Found: its kind, dimension, SRID, size; raises Refused if it isn't a geometry
     bounds(blob)                    Box: x, y, z and m, each with least, greatest and count
@@ -12,7 +12,7 @@ One geometry, at the front of a blob::
     parts(blob)                     Table of Part: itself, and its rings and members, in preorder
     coordinates(blob, part)         a list of tuples, for a point, a line string or a ring
     view(blob, part)                a numpy array over the blob's own memory, for the same
-    dump(blob[, items, lines])      what the bytes say, line by line, and where they are refused
+    dump(blob[, items, lines])      what the bytes say, line by line, and where they are rejected
 
 A column of geometries, in one piece of memory as Arrow has it::
 
@@ -41,7 +41,7 @@ Records are Found, Fault, Part, Range and Box: frozen, compared by value, good a
 Box, and becomes a structured array by numpy.asarray. The column calls return ColumnFound, ColumnBounds, ColumnParts,
 ColumnEncodings and ColumnCoordinates, which are compared as a whole, and Facts; geoparquet returns a GeoParquet.
 Bounds, encodings and coordinates are arrays for packages of Arrow, and `rows` of ColumnEncodings is a sequence of bytes
-and None. Refused is a ValueError with `status`, `fault`, the part that is refused, and of a collection `row`, its
+and None. Refused is a ValueError with `status`, `fault`, the part that is rejected, and of a collection `row`, its
 index.
 
 A blob is anything with the buffer protocol. A call holds its buffer until it returns or raises, and no longer; only

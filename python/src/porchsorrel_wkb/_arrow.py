@@ -56,7 +56,7 @@ class Array(NamedTuple):
     capsule: Any
 
     def buffer(self, place: int, size: int) -> Optional[memoryview]:
-        """Return so many bytes of a buffer, which are there as long as the capsule lives; None where there is none."""
+        """Return so many bytes of a buffer, which are there as long as the capsule lives; None if there is none."""
         return _wkb.array_buffer(self.capsule, place, size)
 
 
@@ -78,7 +78,7 @@ SCHEMA, ARRAY, STREAM = range(3)
 OFFSET_SIZES = {b"z": 4, b"Z": 8, b"vz": 0}
 # A view has so many bytes. A row of up to SHORT bytes is in the view itself; of a longer one it says where it is.
 VIEW_SIZE, SHORT = 16, 12
-# Views number buffers by signed numbers of 32 bits, and Arrow's libraries do so with children.
+# Views number buffers by signed 32-bit integers, and Arrow's libraries do so with children.
 MOST_PARTS = 2**31 - 1
 # How many buffers an array has: validity; offsets and data; or views, any number of buffers, and their sizes.
 OF_RECORDS, OF_OFFSETS, OF_VIEWS = range(1, 2), range(3, 4), range(3, MOST_PARTS)
@@ -93,7 +93,7 @@ MOST_COPIES = 16
 class _Column(NamedTuple):
     """Where the column is in an array, and what it is."""
 
-    child: Optional[int]  # of the array's own children; None where it is the array itself
+    child: Optional[int]  # of the array's own children; None if it is the array itself
     children: int  # how many these are
     offset_size: int
     metadata: Optional[bytes]

@@ -13,7 +13,7 @@ ISO, WITH_SRID = Form.ISO, Form.EWKB_WITH_SRID
 
 
 class Refused(ValueError):
-    """Some bytes are refused. It can be pickled."""
+    """Some bytes are rejected. It can be pickled."""
 
     if TYPE_CHECKING:  # what it is made of is in `args`
 
@@ -21,13 +21,13 @@ class Refused(ValueError):
 
     @property
     def fault(self) -> Fault:
-        """The part that is refused, and why."""
+        """The part that is rejected, and why."""
         fault: Fault = self.args[0]
         return fault
 
     @property
     def which(self) -> int:
-        """The input that is refused: 1, or 2 for the second one of `same`."""
+        """The input that is rejected: 1, or 2 for the second one of `same`."""
         return int(self.args[1])
 
     @property
@@ -41,13 +41,13 @@ class Refused(ValueError):
 
     @property
     def row(self) -> Optional[int]:
-        """The row of a column that is no member of a collection; None where there is no column."""
+        """The row of a column that is no member of a collection; None if there is no column."""
         row: Optional[int] = self.args[4] if len(self.args) > 4 else None
         return row
 
     @property
     def status(self) -> Status:
-        """Why the bytes are refused."""
+        """Why the bytes are rejected."""
         return self.fault.status
 
     def __str__(self) -> str:
@@ -57,12 +57,12 @@ class Refused(ValueError):
 
 
 def check(data: Buffer) -> Found:
-    """Return what is at the front of the bytes. Raise `Refused` if it isn't a geometry."""
+    """Return what is at the start of the bytes. Raise `Refused` if it isn't a geometry."""
     return _wkb.check(data)
 
 
 def bounds(data: Buffer) -> Box:
-    """Return the bounds of the geometry at the front of the bytes."""
+    """Return the bounds of the geometry at the start of the bytes."""
     return _wkb.bounds(data)
 
 
@@ -90,7 +90,7 @@ _wkb.give(
 def write(
     data: Buffer, order: Order = Order.LITTLE, form: Optional[Form] = None, srid: Optional[int] = None
 ) -> bytes:
-    """Return the one encoding of the geometry at the front of the bytes, in this order and form.
+    """Return the one encoding of the geometry at the start of the bytes, in this order and form.
 
     Without a form it is ISO, or with an SRID EWKB. The SRID is that of `Form.EWKB_WITH_SRID`, which needs one; no other
     form takes one. With the default options, two geometries of one value have the same encoding, whatever their byte
@@ -105,7 +105,7 @@ def same(first: Buffer, second: Buffer) -> bool:
 
 
 def parts(data: Buffer) -> Table[Part]:
-    """Return the parts of the geometry at the front of the bytes, in preorder: itself, and its rings and members."""
+    """Return the parts of the geometry at the start of the bytes, in preorder: itself, and its rings and members."""
     return Table(Part, _wkb.parts(data))
 
 

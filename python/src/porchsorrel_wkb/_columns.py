@@ -61,7 +61,7 @@ class Column:
 
     `data` has the bytes of all rows. Row i has those from offsets[i] up to offsets[i + 1], for signed 32-bit or 64-bit
     offsets, or unsigned 64-bit ones. Where the offsets are raw bytes, `offset_size` says how many bytes one has, 4 or
-    8. `validity` has a bit for each row, from the lowest of a byte on, 0 for a null row; None where no row is null.
+    8. `validity` is the validity bitmap, least significant bit first, 0 for null; None if no row is null.
     `first` and `rows` pick some rows, counted in offsets and in bits alike; without `rows`, all from `first` on.
 
     Each of the three is any object with the buffer protocol. The column keeps the objects, and holds their buffers
@@ -176,7 +176,7 @@ class Column:
 
     @property
     def metadata(self) -> Optional[str]:
-        """What GeoArrow's types say of the rows, as JSON: `{"crs": .., "edges": ..}`. None where nothing is said.
+        """What GeoArrow's types say of the rows, as JSON: `{"crs": .., "edges": ..}`. None if nothing is said.
 
         It comes with an array of such a type, or with the CRS of a column of geopandas, may be set, and goes out with
         the results that have types of GeoArrow.
@@ -208,7 +208,7 @@ class Column:
         return ColumnBounds._made(statuses, Table(Box, boxes), _metadata=self._metadata)
 
     def found(self) -> ColumnFound:
-        """Return what is at the front of each row: kind, dimension, SRID, byte order, size and counts."""
+        """Return what is at the start of each row: kind, dimension, SRID, byte order, size and counts."""
         statuses, table = new_numbers("u1", self._rows), new_numbers("u1", self._rows * Found.LAYOUT.size)
         _wkb.column(FIND, self._arguments(), NO_OPTIONS, (table, None, statuses))
         return ColumnFound(statuses, Table(Found, table))

@@ -7,7 +7,7 @@ from typing import Any
 class Status(enum.IntEnum):
     """What a call returns, and what became of a row of a column. `status_text` returns what a status says.
 
-    From 1 on it is what a call couldn't do, from 16 on what is wrong with a row, and from 32 on why bytes are refused
+    From 1 on it is what a call couldn't do, from 16 on what is wrong with a row, and from 32 on why bytes are rejected
     (`is_refusal`). A library of a later version may have more of each: such a status is named by its number.
     """
 
@@ -42,7 +42,7 @@ class Status(enum.IntEnum):
 
 
 def is_refusal(status: Any) -> Any:
-    """Return whether a status says that the bytes are refused; of a numpy array of statuses, which of them do."""
+    """Return whether a status says that the bytes are rejected; of a numpy array of statuses, which of them do."""
     return status >= 32
 
 

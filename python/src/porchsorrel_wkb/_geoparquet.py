@@ -36,7 +36,7 @@ def geoparquet(column: Column, name: str = "geometry", covering: Optional[str] =
 
     `covering` is the name of a second column, of the bounds of each row. The CRS is that of `column.metadata`; where
     that has none, the file says that none is known. A null row counts as none. Raise `ValueError` where the file would
-    not be GeoParquet: a row is refused, has an m, is EWKB or has bytes behind its geometry, or the CRS isn't PROJJSON.
+    not be GeoParquet: a row is rejected, has an m, is EWKB or has bytes behind its geometry, or the CRS isn't PROJJSON.
     """
     facts = column.facts()
     _expect_rows(column, facts)

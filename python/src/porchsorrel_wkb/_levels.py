@@ -99,7 +99,7 @@ def column_from_coordinates(
 
     In the place of all these, `coordinates` may be an Arrow array of GeoArrow's type for the kind, or a slice of one:
     any object with the method `__arrow_c_array__`. Coordinates that are interleaved are not copied, nor are offsets of
-    64 bits that begin with 0. It is refused as `Column.from_arrow` refuses arrays.
+    64 bits that begin with 0. It is rejected as `Column.from_arrow` rejects arrays.
 
     No row stops the call: where the offsets don't fit the kind or each other, the row is BAD_LEVELS and has no bytes.
     `Column(it.data, it.offsets, validity)` is a column of the result. It has no SRIDs but `srid`.

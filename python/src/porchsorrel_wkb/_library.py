@@ -13,10 +13,10 @@ def version() -> Tuple[int, int, int]:
 
 
 def dump(data: Buffer, items: int = 3, lines: int = 1000) -> str:
-    """Return what the bytes of a geometry say, line by line, and where and why they are refused, if they are.
+    """Return what the bytes of a geometry say, line by line, and where and why they are rejected, if they are.
 
     The bytes may have the header of a GeoPackage's blob before the geometry. Of a longer list so many coordinates,
-    rings or members are shown, and after so many lines only what leads to the refused part, and the end; 0 is all.
+    rings or members are shown, and after so many lines only what leads to the rejected part, and the end; 0 is all.
     `python -m porchsorrel_wkb` prints the same of a file or of hexadecimal text.
     """
     if not 0 <= items < 2**32 or not 0 <= lines < 2**64:

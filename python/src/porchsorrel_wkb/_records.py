@@ -47,21 +47,21 @@ class _Values:
 
     @classmethod
     def _read(cls: Type[Self], memory: Buffer) -> Self:
-        """Return the struct at the front of the memory."""
+        """Return the struct at the start of the memory."""
         record: Self = _wkb.read_record(cls, memory, 0)
         return record
 
 
 @dataclass(frozen=True)
 class Found(_wkb.FoundValues, _Values):
-    """The geometry at the front of some bytes.
+    """The geometry at the start of some bytes.
 
     :ivar size: how many bytes it has; the bytes after them were not looked at
     :ivar parts: how many parts it has: itself, and its rings and members at every level
     :ivar coordinates: how many all parts have; each point has one, an empty point one of NaNs
     :ivar offset: the byte where its own coordinates, rings or members begin
     :ivar count: how many of these it has; a point has one coordinate
-    :ivar srid: the SRID of EWKB; None where there is none
+    :ivar srid: the SRID of EWKB; None if there is none
     :ivar kind: the kind, a `Kind`
     :ivar dimension: the dimension, a `Dimension`
     :ivar order: the byte order, an `Order`
@@ -85,14 +85,14 @@ class Found(_wkb.FoundValues, _Values):
 
 @dataclass(frozen=True)
 class Fault(_wkb.FaultValues, _Values):
-    """The part that is refused, and why.
+    """The part that is rejected, and why.
 
     :ivar part: how many parts come before it, in preorder: 0 is the whole geometry
     :ivar offset: the byte where it begins, counted from the front of the input
     :ivar end: of a status from 48 on: how many bytes it needs; else 0
     :ivar len: of a status from 48 on: how many bytes there are, from its own first one on; else 0
     :ivar code: of CODE_OUT_OF_RANGE: all bits of the code; else 0
-    :ivar status: why it is refused, a `Status`
+    :ivar status: why it is rejected, a `Status`
     """
 
     __slots__ = ()
@@ -117,7 +117,7 @@ class Part(_wkb.PartValues, _Values):
     :ivar offset: the byte where its coordinates, rings or members begin
     :ivar count: how many of these it has; a point has one coordinate, an empty point one of NaNs
     :ivar next: the index of the part after its own rings and members
-    :ivar srid: the SRID of EWKB; None where there is none
+    :ivar srid: the SRID of EWKB; None if there is none
     :ivar kind: the kind, a `Kind`
     :ivar dimension: the dimension, a `Dimension`
     :ivar order: the byte order, an `Order`

@@ -61,10 +61,10 @@ class _Bounds(NamedTuple):
 
 
 class ColumnBounds(_Result, _Bounds):  # type: ignore[misc]
-    """The bounds of each row; those of a row that is refused have no numbers.
+    """The bounds of each row; those of a row that is rejected have no numbers.
 
     Arrow's packages take this object as an array of type geoarrow.box: records of xmin, ymin, xmax and ymax, also of
-    zmin, mmin, zmax and mmax where a row has a z or an m. A row that is null or refused is null, and one without
+    zmin, mmin, zmax and mmax where a row has a z or an m. A row that is null or rejected is null, and one without
     coordinates has infinity as its least numbers, and minus infinity as its greatest ones.
 
     :ivar statuses: a `Status` for each row
@@ -84,7 +84,7 @@ class _Found(NamedTuple):
 
 
 class ColumnFound(_Result, _Found):  # type: ignore[misc]
-    """What is at the front of each row. Of a row that is null or refused all numbers are 0.
+    """What is at the start of each row. Of a row that is null or rejected all numbers are 0.
 
     :ivar statuses: a `Status` for each row
     :ivar found: a table with a `Found` for each row; `numpy.asarray` makes it a structured array
@@ -96,7 +96,7 @@ class Facts(NamedTuple):
 
     :ivar rows: how many there are
     :ivar nulls: how many of them are null
-    :ivar refused: how many are refused, or have bad offsets
+    :ivar refused: how many are rejected, or have bad offsets
     :ivar types: the kinds that occur, each with its dimension
     :ivar srids: the SRIDs that occur; None for rows without one
     :ivar box: the bounds of all rows
@@ -167,7 +167,7 @@ class _Encodings(NamedTuple):
 
 
 class ColumnEncodings(_Result, _Encodings):  # type: ignore[misc]
-    """The encodings of all rows, that of row i from offsets[i] up to offsets[i + 1]; none where the row is refused.
+    """The encodings of all rows, that of row i from offsets[i] up to offsets[i + 1]; none where the row is rejected.
 
     `rows` is a sequence of them. Arrow's packages take this object as an array of large binary without a copy, or of
     binary where they ask for that and it fits, in which a row without an encoding is null. It is one of type
@@ -220,7 +220,7 @@ class ColumnCoordinates(_Result, _Coordinates):  # type: ignore[misc]
     where they ask for large lists or 32 don't do. That of `separated()`, or where they ask for records, has records of
     x and y in their place. Where all rows have one kind, from point to multi polygon, the type is GeoArrow's
     (geoarrow.point and so on), with the metadata of the column, else three lists in one another without a name. A row
-    that is null or refused is null.
+    that is null or rejected is null.
 
     :ivar statuses: a `Status` for each row
     :ivar row_offsets: in singles

@@ -29,7 +29,7 @@ def _bytes_of_row(i: int, row: Any) -> bytes:
 
 
 def bits_of(flags: List[bool]) -> Optional[bytes]:
-    """Return a bit for each flag, from the lowest of a byte on; None where all are set."""
+    """Return a bitmap of the flags, least significant bit first; None if all are set."""
     if all(flags):
         return None
     digits = "".join("1" if flag else "0" for flag in reversed(flags))
