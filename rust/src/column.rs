@@ -66,7 +66,7 @@ impl Encodings {
 /// | multi polygons | `rows`; `singles`; `rings` |
 ///
 /// A row whose status isn't OK is null and has an empty list. Points have no lists: there a null row takes a coordinate
-/// too, of not-a-numbers.
+/// too, of NaNs.
 ///
 /// ```
 /// use porchsorrel_wkb::{Dimension, Rows};
@@ -114,7 +114,7 @@ impl<'a> Column<'a> {
     }
 
     /// The same column with a bit a row, from the lowest of a byte on, 0 for a null row. The first row's bit is
-    /// `first`. None where there are fewer bits than rows.
+    /// `first`. None if there are fewer bits than rows.
     #[must_use]
     pub fn with_validity(self, bits: &'a [u8], first: usize) -> Option<Self> {
         let needed = first.checked_add(self.rows())?;
@@ -233,7 +233,7 @@ impl<'a> Column<'a> {
     }
 
     /// The coordinates of each row. Words that the dimension doesn't name are left out, and a word that a geometry
-    /// doesn't have is a not-a-number.
+    /// doesn't have is a NaN.
     #[must_use]
     pub fn coordinates(&self, dimension: Dimension) -> Coordinates {
         let (mut row_ends, mut statuses) = (vec![0; self.rows()], vec![0; self.rows()]);

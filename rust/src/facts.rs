@@ -50,7 +50,7 @@ pub struct Facts {
     pub accepted: usize,
     /// How many are null.
     pub null_rows: usize,
-    /// How many are refused for their bytes. The rest has bad offsets.
+    /// How many are rejected for their bytes. The rest has bad offsets.
     pub refused: usize,
     /// How many rows are of each kind and dimension that occurs.
     pub kinds: BTreeMap<(Kind, Dimension), usize>,

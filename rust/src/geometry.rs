@@ -48,7 +48,7 @@ impl Part {
         (self.has_srid == 1).then_some(self.srid)
     }
 
-    /// How many coordinates, rings or members it has. A point has one coordinate, an empty point one of not-a-numbers.
+    /// How many coordinates, rings or members it has. A point has one coordinate, an empty point one of NaNs.
     #[must_use]
     pub fn count(&self) -> usize {
         self.count as usize
@@ -108,11 +108,11 @@ pub struct Reader {
 }
 
 impl Reader {
-    /// The geometry at the front of an input. The bytes after it are not looked at.
+    /// The geometry at the start of an input. The bytes after it are not looked at.
     ///
     /// # Errors
     ///
-    /// As [`check`] refuses the input.
+    /// As [`check`] rejects the input.
     pub fn read<'b>(&mut self, bytes: &'b [u8]) -> Result<Geometry<'_, 'b>, Refused> {
         self.table.clear();
         let found = check(bytes)?;
@@ -124,7 +124,7 @@ impl Reader {
         Ok(Geometry { bytes, parts: &self.table })
     }
 
-    /// The table of the parts of the input that was read last, or none if that was refused.
+    /// The table of the parts of the input that was read last, or none if that was rejected.
     #[must_use]
     pub fn parts(&self) -> &[Part] {
         &self.table

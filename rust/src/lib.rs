@@ -27,14 +27,14 @@ pub use types::{Bounds, Dimension, Form, Kind, Options, Order, Range};
 use alloc::vec::Vec;
 use core::fmt;
 
-/// The geometry at the front of an input.
+/// The geometry at the start of an input.
 #[derive(Clone, Copy, Debug, Eq, PartialEq)]
 pub struct Found {
     /// How many bytes it has; those after them were not looked at.
     pub size: usize,
     /// How many parts: itself, and its rings and members at every level.
     pub parts: usize,
-    /// How many coordinates these have; each point has one, an empty point one of not-a-numbers.
+    /// How many coordinates these have; each point has one, an empty point one of NaNs.
     pub coordinates: usize,
     /// Where its own coordinates, rings or members begin.
     pub offset: usize,
@@ -73,7 +73,7 @@ pub fn version() -> u32 {
     unsafe { raw::wkb_version() }
 }
 
-/// Whether a geometry of the grammar is at the front of the input, with at most 128 collections inside one another.
+/// Whether a geometry of the grammar is at the start of the input, with at most 128 collections inside one another.
 /// Nothing is allocated.
 ///
 /// # Errors
@@ -94,7 +94,7 @@ pub fn check(bytes: &[u8]) -> Result<Found, Refused> {
 ///
 /// # Errors
 ///
-/// As [`check`] refuses the input.
+/// As [`check`] rejects the input.
 pub fn bounds(bytes: &[u8]) -> Result<Bounds, Refused> {
     let (mut bounds, mut fault) = (Bounds::EMPTY, raw::Fault::default());
     // SAFETY: the input is `bytes`.
@@ -110,18 +110,18 @@ pub fn bounds(bytes: &[u8]) -> Result<Bounds, Refused> {
 ///
 /// # Errors
 ///
-/// As [`check`] refuses the input.
+/// As [`check`] rejects the input.
 pub fn write(bytes: &[u8], options: &Options) -> Result<Vec<u8>, Refused> {
     let mut out = Vec::new();
     write_into(bytes, options, &mut out)?;
     Ok(out)
 }
 
-/// The same in a vector that keeps its memory. Of a refused input nothing is left in it.
+/// The same in a vector that keeps its memory. Of a rejected input nothing is left in it.
 ///
 /// # Errors
 ///
-/// As [`check`] refuses the input.
+/// As [`check`] rejects the input.
 pub fn write_into(bytes: &[u8], options: &Options, out: &mut Vec<u8>) -> Result<(), Refused> {
     out.clear();
     // An encoding is at most four bytes longer than its input.
@@ -143,12 +143,12 @@ pub fn write_into(bytes: &[u8], options: &Options, out: &mut Vec<u8>) -> Result<
     }
 }
 
-/// Which input of [`same`] is refused, and why.
+/// Which input of [`same`] is rejected, and why.
 #[derive(Clone, Copy, Debug, Eq, PartialEq)]
 pub enum RefusedInput {
-    /// The first one is refused, whatever the second is.
+    /// The first one is rejected, whatever the second is.
     First(Refused),
-    /// The first one is a geometry, and the second one is refused.
+    /// The first one is a geometry, and the second one is rejected.
     Second(Refused),
 }
 
@@ -169,7 +169,7 @@ impl std::error::Error for RefusedInput {}
 ///
 /// # Errors
 ///
-/// As [`check`] refuses the first input, or else the second.
+/// As [`check`] rejects the first input, or else the second.
 pub fn same(a: &[u8], b: &[u8]) -> Result<bool, RefusedInput> {
     let (mut equal, mut which, mut fault) = (0, 0, raw::Fault::default());
     let (first, second) = (a.as_ptr().cast(), b.as_ptr().cast());

@@ -1,5 +1,5 @@
 // SPDX-License-Identifier: MIT OR Apache-2.0
-//! Why an input is refused, and what became of the rows of a column.
+//! Why an input is rejected, and what became of the rows of a column.
 use crate::raw;
 use alloc::vec::Vec;
 use core::fmt;
@@ -64,7 +64,7 @@ impl Status {
         self == Status::OK
     }
 
-    /// Whether the input is refused.
+    /// Whether the input is rejected.
     #[must_use]
     pub fn is_refusal(self) -> bool {
         self.0 >= 32
@@ -106,9 +106,9 @@ impl fmt::Display for Status {
 pub struct Refused {
     /// What is wrong.
     pub status: Status,
-    /// How many parts come before the refused one, in preorder: 0 is the whole geometry.
+    /// How many parts come before the rejected one, in preorder: 0 is the whole geometry.
     pub part: u64,
-    /// Where the refused part begins, in bytes from the front of the input.
+    /// Where the rejected part begins, in bytes from the front of the input.
     pub offset: usize,
     /// Where the input ends before the part does: how many bytes the part needs, and how many there are from its first
     /// one on. Of an input that ends in a header or before a count there is no such number.

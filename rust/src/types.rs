@@ -151,7 +151,7 @@ impl Options {
     }
 }
 
-/// The range of an ordinate over all coordinates that have one. Not-a-numbers are left out, and -0 is below +0.
+/// The range of an ordinate over all coordinates that have one. NaNs are left out, and -0 is below +0.
 #[repr(C)]
 #[derive(Clone, Copy, Debug, PartialEq)]
 pub struct Range {
@@ -168,7 +168,7 @@ impl Range {
     pub const EMPTY: Range = Range { least: f64::INFINITY, greatest: f64::NEG_INFINITY, count: 0 };
 
     fn add(&mut self, other: &Range) {
-        // No end is a not-a-number, and of the others -0 is below +0 in this order.
+        // No end is a NaN, and of the others -0 is below +0 in this order.
         if other.least.total_cmp(&self.least).is_lt() {
             self.least = other.least;
         }

@@ -276,7 +276,7 @@ impl<'b, T: AsRef<Reader>> PointTrait for Point<'b, T> {
     where
         Self: 'a;
 
-    /// None for the empty point, whose words are all not-a-numbers.
+    /// None for the empty point, whose words are all NaNs.
     fn coord(&self) -> Option<Coord<'b>> {
         let coord = self.0.coordinate(0);
         let width = self.0.part().dimension().width();

@@ -29,7 +29,7 @@ pub struct Reader {
 }
 
 impl Reader {
-    /// The geometry at the front of an input. The bytes after it are not looked at.
+    /// The geometry at the start of an input. The bytes after it are not looked at.
     ///
     /// # Errors
     ///
@@ -85,7 +85,7 @@ impl AsRef<Reader> for Reader {
     }
 }
 
-/// The geometry at the front of an input, with its own table of parts. A [`Reader`] keeps the memory of that.
+/// The geometry at the start of an input, with its own table of parts. A [`Reader`] keeps the memory of that.
 ///
 /// # Errors
 ///

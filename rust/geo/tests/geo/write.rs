@@ -249,7 +249,7 @@ fn points() {
     expect(&OwnPoints(Dimensions::Xy, vec![]), &bytes(4, &[0], &[]));
 }
 
-/// What is refused: by the size as by the encoding.
+/// What is rejected: by the size as by the encoding.
 fn refused(geometry: &impl GeometryTrait<T = f64>) -> NotWritten {
     let why = write_geometry(geometry, &big()).unwrap_err();
     assert_eq!(geometry_size(geometry, &big()), Err(why));
