@@ -1,8 +1,8 @@
 /* SPDX-License-Identifier: MIT OR Apache-2.0 */
-/* load_test EXTENSION: lets loads of the extension fail, and sees that each says why, that the connection goes on, that
- * the next load succeeds, that all memory is freed, and that no byte past an allocation is written. A load fails where
- * SQLite lacks memory, each of its allocations in turn, and where a statement is open while a function of the same name
- * is there. Calls that lack memory are an error, and give no other answer. Names that begin with ST_ are defined by
+/* load_test EXTENSION: lets loads of the extension fail, and checks that each gives the reason, that the connection
+ * goes on, that the next load succeeds, that all memory is freed, and that no byte past an allocation is written. A
+ * load fails if an allocation fails, each of its allocations in turn, and if a statement is open while a function of
+ * the same name exists. Calls whose allocation fails are an error, and give no other answer. Names that begin with ST_ are defined by
  * their own entry point alone: a load replaces none of them, and any of them can be defined for one argument later,
  * also while a statement is open. */
 #include <sqlite3.h>
@@ -19,7 +19,7 @@ static void expect(bool holds, const char *what, int at) {
   exit(1);
 }
 
-/* SQLite's memory: it refuses one allocation, the one that `left` counts down to. Before the bytes of each block stands
+/* SQLite's memory: one allocation fails, the one that `left` counts down to. Before the bytes of each block stands
  * their number, and behind them bytes that nobody may write. */
 enum { FRONT = 16, GUARD = 16, MARK = 0xa5 };
 static int left;
@@ -129,7 +129,7 @@ static void go_on(sqlite3 *db, bool again, int at) {
   expect(sqlite3_memory_used() == 0, "memory is not freed", at);
 }
 
-/* Refuses the Nth allocation of a load. Returns whether it had as many. */
+/* Lets the Nth allocation of a load fail. Returns whether it had as many. */
 static bool try_without_memory(int n, bool again) {
   char *text;
   sqlite3 *db = opened();
@@ -137,14 +137,14 @@ static bool try_without_memory(int n, bool again) {
   int status = load(db, &text);
   bool was_refused = left == 0;
   left = 0;
-  /* An allocation that SQLite can do without may be the one that was refused. */
+  /* An allocation that SQLite can do without may be the one that failed. */
   if (status == SQLITE_OK) expect(answers(db), "the functions don't answer", n);
   sqlite3_free(text);
   go_on(db, again, n);
   return was_refused;
 }
 
-/* Refuses the Nth allocation of the calls: they answer nonetheless, or there is the error that memory is lacking, and
+/* Lets the Nth allocation of the calls fail: they answer nonetheless, or there is the error that memory is lacking, and
  * afterwards they answer. Returns whether they had as many. */
 static bool try_calls_without_memory(int n) {
   char *text;

@@ -78,7 +78,7 @@ select id, wkb_ndims(wkb), wkb_zmflag(wkb), wkb_num_coordinates(wkb), wkb_num_me
 select id, hex(wkb_canonical(wkb)), hex(wkb_ewkb(wkb)), hex(wkb_ewkb(wkb, 3857)) from rows where id in (2, 3, 6, 7);
 select hex(wkb_ewkb(wkb, 4294967295)), wkb_ewkb(wkb, null) from rows where id = 1;
 select a.id, b.id from rows a, rows b where a.id < b.id and wkb_same(a.wkb, b.wkb);
--- Of twelve rows seven have a geometry at their front, so that 49 of 144 pairs are compared.
+-- Of twelve rows seven have a geometry at their start, so that 49 of 144 pairs are compared.
 select count(*), count(wkb_same(a.wkb, b.wkb)) from rows a, rows b;
 -- A GeoPackage puts "GP", a version, flags, an SRID and an envelope before a geometry. These headers have each
 -- envelope, both byte orders and undefined SRIDs; from the tenth on there is something wrong.
@@ -96,7 +96,7 @@ select count(wkb_same(wkb, geom)), sum(wkb_same(wkb, geom)), sum(wkb_canonical(g
 select wkb_fault(x'47'), wkb_fault(x'4750'), wkb_fault(x'47500001e61000');
 select wkb_fault(cast(x'47500003e6100000' || zeroblob(31) as blob)), wkb_srid(x'47500001e6100000');
 select wkb_fault(x'47500001e6100000'), wkb_fault(x'47500001e61000000108000000');
--- The rows of a GeoPackage that are refused, and why: of three blobs one ends too early, and one goes on.
+-- The rows of a GeoPackage that are rejected, and why: of three blobs one ends too early, and one goes on.
 create temp table roads (fid integer primary key, geom blob);
 insert into roads (geom)
   select cast(x'47500003e6100000' || zeroblob(32) || wkb as blob) from rows where id in (1, 6, 7);
@@ -158,7 +158,7 @@ select hex(wkb_gpkg(wkb, -1)), hex(wkb_gpkg(wkb, 2147483647)), wkb_gpkg(wkb, nul
 select id, hex(wkb_gpkg(geom)) from packages where id in (3, 8, 9);
 -- EWKB is not what a GeoPackage holds: with an SRID, or with a flag for z; a member; one after others. The first byte
 -- of a ring's x, where a geometry has the highest of its code, is no flag. Then members of multi geometries: with a
--- flag for z, an SRID, an SRID, a big endian one with a flag for m after one by ISO; and one three levels down.
+-- flag for z, an SRID, an SRID, a big-endian one with a flag for m after one by ISO; and one three levels down.
 create temp table flagged (id integer primary key, wkb blob);
 insert into flagged (wkb) values
   (x'0101000020e6100000000000000000f03f0000000000000040'),
@@ -224,7 +224,7 @@ update towns set fid = 91 where fid = 1;
 delete from towns where fid = 3;
 select * from rtree_towns_geom;
 -- Rows with ordinates of every magnitude: zeros, the least and the greatest number, 1e-200, 1e200, the infinities and a
--- not-a-number, as points and as lines, before 1,000 ordinary points. Each is inserted, those with x and y into the
+-- NaN, as points and as lines, before 1,000 ordinary points. Each is inserted, those with x and y into the
 -- R-tree too, and a search by the R-tree finds what one of the table finds.
 create temp table ordinates (word blob);
 insert into ordinates values (x'0000000000000000'), (x'0000000000000080'), (x'0100000000000000'), (x'0100000000000080'),
@@ -252,6 +252,6 @@ create temp view found_by_tree as
     where minx <= x.high and maxx >= x.low and miny <= y.high and maxy >= y.low;
 select count(*) > 1000, (select count(*) from (select * from found except select * from found_by_tree)),
   (select count(*) from (select * from found_by_tree except select * from found)) from found;
--- This sees that the tree lacks a point, which four of the searches find.
+-- This checks that the tree lacks a point, which four of the searches find.
 delete from rtree_towns_geom where id = (select max(fid) from towns where (ST_MaxX(geom), ST_MaxY(geom)) = (1.0, 1.0));
 select count(*) from (select * from found except select * from found_by_tree);
