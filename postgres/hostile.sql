@@ -21,7 +21,7 @@ create view different_geometry as select wkb from (select * from hostile where k
     (wkb_xmin(wkb), wkb_xmax(wkb), wkb_ymin(wkb), wkb_ymax(wkb)) is distinct from (x_min, x_max, y_min, y_max) or
     (wkb_zmin(wkb), wkb_zmax(wkb), wkb_mmin(wkb), wkb_mmax(wkb)) is distinct from (z_min, z_max, m_min, m_max) or
     wkb_box(wkb)::text is distinct from box(point(x_min, y_min), point(x_max, y_max))::text;
--- The text of the error that a call raises; null where it raises none.
+-- The text of the error that a call raises; null if it raises none.
 create function raised(call text, wkb bytea) returns text language plpgsql as $$
 begin
   execute call using wkb;

@@ -46,7 +46,7 @@ insert into whole values
 select count(*) filter (where wkb_well_formed(wkb)), sum(octet_length(wkb)) from whole;
 select count(*), count(*) filter (where wkb_fault(substring(wkb for size)) like 'the input ends inside %')
   from whole, generate_series(0, octet_length(wkb) - 1) as size;
--- The functions that read a geometry are asked of rows that have one at their front.
+-- The functions that read a geometry are asked of rows that have one at their start.
 create view geometries as
   select * from rows where wkb_well_formed(wkb) or wkb_fault(wkb) like 'bytes after%' order by id;
 select id, wkb_kind(wkb), wkb_srid(wkb) from geometries;
@@ -85,7 +85,7 @@ select id, wkb_ndims(wkb), wkb_zmflag(wkb), wkb_num_coordinates(wkb), wkb_num_me
 select id, wkb_canonical(wkb), wkb_ewkb(wkb), wkb_ewkb(wkb, 3857) from rows where id in (2, 3, 7) order by id;
 select wkb_ewkb(wkb, 4294967295), wkb_ewkb(wkb, null) from rows where id = 1;
 select a.id, b.id from geometries a, geometries b where a.id < b.id and wkb_same(a.wkb, b.wkb) order by 1, 2;
--- What is refused is an error, which tells the argument where there are two.
+-- What is rejected is an error, which tells the argument where there are two.
 select wkb_canonical(wkb) from rows where id = 6;
 \echo :SQLSTATE
 select wkb_kind(wkb) from rows where id = 11;
@@ -102,7 +102,7 @@ select wkb_box(wkb) from rows where id = 6;
 select wkb_canonical(wkb) from rows where id = 6;
 select wkb_ewkb(wkb, -1) from rows where id = 1;
 \set VERBOSITY terse
--- The rows that the check of the next table refuses, and why.
+-- The rows that the check of the next table rejects, and why.
 select id, wkb_fault(wkb) from rows where not wkb_well_formed(wkb) order by id;
 -- A column that takes well-formed geometries alone, and one of each value and SRID, whatever the byte orders are.
 create table places (wkb bytea not null check (octet_length(wkb) < 20000000 and wkb_well_formed(wkb)));

@@ -170,7 +170,7 @@ Datum wkb_same_sql(PG_FUNCTION_ARGS) {
 static struct {
   size_t size; /* 0 where there is none yet */
   wkb_box box;
-  char bytes[4096]; /* at the end, where a check of the compiler's sees that more are copied */
+  char bytes[4096]; /* at the end, where a check by the compiler finds that more are copied */
 } last;
 
 /* The bounds of the argument; an error where there is no geometry. */
@@ -193,7 +193,7 @@ static wkb_box box_of(FunctionCallInfo fcinfo) {
   return box;
 }
 
-/* The function of a side of the box: null where no coordinate has such a number. */
+/* The function of a side of the box: null if no coordinate has such a number. */
 #define SIDE(name, ordinate, end)                        \
   PG_FUNCTION_INFO_V1(name);                             \
   Datum name(PG_FUNCTION_ARGS) {                         \
@@ -211,7 +211,7 @@ SIDE(wkb_ymax_sql, y, greatest)
 SIDE(wkb_zmax_sql, z, greatest)
 SIDE(wkb_mmax_sql, m, greatest)
 
-/* The box of x and y, in PostgreSQL's own type; null where no coordinate has an x, or none a y. */
+/* The box of x and y, in PostgreSQL's own type; null if no coordinate has an x, or none a y. */
 PG_FUNCTION_INFO_V1(wkb_box_sql);
 Datum wkb_box_sql(PG_FUNCTION_ARGS) {
   wkb_box box = box_of(fcinfo);
