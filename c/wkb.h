@@ -25,7 +25,7 @@
  * Output buffers must not overlap each other or any input. The input, offsets, validity and levels must not change
  * during a call, by another thread or by another process. Otherwise nothing is promised, not even where a call writes.
  * So copy a mapped file that others may write before the call. A pointer may be null if its length, capacity or number
- * of rows is 0 (tested). An output pointer may also be null where its call says so (tested). No other pointer may be
+ * of rows is 0 (tested). An output pointer may also be null if its call says so (tested). No other pointer may be
  * null.
  *
  * Calls don't allocate and are async-signal-safe, also in a forked child and on a thread with a small stack: wkb_parts

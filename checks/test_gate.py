@@ -9,8 +9,8 @@ import unittest
 
 from checks.judge import need, pages
 
-# What a stub does: it says which step it is, and ends with 1 if it is the one that has to fail, or if nothing forbids
-# its tests to be skipped.
+# What a stub does: it says which step it is, and exits with status 1 if it is the one that has to fail, or if nothing
+# forbids its tests to be skipped.
 STUB = """#!/bin/sh
 it="{name}${{*:+ $*}}"
 echo "$it" >>"$SAID"

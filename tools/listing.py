@@ -37,8 +37,8 @@ def wrapped(text):
 
 
 def made(page, title, said, parts, bare):
-    """Print a page that is made of parts, or write it with --write, or print the rows that have a name. End with 1 if
-    something on it has no comment."""
+    """Print a page that is made of parts, or write it with --write, or print the rows that have a name. Exit with
+    status 1 if something on it has no comment."""
     name = " ".join(sys.argv[1:]).split("/")[-1]
     lines = [f"# {title}", "", *said, ""]
     try:

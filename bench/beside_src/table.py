@@ -12,7 +12,7 @@ ROWS = {
     "rewrite": "read and write",
     "canonical": "canonical form (others: read, write)",
     "write": "write what was read",
-    "slice": "the same into a lent slice",
+    "slice": "the same into a caller's slice",
     "other": "the same in the other byte order",
     "vector": "that by to_vec (others: as above)",
     "own": "write a caller's own geometries",

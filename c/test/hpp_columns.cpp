@@ -20,7 +20,7 @@ std::vector<std::byte> big_ewkb(const shape &it, wkb_dim dimension) {
   return speller{WKB_ORDER_BIG, dimension, true, 7}.spell(it);
 }
 
-// Validity bits of rows of which one is null, or none where there is no such row.
+// Validity bits of rows of which one is null, or none if there is no such row.
 std::array<std::uint8_t, 2> all_but(std::size_t null_row) {
   const unsigned bits = 0xffffu & ~(1u << (FIRST_BIT + null_row));
   return {static_cast<std::uint8_t>(bits), static_cast<std::uint8_t>(bits >> 8)};

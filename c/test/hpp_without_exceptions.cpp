@@ -1,5 +1,5 @@
-// Tries wkb.hpp as a program without exceptions has it: what is there, what it returns, and that a vector which gets no
-// memory ends the program. It prints nothing, and what is wrong where something is.
+// Tries wkb.hpp as a program without exceptions has it: the declared calls, their results, and that a vector which fails
+// to allocate aborts the program. It prints nothing, and an error if there is one.
 #include "hpp.h"
 
 #include "wkb_facts.hpp"

@@ -48,7 +48,7 @@ FACTS = [
     (r"digits to the base (\d+)", "crates/wkb_geom/specs/Numbers.antt", r"AreBytes bytes = .*< (\d+)"),
     (r"(?:exposes the|has) `(\d+) \* width`", "crates/wkb_geom/src/words.rt", r"WORD_SIZE: usize = (\d+);"),
     (r"from (\d+) on is a refusal", "crates/wkb_c/specs/Classes.antt", r"IsRefusalStatus status = (\d+) ≤ status"),
-    (r"ends with (\d+)(?: it has| \(without|, `cost_hex`)", f"{COMMAND}/program.rt", r"FAILED: u8 = (\d+);"),
+    (r"exits with status (\d+)(?: it has| \(without|, `cost_hex`)", f"{COMMAND}/program.rt", r"FAILED: u8 = (\d+);"),
     (r"little-endian integers of (\d+) or (\d+) bytes", HEADER, r"offset_size;\s+/\*\*< (\d+) or (\d+)"),
     (r"boundar(?:y|ies) of (\d+) bytes", "c/Makefile", r"-mbranches-within-(\d+)B-boundaries"),
     (r"Rust crate `?wkb`? ([\d.]+\d)", *PEERS),

@@ -5,7 +5,7 @@ import struct
 from porchsorrel_wkb import Status
 
 # (1, 2) in either byte order; a polygon of one ring of one point, with an SRID, in EWKB and as it is written; a
-# multi point of (1, 2) and an empty point; a line string with z of (1, 2, 3) and (5, not a number, -7).
+# multi point of (1, 2) and an empty point; a line string with z of (1, 2, 3) and (5, NaN, -7).
 POINT = bytes.fromhex("0101000000000000000000f03f0000000000000040")
 BIG_POINT = bytes.fromhex("00000000013ff00000000000004000000000000000")
 POLYGON = bytes.fromhex("0020000003000010e600000001000000013ff00000000000004000000000000000")

@@ -53,7 +53,7 @@ impl Encodings {
 }
 
 /// The coordinates of rows, in levels as GeoArrow has them: a row has singles (points, line strings and polygons), a
-/// single has rings, a ring has coordinates. Each end counts from the front of the column.
+/// single has rings, a ring has coordinates. Each end counts from the start of the column.
 ///
 /// Let `rows`, `singles` and `rings` be a 0 and then the ends of a level. Of rows of one kind, GeoArrow's offsets are
 /// these, from the outermost list on:
@@ -113,7 +113,7 @@ impl<'a> Column<'a> {
         Column::new(data, Offsets::Large(offsets))
     }
 
-    /// The same column with a bit a row, from the lowest of a byte on, 0 for a null row. The first row's bit is
+    /// The same column with a validity bitmap, least significant bit first, 0 for a null row. The first row's bit is
     /// `first`. None if there are fewer bits than rows.
     #[must_use]
     pub fn with_validity(self, bits: &'a [u8], first: usize) -> Option<Self> {

@@ -108,7 +108,7 @@ pub struct Refused {
     pub status: Status,
     /// How many parts come before the rejected one, in preorder: 0 is the whole geometry.
     pub part: u64,
-    /// Where the rejected part begins, in bytes from the front of the input.
+    /// Where the rejected part begins, in bytes from the start of the input.
     pub offset: usize,
     /// Where the input ends before the part does: how many bytes the part needs, and how many there are from its first
     /// one on. Of an input that ends in a header or before a count there is no such number.

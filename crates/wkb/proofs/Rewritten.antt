@@ -68,7 +68,7 @@ iso_fits order buf h = let low = h.plain in let high = h.with_srid in omega (ari
 pub accepted : {buf : List ℕ} {found : Summary} → DescribesFront buf found → IsAccepted buf
 accepted d = record { s = d.spelled; t = d.value; rest = d.rest; front = d.front }
 
--- two inputs are compared by the values at their fronts
+-- two inputs are compared by the values at their starts
 pub compared : {a b : List ℕ} {f g : Summary} (equal : Bool) → DescribesFront a f → DescribesFront b g
     → ((x : HasGeometry a) (y : HasGeometry b) → IsTrue equal ↔ (x.value ≡ y.value))
     → MatchBool equal (HaveOneValue a b) (HaveTwoValues a b)

@@ -17,7 +17,7 @@ pub begins_at : (blob : List ℕ) (offset : ℕ) (behind : List ℕ) (w : Item) 
 begins_at blob offset behind w same front only =
     record { front = subst (λ b. IsFront b w) same front; only = subst (λ b. IsOnlyFront b w) same only }
 
--- There is none where the reader rejects these bytes for a cause other than memory.
+-- There is none if the reader rejects these bytes for a cause other than memory.
 pub none_begins_at : (blob : List ℕ) (offset : ℕ) (behind : List ℕ) (e : WkbError) → behind ≡ drop offset blob
     → IfRefused (Err e) (λ _. HasNoFront behind)
     → IsMemory e ⊎ HasNoFront (drop offset blob)

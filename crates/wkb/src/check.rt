@@ -2,7 +2,7 @@
 //! The bounds of its coordinates, without allocation too.
 //!
 //! ```
-//! // Bytes from a stranger: nothing is allocated for what is rejected.
+//! // Untrusted bytes: nothing is allocated for what is rejected.
 //! match check(bytes) {
 //!     Ok(found) => Some(read_wkb(alloc, &bytes[..found.bytes])),
 //!     Err(_refused) => None,

@@ -265,7 +265,7 @@ fn write_collected(
 }
 
 /// Writes the encoding, under the options, of the geometry of this kind and dimension that has the geometries at the
-/// front of the first rows of a column as its members, in order, and its length.
+/// start of the first rows of a column as its members, in order, and its length.
 ///
 /// The rows are those of `wkb_raw_column_check`. Members keep neither their byte order nor their SRID, and
 /// `EWKB_OWN_SRID` writes none. `NO_ROOM` writes the length too, but no encoding. Kind, dimension and options are

@@ -24,7 +24,7 @@ pub struct Column<'a> {
     pub offsets: &'a [u8],
     /// The bytes of an offset, which are 4 or 8.
     pub offset_size: usize,
-    /// A bit a row, from the lowest bit of the first byte on: 0 for a null row. A row without a bit isn't null.
+    /// The validity bitmap, least significant bit first: 0 for a null row. A row without a bit isn't null.
     pub validity: &'a [u8],
     /// The bit of the first row.
     pub validity_offset: usize,

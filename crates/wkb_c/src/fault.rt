@@ -19,7 +19,7 @@ use wkb_geom::{Cause, General};
 pub struct WkbFault {
     /// How many parts come before the one that is rejected.
     pub part: u64,
-    /// Where that part begins, counted from the front of the input.
+    /// Where that part begins, counted from the start of the input.
     pub offset: u64,
     /// Of a short part: where it would end, in bytes from its own first byte.
     pub end: u64,
@@ -119,7 +119,7 @@ pub fn check_input(buf: &[u8], fault: &mut WkbFault) -> Result<Summary, u32>
     }
 }
 
-/// The status of the one refusal of some bytes, and its numbers; none where a geometry is at their start. The short way
+/// The status of the one refusal of some bytes, and its numbers; none if a geometry is at their start. The short way
 /// comes first, and it counts in registers.
 #[tactic(auto, using(crate::proofs::Telling::found_is_accepted))]
 #[inline(always)]

@@ -36,7 +36,7 @@ pub struct LevelColumn<'a> {
     pub row_ends: &'a [u64],
     /// How many rows there are, where they have no ends.
     pub rows: u64,
-    /// A bit a row, from the lowest bit of the first byte on: 0 for a null row. A row without a bit isn't null.
+    /// The validity bitmap, least significant bit first: 0 for a null row. A row without a bit isn't null.
     pub validity: &'a [u8],
     /// The bit of the first row.
     pub validity_offset: usize,

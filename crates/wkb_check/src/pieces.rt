@@ -30,7 +30,7 @@ pub struct Piece {
     pub srid: Option<u32>,
     /// How many coordinates, rings or members it has.
     pub count: u32,
-    /// Its first byte, counted from the front of the bytes.
+    /// Its first byte, counted from the start of the bytes.
     pub begin: usize,
     /// Where its coordinates, rings or members begin.
     pub offset: usize,

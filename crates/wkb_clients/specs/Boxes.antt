@@ -15,7 +15,7 @@ pub record HasRanges (d : Dimension) (cs : List Coordinate) (box : BoundingBox) 
 abbrev pub IsBoxOfRing : LinearRing → BoundingBox → Type 0
 IsBoxOfRing r box = HasRanges (ring_dimension r) (ring_seen r) box
 
--- the exterior's coordinates, none where there is no ring
+-- the exterior's coordinates, none if there is no ring
 abbrev pub exterior_of : List (List Coordinate) → List Coordinate
 exterior_of [] = []
 exterior_of (ring ∷ rings) = ring

@@ -4,7 +4,7 @@ use Rattle.wkb.specs.Prelude.{all_nan}
 use Rattle.wkb_cases.specs.declared.places.Place.{Place}
 use Rattle.wkb_cases.specs.Places.{place_words}
 
--- a place is read again as its own words, or as none where both are NaNs
+-- a place is read again as its own words, or as none if both are NaNs
 abbrev pub IsReadAgain : Place → Option (ℕ × ℕ) → Type 0
 IsReadAgain place found =
     MatchOption found (all_nan (place_words place) ≡ true) (λ words. words ≡ (place.longitude, place.latitude))

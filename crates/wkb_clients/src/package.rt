@@ -9,7 +9,7 @@ use wkb::geom::{CoordTrait, GeometryTrait, GeometryType, LineStringTrait};
 use wkb::laws::words_stand;
 use wkb::reader::read_wkb;
 
-/// The bytes of a blob from an offset on; none where that is past the end.
+/// The bytes of a blob from an offset on; none if that is past the end.
 pub(crate) fn from_offset(blob: &[u8], offset: usize) -> &[u8]
     ensures { result.now ≡ drop offset blob.now }
 {

@@ -5,7 +5,7 @@ use Rattle.wkb_geom.specs.declared.common.Dimensions.{Dimensions}
 use Rattle.wkb_geom.specs.Encodings.{fault}
 use Rattle.wkb_geom.specs.Geometries.{Geometry}
 
--- the item at this index is found, or none where the list has none
+-- the item at this index is found, or none if the list has none
 abbrev pub IsItemAt : {A B : Type 0} → (A → B) → Option A → List B → ℕ → Type 0
 IsItemAt meant found items i = option_map meant found ≡ slice_get items i
 

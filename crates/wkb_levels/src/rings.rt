@@ -14,7 +14,7 @@ use crate::ends::Ends;
 use wkb_geom::{Dimensioned, Dimensions, MultiLineStringTrait, PolygonTrait};
 use wkb_plain::LineString;
 
-/// Rings one after another, by their ends, counted in coordinates from the front of the words.
+/// Rings one after another, by their ends, counted in coordinates from the start of the words.
 #[derive(Debug, Clone, Copy)]
 pub struct Rings<'w> {
     dim: Dimensions,

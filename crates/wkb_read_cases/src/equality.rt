@@ -44,7 +44,7 @@ fn default_form() -> Form
     Form::default()
 }
 
-// The word that is written for an empty point's ordinates is not a number.
+// The word that is written for an empty point's ordinates is a NaN.
 fn empty_word_is_nan() -> bool
     ensures { IsTrue result }
 {

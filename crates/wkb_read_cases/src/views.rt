@@ -127,7 +127,7 @@ fn size_told(alloc: Global, text: &str) -> Result<Option<usize>, Fail> {
     Ok(read(alloc, input.as_slice())?.byte_size())
 }
 
-// Without its own SRID; none where a member may have one.
+// Without its own SRID; none if a member may have one.
 #[test]
 fn sizes_of_geometries(rt: HostRuntime) -> Result<(), Fail> {
     let alloc = rt.alloc();

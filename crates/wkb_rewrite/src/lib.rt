@@ -1,5 +1,5 @@
-//! Rewrites and compares geometries that are known to be at the start of bytes, piece by piece. No call asks for
-//! memory.
+//! Rewrites and compares geometries that are known to be at the start of bytes, piece by piece. No call
+//! allocates.
 #![tactic(auto)]
 
 mod comparison;

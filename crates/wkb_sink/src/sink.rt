@@ -274,7 +274,7 @@ impl<'a> Model for SliceSink<'a> {
 }
 
 impl<'a> SliceSink<'a> {
-    /// A sink that fills the slice from its front, and leaves what it doesn't fill as it was.
+    /// A sink that fills the slice from its start, and leaves what it doesn't fill as it was.
     pub fn new(slice: &'a mut [u8]) -> SliceSink<'a>
         ensures bytes { result.bytes ≡ [] }
         ensures room { result.room ≡ length slice.old }

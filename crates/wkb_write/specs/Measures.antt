@@ -29,13 +29,13 @@ pub record Reports (e : WkbError) (f : Option Fault) : Type 0 where
 pub record Finds (e : Fault) (f : Option Fault) : Type 0 where
   pub is : f ≡ Some e
 
--- the words of the dimension, where it can't be written and this is the fault; none where it has no fault
+-- the words of the dimension, where it can't be written and this is the fault; none if it has no fault
 abbrev pub FindsUnsupported : Dimensions → Option ℕ → Type 0
 FindsUnsupported dim found =
     MatchOption found (dimensions_fault dim ≡ None)
     (λ n. Finds (fault.UnsupportedDimensions n) (dimensions_fault dim))
 
--- the count, which has no fault; none where the count is the fault
+-- the count, which has no fault; none if the count is the fault
 abbrev pub IsCountToWrite : ℕ → Option ℕ → Type 0
 IsCountToWrite n count =
     MatchOption count (Finds fault.Count (count_fault n)) (λ m. (count_fault n ≡ None) × (m ≡ n))

@@ -49,7 +49,7 @@ fn each_kind(rt: HostRuntime) -> Result<(), Fail> {
     Ok(())
 }
 
-// Each put of `Out` is one write, of which a few bytes are taken, or none where it is interrupted.
+// Each put of `Out` is one write, of which a few bytes are taken, or none if it is interrupted.
 #[test]
 fn one_write_a_put(rt: HostRuntime) -> Result<(), Fail> {
     let mut out = Out::new(LimitedWriter::new(3, Some(3)));

@@ -219,7 +219,7 @@ fn cut_nested(rt: HostRuntime) -> Result<(), Fail> {
 /// What else is said of an input that is cut short, up to the kind.
 const TOO_SHORT: &str = "refused: General error: Invalid buffer length for ";
 
-// Whether a run ends with 1 on the first `len` bytes of these digits, and says that they are too few.
+// Whether a run returns status 1 on the first `len` bytes of these digits, and says that they are too few.
 fn is_short(alloc: Global, digits: &[u8], len: usize) -> Result<bool, Fail> {
     let mut reader = digits.get(..len.saturating_mul(2)).ok_or("too few digits")?;
     let (status, out) = outcome(alloc, "le", &mut reader)?;

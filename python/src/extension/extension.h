@@ -12,7 +12,7 @@
 
 #include "wkb.h"
 
-_Static_assert(sizeof(size_t) == 8, "sizes and offsets are numbers of 64 bits");
+_Static_assert(sizeof(size_t) == 8, "sizes and offsets are 64-bit integers");
 
 /* What `give` gets of the package: types, tuples of members, and a function. Then what is made here once. */
 enum { FOUND, FAULT, PART, RANGE, BOX, REFUSED, STATUSES, TEXTS, KINDS, DIMENSIONS, ORDERS, OPTIONS, GIVEN };

@@ -94,8 +94,8 @@ def column_from_coordinates(
     The levels are those of `ColumnCoordinates`. None is a level with one item for each of the next: points need no
     offsets, line strings `ring_offsets`, polygons `single_offsets` too, and multi geometries `row_offsets`. Offsets are
     32-bit or 64-bit numbers that begin with 0; where they are raw bytes, `offset_size` says how many bytes one has.
-    `coordinates` has 64-bit floats, `dimension.width` for each; an empty point is one of NaNs. `validity` has a bit for
-    each row, as for `Column`, that of the first row at `validity_offset`. Without a `dimension` it is XY.
+    `coordinates` has 64-bit floats, `dimension.width` for each; an empty point is one of NaNs. `validity` is the
+    validity bitmap, as for `Column`, with the first row's bit at `validity_offset`. Without a `dimension` it is XY.
 
     In the place of all these, `coordinates` may be an Arrow array of GeoArrow's type for the kind, or a slice of one:
     any object with the method `__arrow_c_array__`. Coordinates that are interleaved are not copied, nor are offsets of

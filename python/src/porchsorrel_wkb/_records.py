@@ -88,7 +88,7 @@ class Fault(_wkb.FaultValues, _Values):
     """The part that is rejected, and why.
 
     :ivar part: how many parts come before it, in preorder: 0 is the whole geometry
-    :ivar offset: the byte where it begins, counted from the front of the input
+    :ivar offset: the byte where it begins, counted from the start of the input
     :ivar end: of a status from 48 on: how many bytes it needs; else 0
     :ivar len: of a status from 48 on: how many bytes there are, from its own first one on; else 0
     :ivar code: of CODE_OUT_OF_RANGE: all bits of the code; else 0
@@ -112,7 +112,7 @@ class Fault(_wkb.FaultValues, _Values):
 class Part(_wkb.PartValues, _Values):
     """A geometry, or a ring of a polygon. Its rings or members follow it in the table, each followed by its own.
 
-    :ivar begin: its first byte, counted from the front of the input
+    :ivar begin: its first byte, counted from the start of the input
     :ivar end: one past its last byte
     :ivar offset: the byte where its coordinates, rings or members begin
     :ivar count: how many of these it has; a point has one coordinate, an empty point one of NaNs

@@ -121,7 +121,7 @@ class ColumnParts(_Result, _Parts):  # type: ignore[misc]
 
     :ivar statuses: a `Status` for each row
     :ivar offsets: in parts; one more than there are rows
-    :ivar parts: a table of parts, each with bytes counted from the front of its row
+    :ivar parts: a table of parts, each with bytes counted from the start of its row
     """
 
 
@@ -167,7 +167,7 @@ class _Encodings(NamedTuple):
 
 
 class ColumnEncodings(_Result, _Encodings):  # type: ignore[misc]
-    """The encodings of all rows, that of row i from offsets[i] up to offsets[i + 1]; none where the row is rejected.
+    """The encodings of all rows, that of row i from offsets[i] up to offsets[i + 1]; none if the row is rejected.
 
     `rows` is a sequence of them. Arrow's packages take this object as an array of large binary without a copy, or of
     binary where they ask for that and it fits, in which a row without an encoding is null. It is one of type
