@@ -40,8 +40,8 @@ SOURCES = {
     "python": ["c/examples/*.py", "python/**/*.py", "examples/*.py", "docs/START_PYTHON.md", "README.md"],
     "sql": ["sqlite/queries.sql", "postgres/queries.sql", "postgres/planner.sql", "docs/START_SQL.md", "README.md"],
 }
-# The pages that scripts make.
-MADE = [("tools/api", "docs/API.md")]
+# The pages and pictures that scripts make.
+MADE = [("tools/api", "docs/API.md"), ("tools/bars", "docs/pictures/speed.svg")]
 # Whose examples are proved nowhere.
 SKETCHED = ["crates/wkb/src/check.rt", "crates/wkb/src/lib.rt"]
 LINE = "010200000002000000" + 2 * POINT[10:]
@@ -224,6 +224,7 @@ class Shown(judge.Judge):
         (PAGE, "", "    make -C c lost\n\n", "no Makefile has lost"),
         (PAGE, "", "It prints `what is lost`.\n\n", "no source prints `what is lost`"),
         ("docs/API.md", "##", "#", "makes another one"),
+        ("docs/pictures/speed.svg", ">19 Porch", ">18 Porch", "speed.svg: `tools/bars --write` makes another one"),
         ("crates/wkb_cases/src/columns.rt", "let mut written", "let mut put", "no proved code has"),
     ]
 

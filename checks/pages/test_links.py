@@ -1,13 +1,14 @@
 """Follows every link on the pages.
 
 Its file has to exist, and its anchor has to be a heading of that page. The text of the link names the file, or shares a
-word with the heading that it leads to: else it leads to another page than it says.
+word with the heading that it leads to: else it leads to another page than it says. A path that a picture has as code
+exists, too.
 """
 import os
 import re
 
 from checks import judge
-from pages import PAGES, ROOT, text_of
+from pages import PAGES, ROOT, text_of, texts
 
 LINK = re.compile(r"\[([^\]]*)\]\(([^)\s]+)\)")
 # Words that say nothing of where a link leads.
@@ -52,6 +53,13 @@ def lost(page):
             yield f"{page}: [{text}] leads to {link}, which shares no word with it"
 
 
+def lost_in_pictures():
+    """The paths of files in pictures that aren't there."""
+    for picture, text in texts("docs/pictures/*.svg").items():
+        paths = [path for it in re.findall(r'class="code">([^<]+)<', text) for path in it.split(", ")]
+        yield from (f"{picture}: no file {it}" for it in paths if not any(ROOT.glob(it)))
+
+
 class Links(judge.Judge):
     """Each link leads to what its text says."""
 
@@ -59,7 +67,9 @@ class Links(judge.Judge):
         ("README.md", "", "[lost](docs/LOST.md)\n\n", "no file docs/LOST.md"),
         ("docs/API.md", "", "[lost](FORMAT.md#lost)\n\n", "no heading FORMAT.md#lost"),
         ("docs/API.md", "", "[the grammar](PROVING.md)\n\n", "leads to PROVING.md"),
+        ("docs/pictures/layers.svg", "c/proved/*.s<", "c/proved/*.o<", "no file c/proved/*.o"),
     ]
 
     def wrong(self):
-        return (it for page in PAGES for it in lost(page))
+        yield from (it for page in PAGES for it in lost(page))
+        yield from lost_in_pictures()

@@ -8,8 +8,7 @@ import tempfile
 import unittest
 import urllib.parse
 
-from checks import judge
-from pages import ROOT
+from checks.judge import pages
 
 # What a browser fetches by itself.
 FETCHED = {("script", "src"), ("img", "src"), ("link", "href"), ("iframe", "src")}
@@ -38,13 +37,13 @@ class Page(html.parser.HTMLParser):
 
 def lost_links(folder):
     """What is wrong with the links of a site."""
-    pages = {it: Page(it) for it in folder.rglob("*.html")}
-    for path, page in pages.items():
+    read = {it: Page(it) for it in folder.rglob("*.html")}
+    for path, page in read.items():
         name = path.relative_to(folder)
         yield from (f"{name} fetches {it}" for it in page.fetched)
         for link in dict.fromkeys(page.links):
             target = pathlib.Path(os.path.normpath(path.parent / link.path)) if link.path else path
-            known = pages[target].names if target in pages else {link.fragment}
+            known = read[target].names if target in read else {link.fragment}
             if not target.is_file():
                 yield f"{name}: no file {link.path}"
             elif LINES.fullmatch(link.fragment):
@@ -58,18 +57,18 @@ class Site(unittest.TestCase):
 
     @classmethod
     def setUpClass(cls):
-        judge.need("sphinx-build", "doxygen", "cargo")
-        judge.need_library()
         around = tempfile.TemporaryDirectory()
         cls.addClassCleanup(around.cleanup)
         cls.around = pathlib.Path(around.name)
         cls.site = cls.around / "site"
         cls.ran = cls.make(cls.site)
+        if "left out: " in cls.ran[1]:
+            raise unittest.SkipTest(cls.ran[1].partition(" since ")[2].partition("\n")[0])
 
     @staticmethod
     def make(folder):
         """Make the site in a folder. Return the status, and what was said."""
-        ran = subprocess.run([ROOT / "tools/site", folder], capture_output=True, text=True)
+        ran = subprocess.run([pages.ROOT / "tools/site", folder], capture_output=True, text=True)
         return ran.returncode, ran.stdout + ran.stderr
 
     def test_nothing_is_said(self):
