@@ -120,7 +120,7 @@ class Words(judge.Judge):
         ("crates/wkb/specs/Canonical.antt", "", "pub use Rattle.wkb.specs.Lost.{HaveOneValue}\n", "HaveOneValue: NOT"),
         ("checks/sources/twins", "", "lost: it stands once\n", "lost: listed"),
         ("crates/wkb_geom/src/common.rt", "result ≡ width self", "result ≡ 2", "width: NOT LISTED"),
-        ("crates/wkb/specs/Lent.antt", "-- A ring of a polygon", "-- So is a ring", "by itself: -- So is"),
+        ("crates/wkb/specs/Terms.antt", "-- A ring of a polygon", "-- So is a ring", "by itself: -- So is"),
         ("crates/wkb/src/canon.rt", "", "/// The same.\npub fn same_again() {}\n", "by itself: /// The same"),
     ]
 

@@ -16,7 +16,7 @@ use lib.Ieee.Fits.{down_pos}
 use lib.Ieee.Exact.{HasValue, odd_sign}
 use Rattle.wkb.specs.Prelude.{is_nan}
 use Rattle.wkb.specs.Checks.{rank}
-use Rattle.wkb.specs.Order.{RanksInOrder}
+use Rattle.wkb.specs.Laws.{RanksInOrder}
 use Rattle.wkb.proofs.Ordinates.{not_nan}
 
 -- ---- what a pattern says

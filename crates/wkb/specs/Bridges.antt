@@ -1,4 +1,4 @@
--- What joins the clauses of calls to each other, so that no client proves it anew.
+-- Lemmas that join the clauses of calls to each other, so that no client proves it anew.
 use Rattle.std.proofs.Common.{◌≡◌, ℕ, zero, suc, ◌+◌, ◌-◌, ◌≤◌, List, [], ◌∷◌, Option, Some, None, Result, Ok, Err}
 use Rattle.std.proofs.Common.{Bool, ◌⊎◌, inl, inr, refl, sym, ap, subst, slice_get, ◌++◌, ◌∙◌, length, take, drop}
 use Rattle.std.proofs.Common.{append-nil, drop-drop, take-append-drop, length-append, length-drop, take_all, take-take}

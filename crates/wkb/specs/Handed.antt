@@ -1,7 +1,6 @@
--- Which kind of view `as_type` of a geometry that was read hands out.
-use Rattle.std.proofs.Common.{◌≡◌, ℕ, List, refl, sym, ap, ◌∙◌, arith}
+-- Lemmas: which kind of view `as_type` of a geometry that was read hands out.
+use Rattle.std.proofs.Common.{◌≡◌, List, refl, sym, ap, ◌∙◌, arith}
 use Rattle.std.specs.Borrow.{Bor}
-use Rattle.wkb_geom.specs.declared.geom.GeometryType.{GeometryType}
 use Rattle.wkb_geom.specs.declared.geom.GeometryType.TheVariants.{Point, LineString, Polygon, MultiPoint}
 use Rattle.wkb_geom.specs.declared.geom.GeometryType.TheVariants.{MultiLineString, MultiPolygon, GeometryCollection}
 use Rattle.wkb_geom.specs.declared.geom.GeometryType.TheVariants.{Rect, Triangle, Line}
@@ -10,24 +9,7 @@ use Rattle.wkb_view.specs.declared.line_string.LineString as lines
 use Rattle.wkb_view.specs.declared.multi_point.MultiPoint as multi_points
 use Rattle.wkb.specs.Values.{Coordinate, kind}
 use Rattle.wkb.specs.Reads.{Item, Listed, IsViewOf, point_value}
-
--- What `as_type` of a geometry of any kind hands out.
-abbrev pub Handed : Type 0 → Type 0 → Type 0 → Type 0
-Handed R T N =
-    GeometryType points.Point lines.LineString (Listed (List (List Coordinate))) multi_points.MultiPoint
-    (Listed (List (List Coordinate)))
-    (Listed (List (List (List Coordinate)))) Item R T N
-
--- The kind of what was handed out, from 1 for a point; the last three of the type are never handed out.
-abbrev pub handed_kind : {R T N : Type 0} → Handed R T N → ℕ
-handed_kind (Point p) = 1
-handed_kind (LineString l) = 2
-handed_kind (Polygon p) = 3
-handed_kind (MultiPoint m) = 4
-handed_kind (MultiLineString m) = 5
-handed_kind (MultiPolygon m) = 6
-handed_kind (GeometryCollection gs) = 7
-handed_kind _ = 0
+pub use Rattle.wkb.specs.Terms.{Handed, handed_kind}
 
 -- The kind that was handed out is that of the geometry's value.
 pub kind_handed : {R T N : Type 0} (w : Item) (r : Handed R T N) → IsViewOf w r → kind w.value ≡ handed_kind r

@@ -1,20 +1,11 @@
--- A loop that keeps some items of a list, told by a relation, and lemmas of its turns.
+-- Lemmas: the turns of a loop that keeps some items of a list, told by a relation.
 use Rattle.std.proofs.Common.{◌≡◌, ℕ, suc, ◌+◌, ◌<◌, ◌≤◌, List, [], ◌∷◌, ◌++◌, drop, length, sym, subst, arith}
 use Rattle.std.proofs.Common.{append_assoc, append-nil}
 use Rattle.std.specs.Prelude.{slice_index_or}
 use Rattle.std.proofs.lemmas.List.{drop_all}
 use Rattle.std.proofs.lemmas.Option.{slice_get-get_or}
 use Rattle.wkb.specs.Ranges.{drop_at}
-
--- Of the items of the first list the second has, in order, some of which P holds; of each other Q holds.
-pub data Keeps {A : Type 0} (P Q : A → Type 0) : List A → List A → Type 0 where
-  none : Keeps P Q [] []
-  kept : (x : A) (xs ks : List A) → P x → Keeps P Q xs ks → Keeps P Q (x ∷ xs) (x ∷ ks)
-  left : (x : A) (xs ks : List A) → Q x → Keeps P Q xs ks → Keeps P Q (x ∷ xs) ks
-
--- These were kept of the items before an index: with what is kept of those from it on, they are what is kept of all.
-pub record KeepsBefore {A : Type 0} (P Q : A → Type 0) (xs ks : List A) (i : ℕ) : Type 0 where
-  pub before : (more : List A) → Keeps P Q (drop i xs) more → Keeps P Q xs (ks ++ more)
+pub use Rattle.wkb.specs.Terms.{Keeps, none, kept, left, KeepsBefore}
 
 -- Before the first item none is kept.
 pub keeping_starts : {A : Type 0} (P Q : A → Type 0) (xs : List A) → KeepsBefore P Q xs [] 0

@@ -1,4 +1,8 @@
 -- The lemmas of `wkb::laws`, and the records that they name.
+use Rattle.std.specs.Prelude.{◌≡◌, ℕ, ◌≤◌, false, from_bits}
+use Rattle.std.specs.Float.{binary64, ◌≤ᶠ◌}
+use Rattle.wkb_geom.specs.Numbers.{IsWord, is_nan}
+use Rattle.wkb_geom.specs.Ranks.{rank}
 pub use Rattle.wkb_laws.specs.Laws.{HasOneFront, RestIsFree, BytesAreRead, HasFront, HasRefusal, ReadOrRefused}
 pub use Rattle.wkb_laws.specs.Laws.{NeverBoth, OneRefusal, WritableIsRead, listed_inside, RefusedOutward, EndsTooEarly}
 pub use Rattle.wkb_laws.specs.Laws.{CutIsRefused, Agrees, GeometryAgrees, FrontIsRead, RefusalIsRead, FrontIsBounded}
@@ -13,3 +17,9 @@ pub use Rattle.wkb_laws.specs.Places.{IsMember, first_spellings, first_values, S
 pub use Rattle.wkb_laws.specs.Places.{ring_start, StandsAt, HoldsMember, FirstStart, NextStart, FirstRingStart}
 pub use Rattle.wkb_laws.specs.Places.{NextRingStart, MembersStand, HoldsRing, RingsStand}
 pub use Rattle.wkb_laws.specs.Places.{MembersInPlace, RingsInPlace, IsWordOf, WordsStand, LineStringWordsStand}
+
+-- Of two words that are numbers, the one whose rank is no higher is the number that is no greater.
+abbrev pub RanksInOrder : Type 0
+RanksInOrder =
+    (v w : ℕ) → IsWord v → IsWord w → is_nan v ≡ false → is_nan w ≡ false → rank v ≤ rank w
+    → from_bits binary64 v ≤ᶠ from_bits binary64 w

@@ -1,22 +1,17 @@
--- Where the bytes are that views lend: a member's in those of the whole, a ring's in those of its polygon.
+-- Lemmas: where the bytes are that views lend, a member's in those of the whole, a ring's in those of its polygon.
 use Rattle.std.proofs.Common.{◌≡◌, ℕ, suc, ◌+◌, ◌*◌, ◌≤◌, List, length, drop, Some, refl, sym, ap, subst, ◌∙◌}
 use Rattle.std.proofs.Common.{slice_get, drop-drop, length-append, append-nil, [], arith}
 use Rattle.wkb.specs.Prelude.{width, AreBytes, number}
 use Rattle.wkb.specs.Values.{Coordinate, point, line_string, polygon, multi_line_string, multi_polygon, nest}
 use Rattle.wkb.specs.Spellings.{SpellsCoordinates, max_nesting}
-use Rattle.wkb.specs.Reads.{Listed, Item, whole_of, BytesSpell, spelling_at, order_of, Point, LineString, MultiPoint}
-use Rattle.wkb.specs.Reads.{LinearRing, point_seen, point_dimension, seen_coordinate, point_value, multi_point_seen}
+use Rattle.wkb.specs.Reads.{Listed, Item, whole_of, spelling_at, order_of, Point, LineString, MultiPoint, LinearRing}
+use Rattle.wkb.specs.Reads.{point_seen, point_dimension, seen_coordinate, point_value, multi_point_seen}
 use Rattle.wkb.specs.Reads.{multi_point_dimension, seen_points, line_string_seen, line_string_dimension}
 use Rattle.wkb.specs.Reads.{seen_coordinates, ring_seen, ring_encoding, ring_order, ring_dimension, IsFront}
 use Rattle.wkb.specs.Laws.{IsMember, SpelledInFull, MembersInPlace, RingsInPlace, WordsStand, IsWordOf, StandsAt}
 use Rattle.wkb.specs.Laws.{member_start, ring_start, NextStart, SizeOfSpelled}
 use Rattle.wkb.specs.Bridges.{part_is_member, rest_stands, stands_within, begins_there}
-
--- What `buf` and `are_bytes` say of the bytes that a view lends: they are the geometry's, and spell it.
-pub record Lends (w : Item) (lent : List ℕ) : Type 0 where
-  pub bytes : AreBytes lent
-  pub encoding : lent ≡ w.encoding
-  pub spells : BytesSpell w
+pub use Rattle.wkb.specs.Terms.{Lends, IsRingAt}
 
 -- The bytes that a view lends begin with its geometry, as `front` of a geometry's `buf` says: of the other views the
 -- value holds no collection.
@@ -90,13 +85,6 @@ next_member_stands full next_start size whole k n part {lent = lent} {next = nex
     let ends = next_start k whole.spelled whole.value part.spelled part.value member ∙ ap (λ l. start + l) (sym long) in
     subst (λ m. StandsAt m next whole.encoding)
     (ap (λ m. member_start m whole.spelled whole.value) is ∙ ends) stands
-
--- A ring of a polygon, by what its view lends: the ring's bytes spell its coordinates in the polygon's order and
--- dimension, and are the polygon's at the ring's place.
-pub record IsRingAt (p : Listed (List (List Coordinate))) (j : ℕ) (r : LinearRing) : Type 0 where
-  pub spelled : SpellsCoordinates (order_of p.spelled) p.dimension (ring_seen r) (ring_encoding r)
-  pub stands : StandsAt (ring_start j p.spelled p.dimension p.parts) (ring_encoding r) p.encoding
-  pub at : Some (ring_seen r) ≡ slice_get p.parts j
 
 -- The ring that `exterior` or `interior` returns is at its place in the polygon's bytes.
 pub ring_stands : SpelledInFull → RingsInPlace → (p : Listed (List (List Coordinate))) (j : ℕ) (r : LinearRing)

@@ -6,12 +6,14 @@ pub mod Spellings
 pub mod Refusals
 pub mod Geometries
 mod PlainGeometry
+mod LawfulPlain
 pub mod Plain
 pub mod Levels
 pub mod Encodings
 pub mod Reads
 pub mod Writes
 pub mod Laws
+mod Terms
 pub mod Bridges
 pub mod Handed
 pub mod Kept

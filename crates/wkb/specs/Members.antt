@@ -1,4 +1,4 @@
--- Members by their index: of a list, of a geometry that bytes spell, and of a collection that `as_type` hands out.
+-- Lemmas: members by their index, of a list, of a geometry that bytes spell, and of what `as_type` hands out.
 use Rattle.std.proofs.Common.{◌≡◌, ℕ, zero, suc, List, [], ◌∷◌, length, map, Some, None, true}
 use Rattle.std.proofs.Common.{false, nat_lt, sym, ap, subst}
 use Rattle.std.proofs.Common.{◌∙◌, slice_get}

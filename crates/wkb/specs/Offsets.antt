@@ -1,15 +1,11 @@
--- What the reader's clauses say of the geometry at an offset in a blob, and of its words.
+-- Lemmas: what the reader's clauses say of the geometry at an offset in a blob, and of its words.
 use Rattle.std.proofs.Common.{◌≡◌, ℕ, List, drop, ◌⊎◌, Some, None, Err, ap, subst, ◌∙◌, slice_get}
 use Rattle.wkb.specs.Prelude.{WkbError, IsMemory}
 use Rattle.wkb.specs.Values.{Coordinate}
 use Rattle.wkb.specs.Reads.{Item, IsFront, IsOnlyFront, HasNoFront, IfRefused}
 use Rattle.wkb.specs.Laws.{IsWordOf}
 use Rattle.wkb.specs.Bridges.{memory_or}
-
--- The geometry at an offset in a blob: the bytes there spell it, and no other is there.
-pub record BeginsAt (blob : List ℕ) (offset : ℕ) (w : Item) : Type 0 where
-  pub front : IsFront (drop offset blob) w
-  pub only : IsOnlyFront (drop offset blob) w
+pub use Rattle.wkb.specs.Terms.{BeginsAt}
 
 -- There is one where the reader accepts the bytes from the offset on.
 pub begins_at : (blob : List ℕ) (offset : ℕ) (behind : List ℕ) (w : Item) → behind ≡ drop offset blob

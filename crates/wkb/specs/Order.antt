@@ -1,21 +1,10 @@
--- That words are in the order of numbers: the statement of the lemma `ranks_in_order`, and lemmas over it.
-use Rattle.std.proofs.Common.{◌≡◌, ℕ, ◌≤◌, List, [], ◌∷◌, Bool, true, false, nat_lt, if◌then◌else◌, refl}
-use Rattle.std.specs.Prelude.{from_bits}
-use Rattle.std.specs.Float.{binary64, ◌≤ᶠ◌}
+-- Lemmas over `ranks_in_order`: words are in the order of numbers.
+use Rattle.std.proofs.Common.{◌≡◌, ℕ, List, [], ◌∷◌, Bool, true, false, nat_lt, if◌then◌else◌, refl}
 use Rattle.wkb.specs.Prelude.{IsWord, is_nan}
 use Rattle.wkb.specs.Checks.{Range, rank, with_number, with_word, widened, range_of, no_numbers}
 use Rattle.wkb.specs.Ranges.{IsWithin}
-
--- Of two words that are numbers, the one whose rank is no higher is the number that is no greater.
-abbrev pub RanksInOrder : Type 0
-RanksInOrder =
-    (v w : ℕ) → IsWord v → IsWord w → is_nan v ≡ false → is_nan w ≡ false → rank v ≤ rank w
-    → from_bits binary64 v ≤ᶠ from_bits binary64 w
-
--- The least and the greatest of a range are numbers.
-pub record HasNumbers (r : Range) : Type 0 where
-  pub least : is_nan r.least ≡ false
-  pub greatest : is_nan r.greatest ≡ false
+pub use Rattle.wkb.specs.Laws.{RanksInOrder}
+pub use Rattle.wkb.specs.Terms.{HasNumbers, IsBetween}
 
 number_of : (b : Bool) (v w : ℕ) → is_nan v ≡ false → is_nan w ≡ false → is_nan (if b then w else v) ≡ false
 number_of true v w p q = q
@@ -37,11 +26,6 @@ stay_numbers r (w ∷ ws) h = stay_numbers (with_word r w) ws (one_more (is_nan 
 -- The range of any words is one, of no word too: from infinity to minus infinity.
 pub range_has_numbers : (ws : List ℕ) → HasNumbers (range_of ws)
 range_has_numbers ws = stay_numbers no_numbers ws (record { least = refl; greatest = refl })
-
--- A number is no less than the first of two, and no greater than the second.
-pub record IsBetween (low high w : ℕ) : Type 0 where
-  pub least : from_bits binary64 low ≤ᶠ from_bits binary64 w
-  pub greatest : from_bits binary64 w ≤ᶠ from_bits binary64 high
 
 -- What is within a range of numbers is between its least and its greatest.
 pub between : RanksInOrder → (r : Range) (w : ℕ) → IsWord r.least → IsWord r.greatest → IsWord w → HasNumbers r

@@ -12,6 +12,7 @@ use Rattle.wkb.specs.Reads.{Item, IsFront, HasNoFront, IsRefusal, IsNotMemory, R
 use Rattle.wkb.specs.Canonical.{HaveOneValue, HaveTwoValues, IsRewritingUnder, IsRefusedUnder, IsPairRefusal, IsSize}
 use Rattle.wkb.specs.Bridges.{memory_or}
 use Rattle.wkb.specs.Laws.{NeverBoth, HasOneFront}
+pub use Rattle.wkb.specs.Terms.{own_options}
 
 -- Bytes that begin with a geometry, such as those of a geometry's `buf`, are never rejected by a call that rejects
 -- only bytes that begin with none.
@@ -89,10 +90,6 @@ own_encoding one options {buf = buf} {w = w} (Ok out) f ok =
     ok.written
     ∙ ap (λ t. encoding options.endianness options.form (geometry_of t))
     (one buf ok.s w.spelled ok.t w.value ok.rest f.rest ok.front f.front).2
-
--- The options of EWKB with a geometry's own SRID.
-abbrev pub own_options : Endianness → Item → WriteOptions
-own_options order w = record { endianness = order; form = Ewkb (header w.spelled).srid }
 
 -- `canonical_with_srid` of a geometry's bytes is the encoding of its value with its own SRID.
 pub own_encoding_with_srid : HasOneFront → (order : Endianness) {buf : List ℕ} {w : Item}

@@ -23,11 +23,12 @@ pub use Rattle.wkb_plain.specs.Kinds.{multi_line_string_dimensions, multi_line_s
 pub use Rattle.wkb_plain.specs.Kinds.{multi_polygon_dimensions, multi_polygon_polygons, line_dimensions, line_start}
 pub use Rattle.wkb_plain.specs.Kinds.{line_end, rect_dimensions, rect_min, rect_max, triangle_dimensions}
 pub use Rattle.wkb_plain.specs.Kinds.{triangle_first, triangle_second, triangle_third}
-pub use Rattle.wkb_plain.specs.Kinds.{coord_lawful, point_lawful, line_string_lawful, polygon_lawful}
-pub use Rattle.wkb_plain.specs.Kinds.{multi_point_lawful, multi_line_string_lawful, multi_polygon_lawful, line_lawful}
-pub use Rattle.wkb_plain.specs.Kinds.{rect_lawful, triangle_lawful}
+pub use Rattle.wkb_plain.specs.Lawful.{coord_lawful, point_lawful, line_string_lawful, polygon_lawful}
+pub use Rattle.wkb_plain.specs.Lawful.{multi_point_lawful, multi_line_string_lawful, multi_polygon_lawful, line_lawful}
+pub use Rattle.wkb_plain.specs.Lawful.{rect_lawful, triangle_lawful}
 pub use Rattle.wkb.specs.PlainGeometry.{plain_geometry, plain_dimensions, collection_dimensions}
-pub use Rattle.wkb.specs.PlainGeometry.{collection_members, collection_lawful, IsGeometry-plain_geometry}
+pub use Rattle.wkb.specs.PlainGeometry.{collection_members}
+pub use Rattle.wkb.specs.LawfulPlain.{collection_lawful, IsGeometry-plain_geometry}
 
 -- a plain geometry of any kind
 abbrev pub Geometry : Type 0

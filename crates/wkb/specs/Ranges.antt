@@ -1,23 +1,14 @@
--- What a range says of the numbers that it was widened by, and of those of a value on an axis.
-use Rattle.std.proofs.Common.{◌≡◌, ℕ, zero, suc, ◌+◌, ◌≤◌, List, [], ◌∷◌, ◌++◌, take, drop, Bool, true, false}
-use Rattle.std.proofs.Common.{Some, refl, sym, ap, subst, ◌∙◌, slice_get, nat_lt, if◌then◌else◌}
-use Rattle.std.proofs.Common.{arith}
+-- Lemmas: what a range says of the numbers that it was widened by, and of those of a value on an axis.
+use Rattle.std.proofs.Common.{◌≡◌, ℕ, zero, suc, ◌+◌, ◌≤◌, List, [], ◌∷◌, ◌++◌, take, drop, Bool, true, false, Some}
+use Rattle.std.proofs.Common.{refl, sym, ap, subst, ◌∙◌, slice_get, nat_lt, if◌then◌else◌, arith}
 use Rattle.std.proofs.lemmas.Bool.{ltb-true, ltb-false}
 use Rattle.wkb.specs.Prelude.{Dimension, is_nan}
 use Rattle.wkb.specs.Values.{Coordinate, Value, Values, no_members, member}
-use Rattle.wkb.specs.Checks.{Range, rank, lower, higher, with_number, with_word, widened, range_of, no_numbers}
-use Rattle.wkb.specs.Checks.{Axis, axis_place, words_in, words_on, Bounds, AreBounds, x_axis, y_axis, z_axis, m_axis}
+use Rattle.wkb.specs.Checks.{Range, rank, lower, higher, with_number, with_word, widened, range_of, no_numbers, Axis}
+use Rattle.wkb.specs.Checks.{axis_place, words_in, words_on, Bounds, AreBounds, x_axis, y_axis, z_axis, m_axis}
 use Rattle.wkb.specs.Reads.{list_of_values}
 use Rattle.wkb_check.specs.Ordinates.{words_of_each, word_at, words_on_each}
-
--- In the order of numbers the word is between the least and the greatest of the range.
-pub record IsWithin (r : Range) (w : ℕ) : Type 0 where
-  pub least : rank r.least ≤ rank w
-  pub greatest : rank w ≤ rank r.greatest
-
--- Whatever range is widened by these words, the word is within it.
-abbrev pub BringsWithin : List ℕ → ℕ → Type 0
-BringsWithin ws w = (r : Range) → IsWithin (widened r ws) w
+pub use Rattle.wkb.specs.Terms.{IsWithin, BringsWithin}
 
 -- ---- a range that is widened by a word
 

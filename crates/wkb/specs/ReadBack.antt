@@ -1,21 +1,15 @@
--- What is read of an encoding that was written.
-use Rattle.std.proofs.Common.{◌≡◌, ℕ, ◌≤◌, List, Some, None, Bool, true, false, if◌then◌else◌, refl, sym, ap, subst}
-use Rattle.std.proofs.Common.{◌∙◌, ◌++◌}
+-- Lemmas: what is read of an encoding that was written.
+use Rattle.std.proofs.Common.{◌≡◌, ℕ, List, Some, None, Bool, true, false, if◌then◌else◌, refl, sym, ap, subst, ◌∙◌}
+use Rattle.std.proofs.Common.{◌++◌}
 use Rattle.wkb.specs.Prelude.{Dimension, all_nan}
-use Rattle.wkb.specs.Values.{Coordinate, Value, point, nest}
-use Rattle.wkb.specs.Spellings.{Spelling, Front, max_nesting, HasOptions}
+use Rattle.wkb.specs.Values.{Coordinate, Value, point}
+use Rattle.wkb.specs.Spellings.{Spelling, Front}
 use Rattle.wkb.specs.Geometries.{Geometry, IsGeometry, normal, normal_point}
 use Rattle.wkb.specs.Encodings.{IsForm, encoding_of, refusal_of}
 use Rattle.wkb.specs.Writes.{WriteOptions}
 use Rattle.wkb.specs.Reads.{Item, IsOnlyFront, point_of}
 use Rattle.wkb.specs.Laws.{WritableIsRead}
-
--- Within the deepest nesting the bytes begin with a geometry in the options' order, with their SRID, of the value that
--- the geometry stands for. These bytes follow it.
-abbrev pub IsReadBefore : List ℕ → WriteOptions → Geometry → List ℕ → Type 0
-IsReadBefore rest options g bytes =
-    nest (normal g) ≤ max_nesting
-    → (s : Spelling) × Front bytes s (normal g) rest × HasOptions options.endianness options.form s
+pub use Rattle.wkb.specs.Terms.{IsReadBefore}
 
 -- An encoding that other bytes follow is read before them.
 pub encoding_is_read : (rest : List ℕ) (options : WriteOptions) (g : Geometry) (encoding bytes : List ℕ)

@@ -8,8 +8,9 @@ pub use Rattle.wkb_geom.specs.Fronts.{HasNoFront}
 pub use Rattle.wkb_read.specs.Reads.{IsFront, IsOnlyFront, IsRefusal, TellsEach, IfRefused, IfMemory, CountsValue}
 pub use Rattle.wkb_read.specs.Reads.{CountsRefusal, CountsAtMost, CanBeWritten, AsksForNone, BeginsNone, KindTakesNone}
 pub use Rattle.wkb_read.specs.Reads.{TakesNoMemory, Reads, Costs}
-pub use Rattle.wkb_read.specs.Seen.{geometry_seen, members_seen, geometry_lawful, members_lawful, one_dimension_seen}
-pub use Rattle.wkb_read.specs.Seen.{seen_as_it_is, members_as_they_are}
+pub use Rattle.wkb_read.specs.Seen.{geometry_seen, members_seen}
+pub use Rattle.wkb_read.specs.Lawful.{geometry_lawful, members_lawful, one_dimension_seen}
+pub use Rattle.wkb_read.specs.Lawful.{seen_as_it_is, members_as_they_are}
 pub use Rattle.wkb_read.specs.Views.{IsCollectionOf, IsViewOf}
 pub use Rattle.wkb_read.specs.Placed.{collection_seen, joined_encodings, HoldsMembers, IsCollectionIn, AreMembers}
 pub use Rattle.wkb_read.specs.Placed.{IsMemberAt}
@@ -20,7 +21,7 @@ pub use Rattle.wkb_view.specs.Views.{point_seen, line_string_seen, multi_point_s
 pub use Rattle.wkb_view.specs.Views.{multi_point_layout, point_dimension, line_string_dimension}
 pub use Rattle.wkb_view.specs.Views.{multi_point_dimension, point_order, point_spelling, line_string_order}
 pub use Rattle.wkb_view.specs.Views.{line_string_spelling, seen_coordinates, coordinate_in, line_string_offset}
-pub use Rattle.wkb_view.specs.Views.{multi_point_offset, point_value, seen_coordinate, seen_points, point_coord_bytes}
+pub use Rattle.wkb_view.specs.Views.{multi_point_offset, seen_coordinate, seen_points, point_coord_bytes}
 pub use Rattle.wkb_view.specs.Views.{point_words_bytes, line_string_coord_bytes, line_string_coords_bytes}
 pub use Rattle.wkb_view.specs.Views.{multi_point_member_bytes, multi_point_spelling}
 pub use Rattle.wkb_view.specs.Parts.{list_of_values, IsCollection, points_of, members_spelled, list_of_spellings}
@@ -31,7 +32,8 @@ pub use Rattle.wkb_view.specs.Members.{multi_point_item}
 pub use Rattle.wkb_geom.specs.Reading.{body_start, parts_start, point_item, line_string_item}
 pub use Rattle.wkb_view.specs.Fitted.{fitted_line_string, fitted_line_strings, fitted_polygons, fitted_point}
 pub use Rattle.wkb_view.specs.Fitted.{fitted_geometry, fitted_geometries, fitted_parts, fitted_polygon, fitted_members}
-pub use Rattle.wkb_view.specs.Fitted.{fitted_geometry-same, fitted_rings_size}
+pub use Rattle.wkb_view.specs.Fitted.{fitted_rings_size}
+pub use Rattle.wkb_view.specs.Lawful.{point_value, fitted_geometry-same}
 pub use Rattle.wkb_read.specs.declared.geometry.Wkb.{Wkb}
 pub use Rattle.wkb_view.specs.declared.coord.Coord.{Coord}
 pub use Rattle.wkb_view.specs.declared.counts.Counts.{Counts}

@@ -2,7 +2,7 @@
 
 ghost use Rattle.wkb.specs.Prelude.{AreBytes};
 ghost use Rattle.wkb.specs.Encodings.{IsForm};
-ghost use Rattle.wkb.specs.Order.{RanksInOrder};
+ghost use Rattle.wkb.specs.Laws.{RanksInOrder};
 
 use wkb_geom::Form;
 pub use wkb_laws::encodings::{

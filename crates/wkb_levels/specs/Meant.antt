@@ -4,8 +4,8 @@ use Rattle.std.specs.Option.{option_map}
 use Rattle.wkb_geom.specs.declared.common.Dimensions.{Dimensions}
 use Rattle.wkb_geom.specs.Geometries.{Geometry, point, line_string, polygon, multi_point, multi_line_string}
 use Rattle.wkb_geom.specs.Geometries.{multi_polygon, dimensions_of, IsGeometry}
-use Rattle.wkb_plain.specs.Kinds.{point_dimensions, point_coordinate, point_lawful, line_string_dimensions}
-use Rattle.wkb_plain.specs.Kinds.{line_string_coordinates, line_string_lawful}
+use Rattle.wkb_plain.specs.Kinds.{point_dimensions, point_coordinate, line_string_dimensions, line_string_coordinates}
+use Rattle.wkb_plain.specs.Lawful.{point_lawful, line_string_lawful}
 use Rattle.wkb_levels.specs.declared.polygons.Polygons.{Polygons}
 use Rattle.wkb_levels.specs.declared.rings.Rings.{Rings}
 use Rattle.wkb_levels.specs.declared.single.Single.{Single}

@@ -3,7 +3,8 @@ use Rattle.std.specs.Prelude.{ℕ, List, [], ◌∷◌, map, Option, Some}
 use Rattle.std.specs.List.{AllByRecursion}
 use Rattle.wkb_geom.specs.declared.common.Dimensions.{Dimensions}
 use Rattle.wkb_geom.specs.Geometries.{IsPoint, AreCoordinates}
-use Rattle.wkb_plain.specs.Kinds.{line_string_dimensions, line_string_coordinates, line_string_lawful}
+use Rattle.wkb_plain.specs.Kinds.{line_string_dimensions, line_string_coordinates}
+use Rattle.wkb_plain.specs.Lawful.{line_string_lawful}
 use Rattle.wkb_levels.specs.declared.points.Points.{Points}
 
 abbrev pub points_dimensions : Points → Dimensions

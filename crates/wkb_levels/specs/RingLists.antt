@@ -5,7 +5,8 @@ use Rattle.std.proofs.lemmas.List.Elements.{All-from_recursion}
 use Rattle.wkb_geom.specs.declared.common.Dimensions.{Dimensions}
 use Rattle.wkb_geom.specs.Dimensions.{size}
 use Rattle.wkb_geom.specs.Geometries.{IsCoordinate, AreCoordinates}
-use Rattle.wkb_plain.specs.Runs.{coordinates_in, coordinates_in-lawful}
+use Rattle.wkb_plain.specs.Runs.{coordinates_in}
+use Rattle.wkb_plain.specs.Lawful.{coordinates_in-lawful}
 use Rattle.wkb_levels.specs.declared.rings.Rings.{Rings}
 use Rattle.wkb_levels.specs.declared.ends.Ends.{Ends}
 use Rattle.wkb_levels.specs.Cuts.{pieces_from, pieces-all}

@@ -1,6 +1,5 @@
 -- What each plain kind but the collection shows: its dimensions and its words.
 use Rattle.std.specs.Prelude.{◌≡◌, ℕ, ◌<◌, List, All, map, Option, IfSome}
-use Rattle.std.specs.List.{AllByRecursion}
 use Rattle.std.specs.Option.{option_map}
 use Rattle.wkb_plain.specs.declared.coord.Coord.{Coord}
 use Rattle.wkb_plain.specs.declared.line.Line.{Line}
@@ -14,9 +13,7 @@ use Rattle.wkb_plain.specs.declared.rect.Rect.{Rect}
 use Rattle.wkb_plain.specs.declared.triangle.Triangle.{Triangle}
 use Rattle.wkb_geom.specs.declared.common.Dimensions.{Dimensions}
 use Rattle.wkb_geom.specs.Dimensions.{size}
-use Rattle.wkb_geom.specs.Geometries.{IsCoordinate, IsPoint, AreCoordinates}
-use Rattle.wkb_geom.specs.Lawful.{lawful_coordinate, lawful_point, each_part, at_dimension}
-use Rattle.wkb_plain.specs.Runs.{coordinates_in, coordinates_in-lawful}
+use Rattle.wkb_plain.specs.Runs.{coordinates_in}
 
 -- all parts have these dimensions, which have words
 abbrev pub ArePartsFor : {A : Type 0} → (A → Dimensions) → Dimensions → List A → Type 0
@@ -33,17 +30,10 @@ coord_dimensions c = c.dim
 abbrev pub coord_words : Coord → List ℕ
 coord_words c = c.words.now
 
-pub coord_lawful : (c : Coord) → IsCoordinate (coord_dimensions c) (coord_words c)
-coord_lawful c = lawful_coordinate c.dim c.words.now c.as_many_words c.in_range
-
 -- three corners have the dimensions of the first
 abbrev pub HaveOneDimension : Coord → Coord → Coord → Type 0
 HaveOneDimension first second third =
     (coord_dimensions second ≡ coord_dimensions first) × (coord_dimensions third ≡ coord_dimensions first)
-
--- a coordinate beside another of these dimensions
-coord_lawful_beside : (d : Dimensions) (c : Coord) → coord_dimensions c ≡ d → IsCoordinate d (coord_words c)
-coord_lawful_beside d c is = at_dimension c.dim d c.words.now (coord_lawful c) is
 
 -- a point; an empty one has no coordinate
 abbrev pub point_dimensions : Point → Dimensions
@@ -52,18 +42,12 @@ point_dimensions p = p.dim
 abbrev pub point_coordinate : Point → Option (List ℕ)
 point_coordinate p = option_map coord_words p.coord
 
-pub point_lawful : (p : Point) → IsPoint (point_dimensions p) (point_coordinate p)
-point_lawful p = lawful_point coord_words coord_dimensions p.dim p.coord coord_lawful p.one_dimension
-
 -- a line string
 abbrev pub line_string_dimensions : LineString → Dimensions
 line_string_dimensions l = l.dim
 
 abbrev pub line_string_coordinates : LineString → List (List ℕ)
 line_string_coordinates l = coordinates_in l.dim l.words.now
-
-pub line_string_lawful : (l : LineString) → AreCoordinates (line_string_dimensions l) (line_string_coordinates l)
-line_string_lawful l = coordinates_in-lawful l.dim l.words.now l.in_range
 
 -- a polygon; its first ring is the exterior
 abbrev pub polygon_dimensions : Polygon → Dimensions
@@ -72,21 +56,12 @@ polygon_dimensions p = p.dim
 abbrev pub polygon_rings : Polygon → List (List (List ℕ))
 polygon_rings p = map line_string_coordinates p.rings.now
 
-pub polygon_lawful : (p : Polygon) → AllByRecursion (AreCoordinates (polygon_dimensions p)) (polygon_rings p)
-polygon_lawful p =
-    each_part line_string_coordinates line_string_dimensions p.dim AreCoordinates p.rings.now line_string_lawful
-    p.one_dimension
-
 -- points of one dimension
 abbrev pub multi_point_dimensions : MultiPoint → Dimensions
 multi_point_dimensions m = m.dim
 
 abbrev pub multi_point_points : MultiPoint → List (Option (List ℕ))
 multi_point_points m = map point_coordinate m.points.now
-
-pub multi_point_lawful : (m : MultiPoint) → AllByRecursion (IsPoint (multi_point_dimensions m)) (multi_point_points m)
-multi_point_lawful m =
-    each_part point_coordinate point_dimensions m.dim IsPoint m.points.now point_lawful m.one_dimension
 
 -- line strings of one dimension
 abbrev pub multi_line_string_dimensions : MultiLineString → Dimensions
@@ -95,24 +70,12 @@ multi_line_string_dimensions m = m.dim
 abbrev pub multi_line_string_line_strings : MultiLineString → List (List (List ℕ))
 multi_line_string_line_strings m = map line_string_coordinates m.line_strings.now
 
-pub multi_line_string_lawful : (m : MultiLineString)
-    → AllByRecursion (AreCoordinates (multi_line_string_dimensions m)) (multi_line_string_line_strings m)
-multi_line_string_lawful m =
-    each_part line_string_coordinates line_string_dimensions m.dim AreCoordinates m.line_strings.now line_string_lawful
-    m.one_dimension
-
 -- polygons of one dimension
 abbrev pub multi_polygon_dimensions : MultiPolygon → Dimensions
 multi_polygon_dimensions m = m.dim
 
 abbrev pub multi_polygon_polygons : MultiPolygon → List (List (List (List ℕ)))
 multi_polygon_polygons m = map polygon_rings m.polygons.now
-
-pub multi_polygon_lawful : (m : MultiPolygon)
-    → AllByRecursion (AllByRecursion (AreCoordinates (multi_polygon_dimensions m))) (multi_polygon_polygons m)
-multi_polygon_lawful m =
-    each_part polygon_rings polygon_dimensions m.dim
-    (λ d rings. AllByRecursion (AreCoordinates d) rings) m.polygons.now polygon_lawful m.one_dimension
 
 -- a line
 abbrev pub line_dimensions : Line → Dimensions
@@ -124,10 +87,6 @@ line_start l = coord_words l.start
 abbrev pub line_end : Line → List ℕ
 line_end l = coord_words l.end
 
-pub line_lawful : (l : Line)
-    → IsCoordinate (line_dimensions l) (line_start l) × IsCoordinate (line_dimensions l) (line_end l)
-line_lawful l = ((coord_lawful l.start), coord_lawful_beside l.start.dim l.end l.one_dimension)
-
 -- a rectangle
 abbrev pub rect_dimensions : Rect → Dimensions
 rect_dimensions r = r.min.dim
@@ -137,10 +96,6 @@ rect_min r = coord_words r.min
 
 abbrev pub rect_max : Rect → List ℕ
 rect_max r = coord_words r.max
-
-pub rect_lawful : (r : Rect)
-    → IsCoordinate (rect_dimensions r) (rect_min r) × IsCoordinate (rect_dimensions r) (rect_max r)
-rect_lawful r = ((coord_lawful r.min), coord_lawful_beside r.min.dim r.max r.one_dimension)
 
 -- a triangle
 abbrev pub triangle_dimensions : Triangle → Dimensions
@@ -154,11 +109,3 @@ triangle_second t = t.second.now
 
 abbrev pub triangle_third : Triangle → List ℕ
 triangle_third t = t.third.now
-
-pub triangle_lawful : (t : Triangle) → IsCoordinate (triangle_dimensions t) (triangle_first t)
-    × IsCoordinate (triangle_dimensions t) (triangle_second t) × IsCoordinate (triangle_dimensions t) (triangle_third t)
-triangle_lawful t = (
-  lawful_coordinate t.dim t.first.now t.first_fits.0 t.first_fits.1,
-  lawful_coordinate t.dim t.second.now t.second_fits.0 t.second_fits.1,
-  lawful_coordinate t.dim t.third.now t.third_fits.0 t.third_fits.1,
-)

@@ -45,7 +45,8 @@ impl Dimensioned for Coord<'_> {
 }
 
 impl CoordTrait for Coord<'_> {
-    ghost use Rattle.wkb_plain.specs.Kinds.{coord_words, coord_lawful};
+    ghost use Rattle.wkb_plain.specs.Kinds.{coord_words};
+    ghost use Rattle.wkb_plain.specs.Lawful.{coord_lawful};
 
     ghost words = { coord_words };
 

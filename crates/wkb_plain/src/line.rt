@@ -43,7 +43,8 @@ impl Dimensioned for Line<'_> {
 }
 
 impl<'w> LineTrait for Line<'w> {
-    ghost use Rattle.wkb_plain.specs.Kinds.{line_start, line_end, line_lawful};
+    ghost use Rattle.wkb_plain.specs.Kinds.{line_start, line_end};
+    ghost use Rattle.wkb_plain.specs.Lawful.{line_lawful};
 
     type CoordType = Coord<'w>;
 

@@ -53,7 +53,8 @@ impl Dimensioned for LineString<'_> {
 
 #[tactic(auto, using(crate::proofs::Runs::runs_laws))]
 impl<'w> LineStringTrait for LineString<'w> {
-    ghost use Rattle.wkb_plain.specs.Kinds.{line_string_coordinates, line_string_lawful};
+    ghost use Rattle.wkb_plain.specs.Kinds.{line_string_coordinates};
+    ghost use Rattle.wkb_plain.specs.Lawful.{line_string_lawful};
 
     type CoordType = Coord<'w>;
 

@@ -47,7 +47,7 @@ impl Dimensioned for MultiLineString<'_> {
 
 impl<'w> MultiLineStringTrait for MultiLineString<'w> {
     ghost use Rattle.wkb_plain.specs.Kinds.{multi_line_string_line_strings};
-    ghost use Rattle.wkb_plain.specs.Kinds.{multi_line_string_lawful};
+    ghost use Rattle.wkb_plain.specs.Lawful.{multi_line_string_lawful};
 
     type InnerLineStringType = LineString<'w>;
 

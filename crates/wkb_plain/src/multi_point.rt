@@ -44,7 +44,8 @@ impl Dimensioned for MultiPoint<'_> {
 }
 
 impl<'w> MultiPointTrait for MultiPoint<'w> {
-    ghost use Rattle.wkb_plain.specs.Kinds.{multi_point_points, multi_point_lawful};
+    ghost use Rattle.wkb_plain.specs.Kinds.{multi_point_points};
+    ghost use Rattle.wkb_plain.specs.Lawful.{multi_point_lawful};
 
     type InnerPointType = Point<'w>;
 

@@ -44,7 +44,8 @@ impl Dimensioned for MultiPolygon<'_> {
 }
 
 impl<'w> MultiPolygonTrait for MultiPolygon<'w> {
-    ghost use Rattle.wkb_plain.specs.Kinds.{multi_polygon_polygons, multi_polygon_lawful};
+    ghost use Rattle.wkb_plain.specs.Kinds.{multi_polygon_polygons};
+    ghost use Rattle.wkb_plain.specs.Lawful.{multi_polygon_lawful};
 
     type InnerPolygonType = Polygon<'w>;
 

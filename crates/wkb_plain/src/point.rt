@@ -55,7 +55,8 @@ impl Dimensioned for Point<'_> {
 }
 
 impl<'w> PointTrait for Point<'w> {
-    ghost use Rattle.wkb_plain.specs.Kinds.{point_coordinate, point_lawful};
+    ghost use Rattle.wkb_plain.specs.Kinds.{point_coordinate};
+    ghost use Rattle.wkb_plain.specs.Lawful.{point_lawful};
 
     type CoordType = Coord<'w>;
 

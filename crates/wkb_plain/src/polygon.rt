@@ -45,7 +45,8 @@ impl Dimensioned for Polygon<'_> {
 }
 
 impl<'w> PolygonTrait for Polygon<'w> {
-    ghost use Rattle.wkb_plain.specs.Kinds.{polygon_rings, polygon_lawful};
+    ghost use Rattle.wkb_plain.specs.Kinds.{polygon_rings};
+    ghost use Rattle.wkb_plain.specs.Lawful.{polygon_lawful};
 
     type RingType = LineString<'w>;
 

@@ -44,7 +44,8 @@ impl Dimensioned for Rect<'_> {
 }
 
 impl<'w> RectTrait for Rect<'w> {
-    ghost use Rattle.wkb_plain.specs.Kinds.{rect_min, rect_max, rect_lawful};
+    ghost use Rattle.wkb_plain.specs.Kinds.{rect_min, rect_max};
+    ghost use Rattle.wkb_plain.specs.Lawful.{rect_lawful};
 
     type CoordType = Coord<'w>;
 

@@ -58,7 +58,7 @@ impl Dimensioned for Triangle<'_> {
 
 impl<'w> TriangleTrait for Triangle<'w> {
     ghost use Rattle.wkb_plain.specs.Kinds.{triangle_first, triangle_second, triangle_third};
-    ghost use Rattle.wkb_plain.specs.Kinds.{triangle_lawful};
+    ghost use Rattle.wkb_plain.specs.Lawful.{triangle_lawful};
 
     type CoordType = Coord<'w>;
 

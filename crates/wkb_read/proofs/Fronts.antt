@@ -3,7 +3,8 @@ use Rattle.wkb_read.proofs.Prelude.{◌≡◌, ◌≤◌, ℕ, List, [], refl, s
 use Rattle.wkb_read.proofs.Prelude.{max_nesting, IsFront, ap, arith}
 use Rattle.wkb_laws.proofs.Spelled.{in_full_lem}
 use Rattle.wkb_view.specs.declared.point.Point.{Point}
-use Rattle.wkb_view.specs.Views.{point_seen, point_value}
+use Rattle.wkb_view.specs.Views.{point_seen}
+use Rattle.wkb_view.specs.Lawful.{point_value}
 
 pub own_front : (w : Item) (bytes : List ℕ) → bytes ≡ w.encoding → BytesSpell w → nest w.value ≤ max_nesting
     → IsFront bytes w

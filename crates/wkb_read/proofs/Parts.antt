@@ -19,8 +19,8 @@ use Rattle.wkb_geom.specs.Parts.{PointMeans, LineStringMeans, PolygonMeans, Mult
 use Rattle.wkb_geom.specs.Parts.{MultiPolygonMeans, CollectionMeans, RectMeans, TriangleMeans, LineMeans, RectMembers}
 use Rattle.wkb_geom.specs.Parts.{TriangleMembers, LineMembers}
 use Rattle.wkb_view.specs.Fitted.{fitted_parts, fitted_members, fitted_geometry, fitted_geometries}
-use Rattle.wkb_view.specs.Fitted.{fitted_geometry-same}
-use Rattle.wkb_view.specs.Views.{point_seen, point_dimension, point_value, seen_coordinate, line_string_seen}
+use Rattle.wkb_view.specs.Views.{point_seen, point_dimension, seen_coordinate, line_string_seen}
+use Rattle.wkb_view.specs.Lawful.{fitted_geometry-same, point_value}
 use Rattle.wkb_view.specs.Views.{line_string_dimension, seen_coordinates, multi_point_seen}
 use Rattle.wkb_view.specs.Views.{multi_point_dimension, seen_points}
 use Rattle.wkb_view.proofs.Lawful.{point_is_lawful, line_string_is_lawful, multi_point_is_lawful}

@@ -35,6 +35,7 @@ pub use Rattle.wkb_geom.specs.Fronts.{HasNoFront}
 pub use Rattle.wkb_read.specs.Reads.{IsFront, IsOnlyFront, IsRefusal, TellsEach, IfRefused, IfMemory, CountsValue}
 pub use Rattle.wkb_read.specs.Reads.{CountsRefusal, CountsAtMost, AsksForNone, BeginsNone, KindTakesNone}
 pub use Rattle.wkb_read.specs.Reads.{TakesNoMemory}
-pub use Rattle.wkb_read.specs.Seen.{geometry_seen, members_seen, seen_as_it_is}
+pub use Rattle.wkb_read.specs.Seen.{geometry_seen, members_seen}
+pub use Rattle.wkb_read.specs.Lawful.{seen_as_it_is}
 pub use Rattle.wkb_read.specs.Stack.{geometry_inside, after_member, in_collection, outward, first_member}
 pub use Rattle.wkb_read.specs.Stack.{around, IsOpen, AreOpen, IsFinished, collection_inside, BeginsAs, ReadsAs}

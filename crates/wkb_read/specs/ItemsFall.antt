@@ -1,4 +1,4 @@
--- The item that a view shows is larger than the collection in it. By itself, since `Wkb` has `Items` in its view.
+-- Lemmas: the item of a view is larger than the collection in it. By itself, since `Wkb` has `Items` in its view.
 use Rattle.std.specs.Prelude.{max, ◌≤◌}
 use Rattle.std.proofs.Common.{arith}
 use Rattle.wkb_read.specs.Nodes.{size_outside}

@@ -3,6 +3,7 @@ pub mod Items
 pub mod ItemsFall
 pub mod Memory
 pub mod Nodes
+pub mod MembersFall
 pub mod Placed
 pub mod Views
 pub mod Reads
@@ -10,4 +11,5 @@ pub mod NoSrids
 pub mod Stack
 pub mod Types
 pub mod Seen
+pub mod Lawful
 pub mod Contents

@@ -1,8 +1,6 @@
 -- How large a value is, which falls from a collection to its members.
-use Rattle.std.specs.Prelude.{ℕ, max, ◌+◌, ◌*◌, ◌≤◌, List, [], ◌∷◌}
-use Rattle.wkb_read.specs.Prelude.{Value, Values, collection, no_members, member, Listed, Item, values}
-use Rattle.std.proofs.Common.{arith}
-use denote.Param.Weighed.{most}
+use Rattle.std.specs.Prelude.{ℕ, ◌+◌, ◌*◌}
+use Rattle.wkb_read.specs.Prelude.{Value, Values, collection, no_members, member, Listed, Item}
 
 -- the number of geometries in a value, itself among them
 abbrev mutual
@@ -20,13 +18,3 @@ size_inside i = 2 * (1 + nodes_all i.parts)
 
 abbrev pub size_outside : Item → ℕ
 size_outside i = 2 * nodes i.value + 1
-
--- the largest member is no larger than all of them together
-most-members : (members : List Item) → most (λ m. size_outside m + 1) members ≤ 2 * nodes_all (values members) + 2
-most-members [] = omega arith
-most-members (m ∷ members) = omega (arith, most-members members)
-
--- each member is smaller than its collection
-pub members_fall : (members : List Item)
-    → max (most (λ m. size_outside m + 1) members) 0 ≤ 2 * (1 + nodes_all (values members))
-members_fall members = omega (arith, most-members members)

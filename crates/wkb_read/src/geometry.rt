@@ -1,8 +1,8 @@
 //! Collections, and geometries of any kind.
 
 ghost use Rattle.wkb_read.specs.Prelude.{as_dimensions};
-ghost use Rattle.wkb_read.specs.Seen.{members_seen, geometry_seen, members_lawful, geometry_lawful};
-ghost use Rattle.wkb_read.specs.Seen.{one_dimension_seen};
+ghost use Rattle.wkb_read.specs.Seen.{members_seen, geometry_seen};
+ghost use Rattle.wkb_read.specs.Lawful.{members_lawful, geometry_lawful, one_dimension_seen};
 
 use crate::geometry_type::GeometryType as TypeName;
 use crate::read::read_wkb;
@@ -68,9 +68,9 @@ impl Drop for Wkb<'_> {
 }
 
 impl<'a> Model for GeometryCollection<'a> {
-    ghost use Rattle.wkb_read.specs.Prelude.{Values, Listed, listed_code, values_code};
-    ghost use Rattle.wkb_read.specs.Prelude.{max_nesting, nest_each, values};
-    ghost use Rattle.wkb_read.specs.Nodes.{size_inside, members_fall};
+    ghost use Rattle.wkb_read.specs.Prelude.{Values, Listed, listed_code, values_code, max_nesting, nest_each, values};
+    ghost use Rattle.wkb_read.specs.Nodes.{size_inside};
+    ghost use Rattle.wkb_read.specs.MembersFall.{members_fall};
     ghost use Rattle.std.specs.Prelude.{◌≡◌, ◌<◌};
     ghost use Rattle.wkb_read.specs.Placed.{IsCollectionIn, parts_in};
     ghost use Rattle.wkb_read.specs.NoSrids.{HaveNoSrids};

@@ -9,7 +9,7 @@ use Rattle.wkb_view.specs.Prelude.{Dimension, width, as_dimensions, Layout, List
 use Rattle.wkb_view.specs.Prelude.{body_start}
 use Rattle.wkb_view.specs.Members.{polygon_laid, polygon_seen}
 use Rattle.wkb_view.proofs.Sized.{polygon_size, rings_same}
-use Rattle.wkb_view.specs.Ranges.{named_size}
+use Rattle.wkb_view.specs.Lawful.{named_size}
 use Rattle.wkb_view.proofs.Items.{width-within}
 
 -- the bytes of rings, by how many of them and of coordinates there are

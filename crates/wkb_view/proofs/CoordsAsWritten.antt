@@ -6,7 +6,7 @@ use Rattle.wkb_geom.specs.Numbers.{number_bytes}
 use Rattle.wkb_geom.specs.Encodings.{words_encoding}
 use Rattle.wkb_view.specs.Prelude.{Endianness, Dimension, AreBytes, number, width, items}
 use Rattle.wkb_view.specs.Prelude.{coordinate, coordinates, ring_in}
-use Rattle.wkb_view.specs.Ranges.{AreBytes-take, AreBytes-drop}
+use Rattle.wkb_view.specs.Lawful.{AreBytes-take, AreBytes-drop}
 use Rattle.wkb_laws.proofs.EncodingBytes.{number_is_bytes}
 use Rattle.wkb_laws.proofs.OneEncoding.{number_fixed}
 use Rattle.wkb_laws.proofs.Parts.{field_taken as number_taken}

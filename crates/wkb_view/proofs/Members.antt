@@ -15,7 +15,7 @@ use Rattle.wkb_view.specs.Fitted.{fitted_parts, fitted_line_strings, fitted_poly
 use Rattle.wkb_view.specs.Members.{polygon_items, IsEncoding, IsMemberOfKind, AreMembersOfKind, member_item, members_in}
 use Rattle.wkb_view.specs.Members.{pieces_behind, every, stride, point_ends, points_in}
 use Rattle.wkb_view.specs.Pieces.{pieces, Passed}
-use Rattle.wkb_view.specs.Ranges.{member_dimension}
+use Rattle.wkb_view.specs.Lawful.{member_dimension}
 use Rattle.wkb_view.proofs.Pieces.{parts_counted, pieces_past, piece_form, piece_seen, last_end}
 
 -- the spellings of members, one by one

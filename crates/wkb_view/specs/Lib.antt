@@ -9,7 +9,7 @@ pub mod Outcome
 pub mod Parts
 pub mod Passing
 pub mod Pieces
-pub mod Ranges
+pub mod Lawful
 pub mod Reads
 pub mod Spelled
 pub mod Views

@@ -1,10 +1,8 @@
 -- What the views of points, line strings and multi points mean.
-use Rattle.std.proofs.Common.{◌≡◌, ℕ, ◌+◌, ◌*◌, List, take, drop, Option, Bool, true, false, refl}
-use Rattle.wkb_view.specs.Prelude.{Layout, Dimension, Coordinate, width, all_nan, Item, coordinate, point_item}
-use Rattle.wkb_view.specs.Prelude.{point_item_of}
-use Rattle.wkb_view.specs.Prelude.{point_of, points_of, line_string_of, line_string_item, body_start, order_of}
-use Rattle.wkb_view.specs.Prelude.{Spelling, Endianness}
-use Rattle.wkb_geom.specs.Values.{point}
+use Rattle.std.proofs.Common.{ℕ, ◌+◌, ◌*◌, List, take, drop, Option}
+use Rattle.wkb_view.specs.Prelude.{Layout, Dimension, Coordinate, width, Item, coordinate, point_item, point_of}
+use Rattle.wkb_view.specs.Prelude.{points_of, line_string_of, line_string_item, body_start, order_of, Spelling}
+use Rattle.wkb_view.specs.Prelude.{Endianness}
 use Rattle.wkb_view.specs.declared.point.Point.{Point}
 use Rattle.wkb_view.specs.declared.line_string.LineString.{LineString}
 use Rattle.wkb_view.specs.declared.multi_point.MultiPoint.{MultiPoint}
@@ -100,13 +98,3 @@ line_string_ring_bytes l = drop (body_start l.layout.has_srid) l.buf.now
 -- the bytes of a line string after its count: its coordinates
 abbrev pub line_string_coords_bytes : LineString → List ℕ
 line_string_coords_bytes l = drop (body_start l.layout.has_srid + 4) l.buf.now
-
-value_by : (l : Layout) (encoding words : List ℕ) (empty : Bool)
-    → (point_item_of l encoding words empty).value
-    ≡ point l.dimension (point_of (point_item_of l encoding words empty).value)
-value_by l encoding words true = refl
-value_by l encoding words false = refl
-
--- a point's value is that of its coordinate, if it has one
-pub point_value : (p : Point) → (point_seen p).value ≡ point (point_dimension p) (point_of (point_seen p).value)
-point_value p = value_by p.layout p.buf.now (coordinate_in p) (all_nan (coordinate_in p))

@@ -85,7 +85,7 @@ impl Dimensioned for Coord<'_> {
 
 impl CoordTrait for Coord<'_> {
     ghost use Rattle.wkb_view.specs.Coords.{words_seen};
-    ghost use Rattle.wkb_view.specs.Ranges.{coordinate_lawful};
+    ghost use Rattle.wkb_view.specs.Lawful.{coordinate_lawful};
 
     ghost words = { words_seen };
 
@@ -100,7 +100,7 @@ impl CoordTrait for Coord<'_> {
         }
     }
 
-    #[tactic(auto, using(crate::proofs::Items::word_at, crate::specs::Ranges::named_size))]
+    #[tactic(auto, using(crate::proofs::Items::word_at, crate::specs::Lawful::named_size))]
     #[inline]
     fn at(&self, n: usize) -> u64 {
         u64_at(self.bytes, WORD_SIZE * n, self.order)

@@ -182,7 +182,7 @@ impl<'a> LineStringTrait for LineString<'a> {
     ghost use Rattle.wkb_view.specs.Coords.{words_seen, coord_order, coord_dimension};
     ghost use Rattle.wkb_view.specs.Coords.{LendsCoordinates};
     ghost use Rattle.wkb_view.specs.Coords.{coord_encoding};
-    ghost use Rattle.wkb_view.specs.Ranges.{line_string_item_lawful};
+    ghost use Rattle.wkb_view.specs.Lawful.{line_string_item_lawful};
     ghost use Rattle.wkb_view.specs.Views.{seen_coordinates, line_string_dimension};
     ghost use Rattle.wkb_view.specs.Views.{line_string_order, line_string_coord_bytes};
 
@@ -237,7 +237,7 @@ impl<'a> GeometryTrait for LineString<'a> {
     ghost use Rattle.wkb_geom.specs.declared.geom.GeometryType.TheVariants.{LineString as Handed};
     ghost use Rattle.wkb_geom.specs.Geometries.{line_string};
     ghost use Rattle.wkb_view.specs.Prelude.{as_dimensions};
-    ghost use Rattle.wkb_view.specs.Ranges.{line_string_item_lawful};
+    ghost use Rattle.wkb_view.specs.Lawful.{line_string_item_lawful};
     ghost use Rattle.wkb_view.specs.Views.{seen_coordinates, line_string_dimension};
 
     type PointType = Point<'a>;

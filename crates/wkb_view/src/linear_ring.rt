@@ -153,7 +153,7 @@ impl<'a> LineStringTrait for LinearRing<'a> {
     ghost use Rattle.wkb_view.specs.Coords.{LendsCoordinates};
     ghost use Rattle.wkb_view.specs.Coords.{coord_encoding, ring_order, ring_dimension, ring_seen};
     ghost use Rattle.wkb_view.specs.Coords.{ring_coord_bytes};
-    ghost use Rattle.wkb_view.specs.Ranges.{ring_lawful};
+    ghost use Rattle.wkb_view.specs.Lawful.{ring_lawful};
 
     type CoordType = Coord<'a>;
 
@@ -217,7 +217,7 @@ impl<'a> GeometryTrait for LinearRing<'a> {
     ghost use Rattle.wkb_geom.specs.Geometries.{line_string};
     ghost use Rattle.wkb_view.specs.Prelude.{as_dimensions};
     ghost use Rattle.wkb_view.specs.Coords.{ring_dimension, ring_seen};
-    ghost use Rattle.wkb_view.specs.Ranges.{ring_lawful};
+    ghost use Rattle.wkb_view.specs.Lawful.{ring_lawful};
 
     type PointType = Point<'a>;
 

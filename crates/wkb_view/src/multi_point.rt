@@ -186,7 +186,7 @@ impl<'a> MultiPointTrait for MultiPoint<'a> {
     ghost use Rattle.wkb_view.specs.Views.{point_seen, seen_coordinate, point_dimension};
     ghost use Rattle.wkb_view.specs.Views.{multi_point_spelling, seen_points, multi_point_dimension};
     ghost use Rattle.wkb_view.specs.Views.{point_spelling, multi_point_member_bytes};
-    ghost use Rattle.wkb_view.specs.Ranges.{multi_point_item_lawful};
+    ghost use Rattle.wkb_view.specs.Lawful.{multi_point_item_lawful};
 
     type InnerPointType = Point<'a>;
 
@@ -227,7 +227,7 @@ impl<'a> GeometryTrait for MultiPoint<'a> {
     ghost use Rattle.wkb_geom.specs.declared.geom.GeometryType.TheVariants.{MultiPoint as Handed};
     ghost use Rattle.wkb_geom.specs.Geometries.{multi_point};
     ghost use Rattle.wkb_view.specs.Prelude.{as_dimensions};
-    ghost use Rattle.wkb_view.specs.Ranges.{multi_point_item_lawful};
+    ghost use Rattle.wkb_view.specs.Lawful.{multi_point_item_lawful};
     ghost use Rattle.wkb_view.specs.Views.{seen_points, multi_point_dimension};
 
     type PointType = Point<'a>;

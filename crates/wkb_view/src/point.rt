@@ -174,7 +174,7 @@ impl Dimensioned for Point<'_> {
 
 impl<'a> PointTrait for Point<'a> {
     ghost use Rattle.std.specs.Prelude.{◌≡◌, option_map, IfSome};
-    ghost use Rattle.wkb_view.specs.Ranges.{point_item_lawful};
+    ghost use Rattle.wkb_view.specs.Lawful.{point_item_lawful};
     ghost use Rattle.wkb_view.specs.Coords.{words_seen, coord_order, coord_dimension};
     ghost use Rattle.wkb_view.specs.Coords.{coord_encoding};
     ghost use Rattle.wkb_view.specs.Views.{seen_coordinate, point_order, point_dimension};
@@ -207,7 +207,7 @@ impl<'a> GeometryTrait for Point<'a> {
     ghost use Rattle.wkb_geom.specs.declared.geom.GeometryType.TheVariants.{Point as Handed};
     ghost use Rattle.wkb_geom.specs.Geometries.{point};
     ghost use Rattle.wkb_view.specs.Prelude.{as_dimensions};
-    ghost use Rattle.wkb_view.specs.Ranges.{point_item_lawful};
+    ghost use Rattle.wkb_view.specs.Lawful.{point_item_lawful};
     ghost use Rattle.wkb_view.specs.Views.{seen_coordinate, point_dimension};
 
     type PointType = Point<'a>;

@@ -12,7 +12,7 @@ pub use Rattle.wkb.specs.Laws.{EqualSpelledWithSrid, HasOneEncoding, HaveOneEnco
 pub use Rattle.wkb.specs.Laws.{behind_count, IsOneOf, IsMember, first_spellings, first_values, SpellsFirst, first_size}
 pub use Rattle.wkb.specs.Laws.{member_start, ring_start, StandsAt, HoldsMember, FirstStart, NextStart, FirstRingStart}
 pub use Rattle.wkb.specs.Laws.{NextRingStart, MembersStand, HoldsRing, RingsStand, MembersInPlace, RingsInPlace}
-pub use Rattle.wkb.specs.Laws.{IsWordOf, WordsStand, LineStringWordsStand}
+pub use Rattle.wkb.specs.Laws.{IsWordOf, WordsStand, LineStringWordsStand, RanksInOrder}
 
 abbrev pub laws_words : ℕ
-laws_words = 69
+laws_words = 70

@@ -16,17 +16,17 @@ pub use Rattle.wkb.specs.Reads.{RingBytesSpell, LendsCoordinates, point_seen, li
 pub use Rattle.wkb.specs.Reads.{point_layout, line_string_layout, multi_point_layout, point_dimension}
 pub use Rattle.wkb.specs.Reads.{line_string_dimension, multi_point_dimension, point_order, point_spelling}
 pub use Rattle.wkb.specs.Reads.{line_string_order, line_string_spelling, seen_coordinates, coordinate_in}
-pub use Rattle.wkb.specs.Reads.{line_string_offset, multi_point_offset, point_value, seen_coordinate, seen_points}
-pub use Rattle.wkb.specs.Reads.{point_coord_bytes, point_words_bytes, line_string_coord_bytes, line_string_coords_bytes}
+pub use Rattle.wkb.specs.Reads.{line_string_offset, multi_point_offset, seen_coordinate, seen_points, point_coord_bytes}
+pub use Rattle.wkb.specs.Reads.{point_words_bytes, line_string_coord_bytes, line_string_coords_bytes}
 pub use Rattle.wkb.specs.Reads.{multi_point_member_bytes, multi_point_spelling, list_of_values, IsCollection, points_of}
 pub use Rattle.wkb.specs.Reads.{members_spelled, list_of_spellings, spelling_at, BytesSpell, srid_of, order_of}
 pub use Rattle.wkb.specs.Reads.{polygon_seen, multi_line_string_seen, multi_polygon_seen, stride, ArePoints}
 pub use Rattle.wkb.specs.Reads.{multi_point_item, body_start, parts_start, point_item, line_string_item}
 pub use Rattle.wkb.specs.Reads.{fitted_line_string, fitted_line_strings, fitted_polygons, fitted_point, fitted_geometry}
-pub use Rattle.wkb.specs.Reads.{fitted_geometries, fitted_parts, fitted_polygon, fitted_members, fitted_geometry-same}
-pub use Rattle.wkb.specs.Reads.{fitted_rings_size, Wkb, Coord, Counts, LineString, LinearRing, MultiPoint, Point}
-pub use Rattle.wkb.specs.Reads.{GeometryType, Layout, Reading, Cost, IsNotMemory, tells_size, geometry_type_of}
-pub use Rattle.wkb.specs.Reads.{IsListed, GeometryKind}
+pub use Rattle.wkb.specs.Reads.{fitted_geometries, fitted_parts, fitted_polygon, fitted_members, fitted_rings_size}
+pub use Rattle.wkb.specs.Reads.{point_value, fitted_geometry-same, Wkb, Coord, Counts, LineString, LinearRing}
+pub use Rattle.wkb.specs.Reads.{MultiPoint, Point, GeometryType, Layout, Reading, Cost, IsNotMemory, tells_size}
+pub use Rattle.wkb.specs.Reads.{geometry_type_of, IsListed, GeometryKind}
 
 abbrev pub reads_words : ℕ
 reads_words = 138

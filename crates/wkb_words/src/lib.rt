@@ -37,5 +37,5 @@ pub fn number_of_words() -> usize
         kept_words + lawful_words + lent_words + members_words + offsets_words + order_words +
         ownbytes_words + ranges_words + readback_words }
 {
-    758
+    762
 }

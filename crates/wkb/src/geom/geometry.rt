@@ -1,10 +1,10 @@
 //! A plain geometry of any kind, and collections of them.
 
 ghost use Rattle.std.specs.Prelude.{◌≡◌, map};
-ghost use Rattle.wkb.specs.PlainGeometry.{plain_geometry, plain_dimensions};
-ghost use Rattle.wkb.specs.PlainGeometry.{dimensions_of-plain_geometry};
-ghost use Rattle.wkb.specs.PlainGeometry.{IsGeometry-plain_geometry, collection_dimensions};
-ghost use Rattle.wkb.specs.PlainGeometry.{collection_members, collection_lawful};
+ghost use Rattle.wkb.specs.PlainGeometry.{plain_geometry, plain_dimensions, collection_dimensions};
+ghost use Rattle.wkb.specs.PlainGeometry.{collection_members};
+ghost use Rattle.wkb.specs.LawfulPlain.{dimensions_of-plain_geometry, IsGeometry-plain_geometry};
+ghost use Rattle.wkb.specs.LawfulPlain.{collection_lawful};
 
 use wkb_geom::{
     Dimensioned, Dimensions, Endianness, Form, GeometryCollectionTrait, GeometryTrait, GeometryType,

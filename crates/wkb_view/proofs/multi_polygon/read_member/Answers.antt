@@ -1,5 +1,5 @@
 use Rattle.std.proofs.Common.{refl}
-use Rattle.wkb_view.specs.Ranges.{member_dimension}
+use Rattle.wkb_view.specs.Lawful.{member_dimension}
 use Rattle.wkb_view.proofs.Leaves.{member_gives}
 use Rattle.wkb_view.proofs.multi_polygon.read_member.Goals as goal
 

@@ -1,5 +1,5 @@
 use Rattle.std.proofs.Common.{sym, arith}
-use Rattle.wkb_view.specs.Ranges.{AreBytes-take, AreBytes-drop}
+use Rattle.wkb_view.specs.Lawful.{AreBytes-take, AreBytes-drop}
 use Rattle.wkb_view.proofs.Pieces.{part_is, pieces_past}
 use Rattle.wkb_view.proofs.part.part_at.Goals as goal
 

@@ -1,7 +1,7 @@
 use Rattle.std.proofs.Common.{◌-◌, length, drop, length-drop, arith}
 use Rattle.std.proofs.lemmas.List.{take_all}
 use Rattle.wkb_view.specs.Prelude.{body_start}
-use Rattle.wkb_view.specs.Ranges.{AreBytes-drop}
+use Rattle.wkb_view.specs.Lawful.{AreBytes-drop}
 use Rattle.wkb_view.proofs.line_string.LineString.as_ring.Goals as goal
 
 pub invariant_of-result : goal.invariant_of-result

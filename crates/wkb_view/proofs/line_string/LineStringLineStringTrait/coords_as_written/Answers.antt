@@ -2,7 +2,7 @@ use Rattle.std.proofs.Common.{rules, arith, ◌≡◌, ◌+◌, ◌*◌, ℕ, le
 use Rattle.std.specs.List.{flat_map}
 use Rattle.wkb_geom.specs.Encodings.{words_encoding}
 use Rattle.wkb_view.specs.Prelude.{width, body_start, ring_in}
-use Rattle.wkb_view.specs.Ranges.{AreBytes-drop}
+use Rattle.wkb_view.specs.Lawful.{AreBytes-drop}
 use Rattle.wkb_view.proofs.CoordsAsWritten.{ring_stands}
 use Rattle.wkb_view.proofs.line_string.LineStringLineStringTrait.coords_as_written.Goals as goal
 

@@ -1,5 +1,5 @@
 use Rattle.std.proofs.Common.{arith}
-use Rattle.wkb_view.specs.Ranges.{number-lt}
+use Rattle.wkb_view.specs.Lawful.{number-lt}
 use Rattle.wkb_view.proofs.linear_ring.LinearRing.of_encoding.Goals as goal
 
 pub overflow_cast-result : goal.overflow_cast-result

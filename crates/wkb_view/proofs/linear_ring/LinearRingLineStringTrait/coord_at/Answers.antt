@@ -1,6 +1,6 @@
 use Rattle.std.proofs.Common.{◌<◌, ◌*◌, sym, subst, ℕ, length-take, length-drop, arith}
 use Rattle.wkb_view.specs.Prelude.{AreBytes, width}
-use Rattle.wkb_view.specs.Ranges.{AreBytes-take, AreBytes-drop}
+use Rattle.wkb_view.specs.Lawful.{AreBytes-take, AreBytes-drop}
 use Rattle.wkb_view.proofs.Items.{ring_counted, next_within, coordinate_between}
 use Rattle.wkb_view.proofs.linear_ring.LinearRingLineStringTrait.coord_at.Goals as goal
 

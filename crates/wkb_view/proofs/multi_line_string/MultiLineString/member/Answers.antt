@@ -1,7 +1,7 @@
 use Rattle.std.proofs.Common.{◌∙◌, Some, ap}
 use Rattle.wkb_view.specs.Prelude.{Item, Layout, line_string_of}
 use Rattle.wkb_view.specs.Members.{IsMemberOfKind}
-use Rattle.wkb_view.specs.Ranges.{member_dimension}
+use Rattle.wkb_view.specs.Lawful.{member_dimension}
 use Rattle.wkb_view.proofs.Leaves.{member_seen}
 use Rattle.wkb_view.proofs.Members.{member_encoding, member_there, members_seen, spelling_seen}
 use Rattle.wkb_view.proofs.Pieces.{in_order}

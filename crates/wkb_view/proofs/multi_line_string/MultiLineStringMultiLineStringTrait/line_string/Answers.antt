@@ -1,8 +1,8 @@
 use Rattle.wkb_geom.specs.Reading.{line_string_of}
 use Rattle.wkb_view.specs.declared.line_string.LineString.{LineString}
 use Rattle.wkb_view.specs.Views.{line_string_seen}
-use Rattle.wkb_view.specs.Fitted.{lawful_at}
-use Rattle.wkb_view.specs.Ranges.{line_string_item_lawful}
+use Rattle.wkb_view.proofs.Lawful.{lawful_at}
+use Rattle.wkb_view.specs.Lawful.{line_string_item_lawful}
 use Rattle.wkb_view.proofs.multi_line_string.MultiLineStringMultiLineStringTrait.line_string.Goals as goal
 
 pub returns-clause-value : goal.returns-clause-value

@@ -3,7 +3,7 @@ use Rattle.std.proofs.lemmas.Result.{err_from_is_err_and}
 use Rattle.wkb_geom.specs.declared.code.TheConstants.{POINT}
 use Rattle.wkb_view.specs.Prelude.{list_item, member_at, multi_point_with, multi_point_at}
 use Rattle.wkb_view.specs.Prelude.refusals
-use Rattle.wkb_view.specs.Ranges.{AreBytes-take}
+use Rattle.wkb_view.specs.Lawful.{AreBytes-take}
 use Rattle.wkb_view.proofs.Lists.{IsList, points_here, list_fits, list_reads, list_stops}
 use Rattle.wkb_view.proofs.SpelledRead.{body_spelled}
 use Rattle.wkb_view.proofs.multi_point.MultiPoint.read.Goals as goal

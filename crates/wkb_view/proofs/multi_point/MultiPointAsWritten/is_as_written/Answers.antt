@@ -2,7 +2,8 @@ use Rattle.std.proofs.Common.{refl, ap, ◌∙◌, arith, map, length, ◌≤◌
 use Rattle.wkb_geom.specs.Values.{point}
 use Rattle.wkb_view.specs.Prelude.{point_of}
 use Rattle.wkb_view.specs.Members.{points_in}
-use Rattle.wkb_view.specs.Views.{seen_coordinate, point_value}
+use Rattle.wkb_view.specs.Views.{seen_coordinate}
+use Rattle.wkb_view.specs.Lawful.{point_value}
 use Rattle.wkb_view.proofs.Encoded.{HasWrittenHeader, one_more_written, all_written}
 use Rattle.wkb_view.proofs.multi_point.MultiPointAsWritten.is_as_written.Goals as goal
 

@@ -3,7 +3,7 @@ use Rattle.std.proofs.Math.Logic.{∥∥₁_elim}
 use Rattle.std.proofs.Props.{props}
 use Rattle.wkb_view.specs.Prelude.{Item, Layout, point_of}
 use Rattle.wkb_view.specs.Members.{point_ends, stride}
-use Rattle.wkb_view.specs.Ranges.{member_dimension}
+use Rattle.wkb_view.specs.Lawful.{member_dimension}
 use Rattle.wkb_view.proofs.Items.{next_within, point_encoding_is}
 use Rattle.wkb_view.proofs.Leaves.{member_seen}
 use Rattle.wkb_view.proofs.Members.{member_encoding, member_there, members_seen, spelling_seen, point_encoding}

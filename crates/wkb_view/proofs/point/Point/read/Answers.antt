@@ -1,6 +1,6 @@
 use Rattle.std.proofs.Common.{rules, subst, sym, refl, arith}
 use Rattle.wkb_view.specs.Prelude.{AreBytes}
-use Rattle.wkb_view.specs.Ranges.{AreBytes-take}
+use Rattle.wkb_view.specs.Lawful.{AreBytes-take}
 use Rattle.wkb_view.proofs.Items.{width-within}
 use Rattle.wkb_view.proofs.Leaves.{passed_by}
 use Rattle.wkb_view.proofs.SpelledRead.{point_encoding}

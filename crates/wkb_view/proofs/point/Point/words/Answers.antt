@@ -1,6 +1,6 @@
 use Rattle.std.proofs.Common.{ℕ, refl, sym, subst, drop, length-take, length-drop, arith}
 use Rattle.wkb_view.specs.Prelude.{AreBytes, body_start, width}
-use Rattle.wkb_view.specs.Ranges.{AreBytes-take, AreBytes-drop}
+use Rattle.wkb_view.specs.Lawful.{AreBytes-take, AreBytes-drop}
 use Rattle.wkb_view.proofs.Items.{words-take, point_encoding_is}
 use Rattle.wkb_view.proofs.point.Point.words.Goals as goal
 

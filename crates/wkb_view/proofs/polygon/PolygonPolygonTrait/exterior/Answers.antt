@@ -1,7 +1,7 @@
 use Rattle.wkb_view.specs.declared.linear_ring.LinearRing.{LinearRing}
 use Rattle.wkb_view.specs.Coords.{ring_seen}
-use Rattle.wkb_view.specs.Fitted.{lawful_at}
-use Rattle.wkb_view.specs.Ranges.{ring_lawful}
+use Rattle.wkb_view.proofs.Lawful.{lawful_at}
+use Rattle.wkb_view.specs.Lawful.{ring_lawful}
 use Rattle.wkb_view.proofs.polygon.PolygonPolygonTrait.exterior.Goals as goal
 
 pub returns-clause-value : goal.returns-clause-value

@@ -1,8 +1,8 @@
 use Rattle.std.proofs.Common.{◌+◌}
 use Rattle.wkb_view.specs.declared.linear_ring.LinearRing.{LinearRing}
 use Rattle.wkb_view.specs.Coords.{ring_seen}
-use Rattle.wkb_view.specs.Fitted.{lawful_at}
-use Rattle.wkb_view.specs.Ranges.{ring_lawful}
+use Rattle.wkb_view.proofs.Lawful.{lawful_at}
+use Rattle.wkb_view.specs.Lawful.{ring_lawful}
 use Rattle.wkb_view.proofs.polygon.PolygonPolygonTrait.interior.Goals as goal
 
 pub returns-then-i-num_interiors-clause-value : goal.returns-then-i-num_interiors-clause-value
