@@ -1,3 +1,3 @@
-pub mod Rewritten
+pub mod Rewritings
 pub mod Ordinates
 mod Doubles

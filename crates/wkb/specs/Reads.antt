@@ -8,12 +8,12 @@ pub use Rattle.wkb_geom.specs.Fronts.{HasNoFront}
 pub use Rattle.wkb_read.specs.Reads.{IsFront, IsOnlyFront, IsRefusal, TellsEach, IfRefused, IfMemory, CountsValue}
 pub use Rattle.wkb_read.specs.Reads.{CountsRefusal, CountsAtMost, CanBeWritten, AsksForNone, BeginsNone, KindTakesNone}
 pub use Rattle.wkb_read.specs.Reads.{TakesNoMemory, Reads, Costs}
-pub use Rattle.wkb_read.specs.Seen.{geometry_seen, members_seen}
+pub use Rattle.wkb_read.specs.Meanings.{geometry_seen, members_seen}
 pub use Rattle.wkb_read.specs.Lawful.{geometry_lawful, members_lawful, one_dimension_seen}
 pub use Rattle.wkb_read.specs.Lawful.{seen_as_it_is, members_as_they_are}
 pub use Rattle.wkb_read.specs.Views.{IsCollectionOf, IsViewOf}
-pub use Rattle.wkb_read.specs.Placed.{collection_seen, joined_encodings, HoldsMembers, IsCollectionIn, AreMembers}
-pub use Rattle.wkb_read.specs.Placed.{IsMemberAt}
+pub use Rattle.wkb_read.specs.Places.{collection_seen, joined_encodings, HoldsMembers, IsCollectionIn, AreMembers}
+pub use Rattle.wkb_read.specs.Places.{IsMemberAt}
 pub use Rattle.wkb_view.specs.Coords.{words_seen, ring_seen, coordinate_encoding, coord_order, coord_dimension}
 pub use Rattle.wkb_view.specs.Coords.{coord_encoding, ring_order, ring_dimension, ring_encoding, ring_offset}
 pub use Rattle.wkb_view.specs.Coords.{ring_coord_bytes, CoordBytesSpell, RingBytesSpell, LendsCoordinates}
@@ -26,13 +26,13 @@ pub use Rattle.wkb_view.specs.Views.{point_words_bytes, line_string_coord_bytes,
 pub use Rattle.wkb_view.specs.Views.{multi_point_member_bytes, multi_point_spelling}
 pub use Rattle.wkb_view.specs.Parts.{list_of_values, IsCollection, points_of, members_spelled, list_of_spellings}
 pub use Rattle.wkb_view.specs.Parts.{spelling_at}
-pub use Rattle.wkb_view.specs.Spelled.{BytesSpell, srid_of, order_of}
+pub use Rattle.wkb_view.specs.Spells.{BytesSpell, srid_of, order_of}
 pub use Rattle.wkb_view.specs.Members.{polygon_seen, multi_line_string_seen, multi_polygon_seen, stride, ArePoints}
 pub use Rattle.wkb_view.specs.Members.{multi_point_item}
 pub use Rattle.wkb_geom.specs.Reading.{body_start, parts_start, point_item, line_string_item}
-pub use Rattle.wkb_view.specs.Fitted.{fitted_line_string, fitted_line_strings, fitted_polygons, fitted_point}
-pub use Rattle.wkb_view.specs.Fitted.{fitted_geometry, fitted_geometries, fitted_parts, fitted_polygon, fitted_members}
-pub use Rattle.wkb_view.specs.Fitted.{fitted_rings_size}
+pub use Rattle.wkb_view.specs.Fits.{fitted_line_string, fitted_line_strings, fitted_polygons, fitted_point}
+pub use Rattle.wkb_view.specs.Fits.{fitted_geometry, fitted_geometries, fitted_parts, fitted_polygon, fitted_members}
+pub use Rattle.wkb_view.specs.Fits.{fitted_rings_size}
 pub use Rattle.wkb_view.specs.Lawful.{point_value, fitted_geometry-same}
 pub use Rattle.wkb_read.specs.declared.geometry.Wkb.{Wkb}
 pub use Rattle.wkb_view.specs.declared.coord.Coord.{Coord}

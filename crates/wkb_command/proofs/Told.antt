@@ -29,7 +29,7 @@ use Rattle.wkb_command.specs.Calls.{OfTwoHexes, AreCompared}
 use Rattle.wkb_command.specs.Program.{Says, rewritten, rewritten_with_srid, accepted, counted_refusal, srid, refused}
 use Rattle.wkb_command.specs.Program.{same, different, no_srid, not_hex, IsOneLine, IsNotSingle, IsNotPair, hex_line}
 use Rattle.wkb_command.specs.Program.{wanted_lines, Gives, counts, TellsCause, TellsError, TellsHexFault}
-use Rattle.wkb.proofs.Rewritten.{iso_fits}
+use Rattle.wkb.proofs.Rewritings.{iso_fits}
 use Rattle.wkb_command.proofs.Hexes.{AreHex-from, AreHexOf-length}
 
 pub TellsCause-from : (e : WkbError) (cause : Cause) (line : List ℕ) → Tells e cause → TellsError e line

@@ -7,7 +7,7 @@ use Rattle.wkb_geom.specs.Encodings.{inner, form_with_flags}
 use Rattle.wkb_geom.specs.Numbers.{AreBytes}
 use Rattle.wkb_geom.specs.Spellings.{Spellings, node}
 use Rattle.wkb_laws.specs.Written.{written_header, written_each}
-use Rattle.wkb_view.proofs.Encoded.{HasWrittenHeader, header_spelled, as_member}
+use Rattle.wkb_view.proofs.Encodings.{HasWrittenHeader, header_spelled, as_member}
 
 -- members that are spelled as they are written
 members_written : (order : Endianness) (has_flags : Bool) (members : List Item)

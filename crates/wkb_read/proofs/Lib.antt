@@ -7,7 +7,7 @@ pub mod NoMemory
 pub mod NoSrids
 pub mod Opens
 pub mod Parts
-pub mod Placed
+pub mod Places
 pub mod Results
-pub mod Stacks
+pub mod Stack
 mod Sums

@@ -4,7 +4,7 @@ use Rattle.wkb_read.proofs.Prelude.{option_map, Bor, length, Value, Values, Coor
 use Rattle.wkb_read.proofs.Prelude.{geometries, geometry_of, geometries_of, IsGeometry, Item, values, geometry_seen}
 use Rattle.wkb_read.proofs.Prelude.{members_seen, Layout, parts_in, AreMembers, IsMemberAt}
 use Rattle.wkb_read.proofs.Prelude.{arith}
-use Rattle.wkb_read.proofs.Placed.{is_member_at}
+use Rattle.wkb_read.proofs.Places.{is_member_at}
 use Rattle.std.proofs.lemmas.Bool.{ltb-true, ltb-false}
 use Rattle.std.proofs.lemmas.List.{length-map}
 use Rattle.std.proofs.lemmas.Option.{slice_get-map, slice_get_past, slice_get_read}
@@ -18,7 +18,7 @@ use Rattle.wkb_geom.specs.Geometries.{collection}
 use Rattle.wkb_geom.specs.Parts.{PointMeans, LineStringMeans, PolygonMeans, MultiPointMeans, MultiLineStringMeans}
 use Rattle.wkb_geom.specs.Parts.{MultiPolygonMeans, CollectionMeans, RectMeans, TriangleMeans, LineMeans, RectMembers}
 use Rattle.wkb_geom.specs.Parts.{TriangleMembers, LineMembers}
-use Rattle.wkb_view.specs.Fitted.{fitted_parts, fitted_members, fitted_geometry, fitted_geometries}
+use Rattle.wkb_view.specs.Fits.{fitted_parts, fitted_members, fitted_geometry, fitted_geometries}
 use Rattle.wkb_view.specs.Views.{point_seen, point_dimension, seen_coordinate, line_string_seen}
 use Rattle.wkb_view.specs.Lawful.{fitted_geometry-same, point_value}
 use Rattle.wkb_view.specs.Views.{line_string_dimension, seen_coordinates, multi_point_seen}

@@ -29,13 +29,13 @@ pub use Rattle.wkb_read.specs.declared.geometry.Wkb.{Wkb}
 pub use Rattle.wkb_read.specs.declared.read.stack.Begun.TheVariants.{Whole, Opened}
 pub use Rattle.wkb_read.specs.declared.read.stack.Open.{Open}
 pub use Rattle.wkb_read.specs.Memory.{IsNotMemory, HasNoMembers, TypeTakesNone, ReadsWithoutMemory}
-pub use Rattle.wkb_read.specs.Placed.{joined_encodings, parts_in, closing, HoldsMembers, IsCollectionIn, AreMembers}
-pub use Rattle.wkb_read.specs.Placed.{IsMemberAt}
+pub use Rattle.wkb_read.specs.Places.{joined_encodings, parts_in, closing, HoldsMembers, IsCollectionIn, AreMembers}
+pub use Rattle.wkb_read.specs.Places.{IsMemberAt}
 pub use Rattle.wkb_geom.specs.Fronts.{HasNoFront}
 pub use Rattle.wkb_read.specs.Reads.{IsFront, IsOnlyFront, IsRefusal, TellsEach, IfRefused, IfMemory, CountsValue}
 pub use Rattle.wkb_read.specs.Reads.{CountsRefusal, CountsAtMost, AsksForNone, BeginsNone, KindTakesNone}
 pub use Rattle.wkb_read.specs.Reads.{TakesNoMemory}
-pub use Rattle.wkb_read.specs.Seen.{geometry_seen, members_seen}
+pub use Rattle.wkb_read.specs.Meanings.{geometry_seen, members_seen}
 pub use Rattle.wkb_read.specs.Lawful.{seen_as_it_is}
 pub use Rattle.wkb_read.specs.Stack.{geometry_inside, after_member, in_collection, outward, first_member}
 pub use Rattle.wkb_read.specs.Stack.{around, IsOpen, AreOpen, IsFinished, collection_inside, BeginsAs, ReadsAs}

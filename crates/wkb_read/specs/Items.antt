@@ -1,7 +1,7 @@
 -- The item that the view of a kind shows.
 use Rattle.wkb_read.specs.Prelude.{Item, point_seen, line_string_seen, polygon_seen, multi_point_seen}
 use Rattle.wkb_read.specs.Prelude.{multi_line_string_seen, multi_polygon_seen}
-use Rattle.wkb_read.specs.Placed.{collection_seen}
+use Rattle.wkb_read.specs.Places.{collection_seen}
 use Rattle.wkb_read.specs.declared.geometry.View.{View}
 use Rattle.wkb_read.specs.declared.geometry.View.TheVariants.{Point, LineString, Polygon, MultiPoint, MultiLineString}
 use Rattle.wkb_read.specs.declared.geometry.View.TheVariants.{MultiPolygon, GeometryCollection}

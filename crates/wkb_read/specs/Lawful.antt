@@ -6,9 +6,9 @@ use Rattle.wkb_read.specs.Prelude.{IsGeometry, AreGeometries, Item, list_of_valu
 use Rattle.std.proofs.Common.{refl, ap, ◌∙◌}
 use Rattle.wkb_geom.specs.Values as value
 use Rattle.wkb_geom.specs.Geometries.{dimensions_of}
-use Rattle.wkb_view.specs.Fitted.{fitted_geometry}
+use Rattle.wkb_view.specs.Fits.{fitted_geometry}
 use Rattle.wkb_view.specs.Lawful.{IsGeometry-fitted, fitted_geometry-same}
-use Rattle.wkb_read.specs.Seen.{geometry_seen, members_seen}
+use Rattle.wkb_read.specs.Meanings.{geometry_seen, members_seen}
 
 -- what a geometry means is lawful
 pub geometry_lawful : (w : Item) → IsGeometry (geometry_seen w)

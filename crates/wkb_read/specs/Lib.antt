@@ -4,12 +4,12 @@ pub mod ItemsFall
 pub mod Memory
 pub mod Nodes
 pub mod MembersFall
-pub mod Placed
+pub mod Places
 pub mod Views
 pub mod Reads
 pub mod NoSrids
 pub mod Stack
 pub mod Types
-pub mod Seen
+pub mod Meanings
 pub mod Lawful
 pub mod Contents

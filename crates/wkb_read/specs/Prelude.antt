@@ -35,7 +35,7 @@ pub use Rattle.wkb_view.specs.declared.counts.Counts.{Counts}
 pub use Rattle.wkb_view.specs.Headers.{HasHead}
 pub use Rattle.wkb_view.specs.Outcome.{Spent, next_turn, cost_of, AtMost, CanCount, Stops, IsCause}
 pub use Rattle.wkb_view.specs.Parts.{list_of_values, members_spelled, IsCollection}
-pub use Rattle.wkb_view.specs.Spelled.{BytesSpell, srid_of}
+pub use Rattle.wkb_view.specs.Spells.{BytesSpell, srid_of}
 pub use Rattle.wkb_view.specs.Members.{polygon_seen, multi_line_string_seen, multi_polygon_seen}
 pub use Rattle.wkb_view.specs.Views.{point_seen, line_string_seen, multi_point_seen}
-pub use Rattle.wkb_view.specs.SpelledAsWritten.{IsSpelledAsWritten, LendsEncoding}
+pub use Rattle.wkb_view.specs.BytesAsWritten.{IsSpelledAsWritten, LendsEncoding}

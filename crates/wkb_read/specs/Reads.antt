@@ -4,7 +4,7 @@ use Rattle.wkb_read.specs.Prelude.{Endianness, Dimension, Iso, WkbError, Value, 
 use Rattle.wkb_read.specs.Prelude.{any, Front, HasNoFront, max_nesting, Cause, Refuses, Opens, Tells, geometry_of}
 use Rattle.wkb_read.specs.Prelude.{IsWritable, Item, Counts, IsGeometry, normal}
 use Rattle.wkb_read.specs.Memory.{IsNotMemory}
-use Rattle.wkb_read.specs.Seen.{geometry_seen}
+use Rattle.wkb_read.specs.Meanings.{geometry_seen}
 use Rattle.wkb_geom.specs.declared.error.WkbError.TheVariants as errors
 use Rattle.wkb_read.specs.declared.geometry.Wkb.{Wkb}
 

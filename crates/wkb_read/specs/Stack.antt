@@ -12,7 +12,7 @@ use Rattle.wkb_read.specs.declared.geometry.Wkb.{Wkb}
 use Rattle.wkb_read.specs.declared.read.stack.Open.{Open}
 use Rattle.wkb_read.specs.declared.read.stack.Begun.{Begun}
 use Rattle.wkb_read.specs.declared.read.stack.Begun.TheVariants.{Whole, Opened}
-use Rattle.wkb_read.specs.Placed.{joined_encodings, closing}
+use Rattle.wkb_read.specs.Places.{joined_encodings, closing}
 
 -- the reading of a geometry inside this number of open collections
 abbrev pub geometry_inside : ℕ → List ℕ → Reading Item

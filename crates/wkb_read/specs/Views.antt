@@ -8,7 +8,7 @@ use Rattle.wkb_geom.specs.declared.geom.GeometryType.TheVariants.{MultiLineStrin
 use Rattle.wkb_view.specs.declared.point.Point as views
 use Rattle.wkb_view.specs.declared.line_string.LineString as lines
 use Rattle.wkb_view.specs.declared.multi_point.MultiPoint as points
-use Rattle.wkb_read.specs.Placed.{collection_seen, AreMembers}
+use Rattle.wkb_read.specs.Places.{collection_seen, AreMembers}
 
 -- a collection with these members, which is this geometry
 pub record IsCollectionOf (w : Item) (members : List Item) : Type 0 where

@@ -1,7 +1,7 @@
 //! Collections, and geometries of any kind.
 
 ghost use Rattle.wkb_read.specs.Prelude.{as_dimensions};
-ghost use Rattle.wkb_read.specs.Seen.{members_seen, geometry_seen};
+ghost use Rattle.wkb_read.specs.Meanings.{members_seen, geometry_seen};
 ghost use Rattle.wkb_read.specs.Lawful.{members_lawful, geometry_lawful, one_dimension_seen};
 
 use crate::geometry_type::GeometryType as TypeName;
@@ -72,7 +72,7 @@ impl<'a> Model for GeometryCollection<'a> {
     ghost use Rattle.wkb_read.specs.Nodes.{size_inside};
     ghost use Rattle.wkb_read.specs.MembersFall.{members_fall};
     ghost use Rattle.std.specs.Prelude.{◌≡◌, ◌<◌};
-    ghost use Rattle.wkb_read.specs.Placed.{IsCollectionIn, parts_in};
+    ghost use Rattle.wkb_read.specs.Places.{IsCollectionIn, parts_in};
     ghost use Rattle.wkb_read.specs.NoSrids.{HaveNoSrids};
 
     ghost Value = { Listed Values };
@@ -112,7 +112,7 @@ impl<'a> Model for Wkb<'a> {
 impl<'a> GeometryCollection<'a> {
     ghost use Rattle.std.specs.Prelude.{◌≡◌, true, IfOk, length};
     ghost use Rattle.wkb_read.specs.Prelude.{srid_of, BytesSpell, IsSpelledAsWritten};
-    ghost use Rattle.wkb_read.specs.Placed.{collection_seen};
+    ghost use Rattle.wkb_read.specs.Places.{collection_seen};
     ghost use Rattle.wkb_read.specs.Reads.{IsFront};
 
     /// The number of its bytes.
@@ -204,7 +204,7 @@ impl Dimensioned for GeometryCollection<'_> {
 impl<'a> GeometryCollectionTrait for GeometryCollection<'a> {
     ghost use Rattle.std.specs.Prelude.{◌≡◌, map, option_map};
     ghost use Rattle.wkb_geom.specs.Found.{IsItemAt};
-    ghost use Rattle.wkb_read.specs.Placed.{AreMembers, IsMemberAt};
+    ghost use Rattle.wkb_read.specs.Places.{AreMembers, IsMemberAt};
 
     type GeometryType = Wkb<'a>;
 
@@ -212,7 +212,7 @@ impl<'a> GeometryCollectionTrait for GeometryCollection<'a> {
 
     ghost lawful = { λ c. members_lawful c.parts };
 
-    #[tactic(auto, using(crate::proofs::Parts::members_mean, crate::proofs::Placed::are_members))]
+    #[tactic(auto, using(crate::proofs::Parts::members_mean, crate::proofs::Places::are_members))]
     #[inline]
     fn geometries(&self) -> &[Wkb<'a>]
         ensures members { map geometry_seen result.now ≡ members_seen self.now.parts }
@@ -242,7 +242,7 @@ impl<'a> Wkb<'a> {
     ghost use Rattle.wkb_geom.specs.Encodings.{form_with_flags};
     ghost use Rattle.wkb_read.specs.Prelude.{srid_of, dimension, IsCollection, BytesSpell, IsSpelledAsWritten};
     ghost use Rattle.wkb_read.specs.Prelude.{LendsEncoding};
-    ghost use Rattle.wkb_read.specs.Placed.{collection_seen};
+    ghost use Rattle.wkb_read.specs.Places.{collection_seen};
     ghost use Rattle.wkb_read.specs.Types.{geometry_type_of, IsListed};
     ghost use Rattle.wkb_read.specs.Reads.{Reads, IsFront};
 
@@ -488,7 +488,7 @@ impl<'a> GeometryTrait for Wkb<'a> {
 /// This collection, as a geometry of any kind.
 impl<'a> From<GeometryCollection<'a>> for Wkb<'a> {
     ghost use Rattle.std.specs.Prelude.{◌≡◌};
-    ghost use Rattle.wkb_read.specs.Placed.{collection_seen};
+    ghost use Rattle.wkb_read.specs.Places.{collection_seen};
 
     ghost from_gives = { λ c w. w ≡ collection_seen c };
 

@@ -8,7 +8,7 @@ use Rattle.wkb_geom.specs.Dimensions.{size}
 use Rattle.wkb_view.specs.Prelude.{Dimension, width, as_dimensions, Layout, Listed, Coordinate, AreBytes, BytesSpell}
 use Rattle.wkb_view.specs.Prelude.{body_start}
 use Rattle.wkb_view.specs.Members.{polygon_laid, polygon_seen}
-use Rattle.wkb_view.proofs.Sized.{polygon_size, rings_same}
+use Rattle.wkb_view.proofs.Sizes.{polygon_size, rings_same}
 use Rattle.wkb_view.specs.Lawful.{named_size}
 use Rattle.wkb_view.proofs.Items.{width-within}
 

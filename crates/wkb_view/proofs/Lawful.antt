@@ -9,7 +9,7 @@ use Rattle.wkb_view.specs.Prelude.{Dimension, Coordinate, as_dimensions, point_o
 use Rattle.wkb_view.specs.declared.point.Point.{Point}
 use Rattle.wkb_view.specs.declared.line_string.LineString.{LineString}
 use Rattle.wkb_view.specs.declared.multi_point.MultiPoint.{MultiPoint}
-use Rattle.wkb_view.specs.Fitted.{fitted_line_string, fitted_line_strings}
+use Rattle.wkb_view.specs.Fits.{fitted_line_string, fitted_line_strings}
 use Rattle.wkb_view.specs.Lawful.{point_item_lawful, line_string_item_lawful, multi_point_item_lawful}
 use Rattle.wkb_view.specs.Lawful.{line_string_fits}
 use Rattle.wkb_view.specs.Views.{point_seen, point_dimension, line_string_seen, line_string_dimension, multi_point_seen}

@@ -5,10 +5,10 @@ pub mod Leaves
 pub mod Lists
 pub mod Members
 pub mod Pieces
-pub mod SpelledRead
+pub mod Spells
 pub mod Hex
-pub mod Asked
+pub mod Examples
 mod CoordsAsWritten
-pub mod Encoded
-pub mod Sized
+pub mod Encodings
+pub mod Sizes
 pub mod CoordCounts

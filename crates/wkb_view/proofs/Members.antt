@@ -11,7 +11,7 @@ use Rattle.wkb_view.specs.Prelude.{Dimension, as_dimensions, Spelling, Coordinat
 use Rattle.wkb_view.specs.Prelude.{polygon_of, Layout, Head, Cause, multi_point_end, body_start, point_of}
 use Rattle.wkb_view.specs.Prelude.{consumed, laid, head_at, layout_wanted, member_layout, list_of_spellings}
 use Rattle.wkb_plain.proofs.Lookups.{IsAnswered, copied_is}
-use Rattle.wkb_view.specs.Fitted.{fitted_parts, fitted_line_strings, fitted_polygons}
+use Rattle.wkb_view.specs.Fits.{fitted_parts, fitted_line_strings, fitted_polygons}
 use Rattle.wkb_view.specs.Members.{polygon_items, IsEncoding, IsMemberOfKind, AreMembersOfKind, member_item, members_in}
 use Rattle.wkb_view.specs.Members.{pieces_behind, every, stride, point_ends, points_in}
 use Rattle.wkb_view.specs.Pieces.{pieces, Passed}

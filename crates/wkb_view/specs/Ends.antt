@@ -11,7 +11,7 @@ use Rattle.wkb_view.specs.declared.reserved.Reserved.{Reserved}
 use Rattle.wkb_view.specs.Entries.{entries}
 use Rattle.wkb_view.specs.Members.{parts_behind, pieces_behind, IsMemberOfKind, member_item}
 use Rattle.wkb_view.specs.Outcome.{CountsOutcome, CountsOrStops}
-use Rattle.wkb_view.specs.Passing.{passed_as}
+use Rattle.wkb_view.specs.Passes.{passed_as}
 use Rattle.wkb_view.specs.Pieces.{ArePieces, IsRing}
 
 -- Parts of at least `least` bytes: the kind of the whole, how a part is read, what is seen in its bytes and their form,

@@ -33,4 +33,4 @@ unfoldable pub use Rattle.wkb_geom.specs.Reading.{multi_point_told, multi_line_s
 pub use Rattle.wkb_geom.specs.Reading.{multi_point_at, multi_line_string_at, multi_polygon_at}
 pub use Rattle.wkb_view.specs.Parts.{list_of_values, IsCollection, points_of, members_spelled, list_of_spellings}
 pub use Rattle.wkb_view.specs.Parts.{spelling_at}
-pub use Rattle.wkb_view.specs.Spelled.{BytesSpell, srid_of, order_of}
+pub use Rattle.wkb_view.specs.Spells.{BytesSpell, srid_of, order_of}

@@ -10,7 +10,7 @@ use Rattle.wkb_view.specs.declared.multi_point.MultiPoint.{MultiPoint}
 use Rattle.wkb_view.specs.declared.reserved.Reserved.{Reserved}
 use Rattle.wkb_view.specs.Members.{polygon_seen, multi_line_string_seen, multi_polygon_seen, members_behind}
 use Rattle.wkb_view.specs.Outcome.{IsReadCounted, IsReadOrStops}
-use Rattle.wkb_view.specs.Passing.{polygons_seen}
+use Rattle.wkb_view.specs.Passes.{polygons_seen}
 use Rattle.wkb_view.specs.Views.{multi_point_seen}
 
 -- a value that was read, with the bytes after it, or why the reader stopped

@@ -2,7 +2,7 @@
 
 ghost use Rattle.std.specs.Prelude.{◌≡◌, true};
 ghost use Rattle.wkb_geom.specs.Reading.{Item};
-ghost use Rattle.wkb_view.specs.SpelledAsWritten.{IsSpelledAsWritten, IsFlagsOf};
+ghost use Rattle.wkb_view.specs.BytesAsWritten.{IsSpelledAsWritten, IsFlagsOf};
 
 use wkb_geom::{Endianness, Form};
 

@@ -5,7 +5,7 @@ ghost use Rattle.wkb_view.specs.Prelude.{Layout, body_start};
 ghost use Rattle.wkb_view.specs.Ends.{PartsOf, whole_at, parts_at, AreEndsOf, PassesParts, ReadsEnds};
 ghost use Rattle.wkb_view.specs.Entries.{entries, capacity, HasSlots};
 ghost use Rattle.wkb_view.specs.Outcome.{CanCount, RefusesWithoutSlots};
-ghost use Rattle.wkb_view.specs.Passing.{PassesPart};
+ghost use Rattle.wkb_view.specs.Passes.{PassesPart};
 ghost use Rattle.wkb_view.specs.Pieces.{IsAfterCount, Passed};
 
 use crate::counts::Counts;

@@ -4,7 +4,7 @@ ghost use Rattle.std.specs.Prelude.{◌≡◌, ◌+◌, length, ◌≤◌, IfOk}
 ghost use Rattle.wkb_view.specs.Prelude.{AreBytes, body_start, consumed, multi_point_end, BytesSpell};
 ghost use Rattle.wkb_view.specs.Members.{members_behind, ArePoints, PassedMember, multi_point_item};
 ghost use Rattle.wkb_view.specs.Outcome.{CanCount};
-ghost use Rattle.wkb_view.specs.Passing.{PassesPoint, PassesPoints, IsAfterPoints};
+ghost use Rattle.wkb_view.specs.Passes.{PassesPoint, PassesPoints, IsAfterPoints};
 
 use crate::any::{
     AnyView, Line, LineString, MultiLineString, MultiPolygon, Point, Polygon, Rect, Triangle,

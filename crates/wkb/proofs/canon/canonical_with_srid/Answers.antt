@@ -1,5 +1,5 @@
 use Rattle.std.proofs.lemmas.Result.{IfOk-weaker}
-use Rattle.wkb.proofs.Rewritten.{made_with_srid}
+use Rattle.wkb.proofs.Rewritings.{made_with_srid}
 use Rattle.wkb.proofs.canon.canonical_with_srid.Goals as goal
 
 pub returns-clause-ok : goal.returns-clause-ok

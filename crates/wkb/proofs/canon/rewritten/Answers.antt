@@ -1,7 +1,7 @@
 use Rattle.std.proofs.Common.{sym, ◌∙◌}
 use Rattle.std.proofs.lemmas.Result.{IfOk-weaker}
 use Rattle.wkb_rewrite.proofs.Measured.{here}
-use Rattle.wkb.proofs.Rewritten.{filled, made}
+use Rattle.wkb.proofs.Rewritings.{filled, made}
 use Rattle.wkb.proofs.canon.rewritten.Goals as goal
 
 pub returns-in-Some-clause-ok : goal.returns-in-Some-clause-ok

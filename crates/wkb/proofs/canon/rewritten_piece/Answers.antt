@@ -1,5 +1,5 @@
 use Rattle.wkb_rewrite.proofs.Measured.{here}
-use Rattle.wkb.proofs.Rewritten.{filled, made}
+use Rattle.wkb.proofs.Rewritings.{filled, made}
 use Rattle.wkb.proofs.canon.rewritten_piece.Goals as goal
 
 pub returns-clause-ok : goal.returns-clause-ok

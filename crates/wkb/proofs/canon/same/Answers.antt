@@ -1,5 +1,5 @@
 use Rattle.wkb_rewrite.proofs.Measured.{here}
-use Rattle.wkb.proofs.Rewritten.{compared}
+use Rattle.wkb.proofs.Rewritings.{compared}
 use Rattle.wkb.proofs.canon.same.Goals as goal
 
 pub have_one_value-requires-clause-first : goal.have_one_value-requires-clause-first

@@ -1,7 +1,7 @@
 use Rattle.wkb_read.proofs.Prelude.{◌∙◌, refl, sym, subst, take_all, AllByRecursion}
 use Rattle.wkb_read.specs.Prelude.{IsSpelledAsWritten}
 use Rattle.wkb_view.proofs.Members.{all_more}
-use Rattle.wkb_view.proofs.Encoded.{HasWrittenHeader}
+use Rattle.wkb_view.proofs.Encodings.{HasWrittenHeader}
 use Rattle.wkb_read.proofs.AsWritten.{collection_written}
 use Rattle.wkb_read.proofs.geometry.+spellings.Goals as goal
 

@@ -1,5 +1,5 @@
 use Rattle.wkb_read.proofs.Prelude.{ap, arith, Item, Reading, max_nesting, geometry_at}
-use Rattle.wkb_read.proofs.Stacks.{reads_on}
+use Rattle.wkb_read.proofs.Stack.{reads_on}
 use Rattle.wkb_read.proofs.read.read_geometry.Goals as goal
 
 pub read_collection-requires-clause-stands : goal.read_collection-requires-clause-stands

@@ -1,5 +1,5 @@
 use Rattle.wkb_read.proofs.Prelude.{◌∙◌, refl}
-use Rattle.wkb_view.proofs.Encoded.{is_encoded_fitted}
+use Rattle.wkb_view.proofs.Encodings.{is_encoded_fitted}
 use Rattle.wkb_read.proofs.geometry.Wkb.as_written_without_srid.Goals as goal
 
 pub returns-then-is_as_written : goal.returns-then-is_as_written

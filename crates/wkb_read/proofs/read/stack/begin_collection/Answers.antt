@@ -5,7 +5,7 @@ use Rattle.wkb_geom.specs.declared.error.Refusal.{Refusal}
 use Rattle.std.proofs.lemmas.Result.{err_from_is_err_and}
 use Rattle.wkb_view.proofs.Lists.{parts_length, entries_within, list_refused}
 use Rattle.wkb_view.specs.Entries.{entries, entries_asked, HasNoList}
-use Rattle.wkb_read.proofs.Placed.{closed, front_taken}
+use Rattle.wkb_read.proofs.Places.{closed, front_taken}
 use Rattle.wkb_read.proofs.Opens.{opens, without_members, first_begins, too_many_around}
 use Rattle.wkb_read.proofs.NoMemory.{none_asked}
 use Rattle.wkb_read.proofs.read.stack.begin_collection.Goals as goal

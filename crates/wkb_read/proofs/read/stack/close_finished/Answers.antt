@@ -6,7 +6,7 @@ use Rattle.std.proofs.lemmas.Bool.{false≢true}
 use Rattle.wkb_view.specs.Entries.{entries}
 use Rattle.wkb_view.specs.Outcome.{next_turn}
 use Rattle.wkb_read.proofs.LastItem.{Top, top, popped}
-use Rattle.wkb_read.proofs.Stacks.{Reaches, Finishes, Completes, next_begins, completes}
+use Rattle.wkb_read.proofs.Stack.{Reaches, Finishes, Completes, next_begins, completes}
 use Rattle.wkb_read.proofs.read.stack.close_finished.Goals as goal
 use Rattle.wkb_read.proofs.read.stack.close_finished.Goals.{After-push}
 

@@ -1,5 +1,5 @@
 use Rattle.wkb_read.proofs.Prelude.{◌≤◌, length, reverse, vec_len, costs, cost_of, outward}
-use Rattle.wkb_read.proofs.Stacks.{Finishes}
+use Rattle.wkb_read.proofs.Stack.{Finishes}
 use Rattle.wkb_read.proofs.read.stack.close_finished.Given as goal
 
 abbrev pub invariant-loop-top : goal.invariant-loop-top

@@ -1,7 +1,7 @@
 use Rattle.wkb_read.proofs.Prelude.{◌≡◌, length, reverse, [], ◌∷◌, refl, ap, ◌∙◌, length-append, reverse-append}
 use Rattle.wkb_read.proofs.Prelude.{length-reverse, arith, Item, Reading, costs, Counts, cost_of}
 use Rattle.wkb_read.proofs.Prelude.{first_member, outward, geometry_inside}
-use Rattle.wkb_read.proofs.Stacks.{Reaches, Finishes, at_most_turn, enters, finishes}
+use Rattle.wkb_read.proofs.Stack.{Reaches, Finishes, at_most_turn, enters, finishes}
 use Rattle.wkb_view.proofs.Algebra.{part_counted, part_stops, all_read}
 use Rattle.std.proofs.lemmas.Result.{err_from_is_err_and}
 use Rattle.wkb_view.specs.Outcome.{next_turn}

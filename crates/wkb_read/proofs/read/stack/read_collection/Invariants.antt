@@ -1,5 +1,5 @@
 use Rattle.wkb_read.proofs.Prelude.{◌≤◌, length, reverse, max_nesting, costs, cost_of, first_member}
-use Rattle.wkb_read.proofs.Stacks.{Reaches}
+use Rattle.wkb_read.proofs.Stack.{Reaches}
 use Rattle.wkb_read.proofs.read.stack.read_collection.Given as goal
 
 abbrev pub invariant-loop-collection : goal.invariant-loop-collection

@@ -2,7 +2,7 @@ use Rattle.std.proofs.Common.{rules, subst, sym, ◌∙◌, refl, arith}
 use Rattle.wkb_view.specs.Prelude.{AreBytes, body_start}
 use Rattle.wkb_view.specs.Lawful.{AreBytes-take}
 use Rattle.wkb_view.proofs.Leaves.{number_within, passed_by}
-use Rattle.wkb_view.proofs.SpelledRead.{line_string_is_encoding}
+use Rattle.wkb_view.proofs.Spells.{line_string_is_encoding}
 use Rattle.wkb_view.proofs.line_string.LineString.read.Goals as goal
 
 pub invariant_of-line_string-clause-counted : goal.invariant_of-line_string-clause-counted

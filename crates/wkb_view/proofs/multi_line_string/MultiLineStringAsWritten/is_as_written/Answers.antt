@@ -3,7 +3,7 @@ use Rattle.wkb_geom.specs.Values.{line_string}
 use Rattle.wkb_view.specs.Prelude.{line_string_of}
 use Rattle.wkb_view.specs.Members.{members_in}
 use Rattle.wkb_view.specs.Views.{seen_coordinates}
-use Rattle.wkb_view.proofs.Encoded.{HasWrittenHeader, one_more_written, all_written}
+use Rattle.wkb_view.proofs.Encodings.{HasWrittenHeader, one_more_written, all_written}
 use Rattle.wkb_view.proofs.multi_line_string.MultiLineStringAsWritten.is_as_written.Goals as goal
 
 pub loop-i-preserved : goal.loop-i-preserved

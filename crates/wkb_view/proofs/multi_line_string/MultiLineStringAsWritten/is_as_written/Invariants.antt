@@ -1,5 +1,5 @@
 use Rattle.wkb_geom.specs.Values.{line_string}
-use Rattle.wkb_view.proofs.Encoded.{AreWrittenBefore}
+use Rattle.wkb_view.proofs.Encodings.{AreWrittenBefore}
 use Rattle.wkb_view.proofs.multi_line_string.MultiLineStringAsWritten.is_as_written.Given as goal
 
 abbrev pub invariant-loop-i : goal.invariant-loop-i

@@ -5,7 +5,7 @@ use Rattle.wkb_view.specs.Prelude.{list_item, member_at, multi_point_with, multi
 use Rattle.wkb_view.specs.Prelude.refusals
 use Rattle.wkb_view.specs.Lawful.{AreBytes-take}
 use Rattle.wkb_view.proofs.Lists.{IsList, points_here, list_fits, list_reads, list_stops}
-use Rattle.wkb_view.proofs.SpelledRead.{body_spelled}
+use Rattle.wkb_view.proofs.Spells.{body_spelled}
 use Rattle.wkb_view.proofs.multi_point.MultiPoint.read.Goals as goal
 use Rattle.wkb_view.proofs.multi_point.MultiPoint.read.Goals.{In_ok-count}
 

@@ -4,7 +4,7 @@ use Rattle.wkb_view.specs.Prelude.{point_of}
 use Rattle.wkb_view.specs.Members.{points_in}
 use Rattle.wkb_view.specs.Views.{seen_coordinate}
 use Rattle.wkb_view.specs.Lawful.{point_value}
-use Rattle.wkb_view.proofs.Encoded.{HasWrittenHeader, one_more_written, all_written}
+use Rattle.wkb_view.proofs.Encodings.{HasWrittenHeader, one_more_written, all_written}
 use Rattle.wkb_view.proofs.multi_point.MultiPointAsWritten.is_as_written.Goals as goal
 
 pub loop-i-preserved : goal.loop-i-preserved

@@ -1,6 +1,6 @@
 use Rattle.wkb_geom.specs.Values.{point}
 use Rattle.wkb_view.specs.Views.{multi_point_seen, seen_points, multi_point_dimension}
-use Rattle.wkb_view.proofs.Encoded.{AreWrittenBefore}
+use Rattle.wkb_view.proofs.Encodings.{AreWrittenBefore}
 use Rattle.wkb_view.proofs.multi_point.MultiPointAsWritten.is_as_written.Given as goal
 
 abbrev pub invariant-loop-i : goal.invariant-loop-i

@@ -1,5 +1,5 @@
 use Rattle.wkb_view.specs.Views.{multi_point_seen}
-use Rattle.wkb_view.proofs.Encoded.{is_encoded, exposes}
+use Rattle.wkb_view.proofs.Encodings.{is_encoded, exposes}
 use Rattle.wkb_view.proofs.multi_point.MultiPointGeometryTrait.as_written.Goals as goal
 
 pub returns : goal.returns

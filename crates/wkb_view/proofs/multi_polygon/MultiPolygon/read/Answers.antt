@@ -4,7 +4,7 @@ use Rattle.wkb_view.specs.Prelude.{member_at, list_item, multi_polygon_with, mul
 use Rattle.wkb_view.specs.Members.{AreOfDimension}
 use Rattle.wkb_view.proofs.Lists.{IsList, parts_length, polygons_here, list_fits, list_costs, list_reads, list_stops}
 use Rattle.wkb_view.proofs.Lists.{polygons_within, polygons_refused}
-use Rattle.wkb_view.proofs.SpelledRead.{body_spelled}
+use Rattle.wkb_view.proofs.Spells.{body_spelled}
 use Rattle.wkb_view.proofs.multi_polygon.MultiPolygon.read.Goals as goal
 use Rattle.wkb_view.proofs.multi_polygon.MultiPolygon.read.Goals.{In_ok-count}
 

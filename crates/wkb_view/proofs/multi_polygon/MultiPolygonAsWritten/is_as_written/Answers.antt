@@ -3,8 +3,8 @@ use Rattle.std.proofs.lemmas.List.{length-map}
 use Rattle.wkb_geom.specs.Values.{polygon}
 use Rattle.wkb_view.specs.Prelude.{polygon_of, as_dimensions}
 use Rattle.wkb_view.specs.Members.{polygon_items}
-use Rattle.wkb_view.specs.Fitted.{fitted_line_strings}
-use Rattle.wkb_view.proofs.Encoded.{HasWrittenHeader, one_more_written, all_written}
+use Rattle.wkb_view.specs.Fits.{fitted_line_strings}
+use Rattle.wkb_view.proofs.Encodings.{HasWrittenHeader, one_more_written, all_written}
 use Rattle.wkb_view.proofs.multi_polygon.MultiPolygonAsWritten.is_as_written.Goals as goal
 
 pub loop-i-preserved : goal.loop-i-preserved

@@ -1,5 +1,5 @@
 use Rattle.wkb_geom.specs.Values.{polygon}
-use Rattle.wkb_view.proofs.Encoded.{AreWrittenBefore}
+use Rattle.wkb_view.proofs.Encodings.{AreWrittenBefore}
 use Rattle.wkb_view.proofs.multi_polygon.MultiPolygonAsWritten.is_as_written.Given as goal
 
 abbrev pub invariant-loop-i : goal.invariant-loop-i

@@ -1,5 +1,5 @@
 use Rattle.wkb_view.specs.Members.{multi_polygon_seen, polygons_laid}
-use Rattle.wkb_view.proofs.Encoded.{is_encoded_fitted, exposes}
+use Rattle.wkb_view.proofs.Encodings.{is_encoded_fitted, exposes}
 use Rattle.wkb_view.proofs.multi_polygon.MultiPolygonGeometryTrait.as_written.Goals as goal
 
 pub returns : goal.returns

@@ -3,7 +3,7 @@ use Rattle.wkb_view.specs.Prelude.{AreBytes}
 use Rattle.wkb_view.specs.Lawful.{AreBytes-take}
 use Rattle.wkb_view.proofs.Items.{width-within}
 use Rattle.wkb_view.proofs.Leaves.{passed_by}
-use Rattle.wkb_view.proofs.SpelledRead.{point_encoding}
+use Rattle.wkb_view.proofs.Spells.{point_encoding}
 use Rattle.wkb_view.proofs.point.Point.read.Goals as goal
 
 pub invariant_of-point-clause-in_range : goal.invariant_of-point-clause-in_range

@@ -3,7 +3,7 @@ use Rattle.wkb_geom.specs.Geometries.{geometry_of}
 use Rattle.wkb_view.specs.Views.{point_seen}
 use Rattle.wkb_view.specs.Lawful.{point_value}
 use Rattle.wkb_view.proofs.Items.{point_encoding_is}
-use Rattle.wkb_view.proofs.Encoded.{IsEncoded, is_encoded, exposes}
+use Rattle.wkb_view.proofs.Encodings.{IsEncoded, is_encoded, exposes}
 use Rattle.wkb_view.proofs.point.PointGeometryTrait.as_written.Goals as goal
 
 pub returns : goal.returns

@@ -11,7 +11,7 @@ use Rattle.std.specs.Prelude.{max}
 use Rattle.wkb_view.specs.Outcome.{next_turn}
 use Rattle.wkb_view.proofs.Algebra.{and_then-costs, and_then-assoc, and_then-same}
 use Rattle.wkb_view.proofs.Algebra.{done_then, repeated_more, repeated_none, turn_begins, spent_in_all, at_most_in_all}
-use Rattle.wkb_read.proofs.Placed.{Closed, closed, one_more, part_read}
+use Rattle.wkb_read.proofs.Places.{Closed, closed, one_more, part_read}
 use Rattle.wkb_view.specs.Entries.{entries, capacity}
 use Rattle.wkb_view.proofs.Members.{all_more}
 

@@ -19,9 +19,9 @@ use Rattle.wkb_view.specs.Prelude.{Endianness, Dimension, number, Layout, Item, 
 use Rattle.wkb_view.specs.Prelude.{spelled_in}
 use Rattle.wkb_geom.specs.Dimensions.{written_dimension}
 use Rattle.wkb_view.specs.Prelude.{as_dimensions, spelling_at, list_of_spellings, members_spelled, BytesSpell}
-use Rattle.wkb_view.specs.Fitted.{fitted_geometry}
+use Rattle.wkb_view.specs.Fits.{fitted_geometry}
 use Rattle.wkb_view.specs.Lawful.{fitted_geometry-same}
-use Rattle.wkb_view.specs.SpelledAsWritten.{IsSpelledAsWritten, LendsEncoding}
+use Rattle.wkb_view.specs.BytesAsWritten.{IsSpelledAsWritten, LendsEncoding}
 use Rattle.wkb_view.proofs.Members.{spelled_each}
 
 -- ---- bytes in memory that are the encoding of a geometry without a fault

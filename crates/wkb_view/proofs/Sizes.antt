@@ -9,7 +9,7 @@ use Rattle.wkb_laws.proofs.Spelled.{in_full_lem, size_of_spelled_lem}
 use Rattle.wkb_laws.proofs.Values.{Good, spelled_good, lawful-geometry_of}
 use Rattle.wkb_view.specs.Prelude.{AreBytes, Layout, Coordinate, Listed, body_start, srid_in, as_dimensions}
 use Rattle.wkb_view.specs.Prelude.{BytesSpell}
-use Rattle.wkb_view.specs.Fitted.{fitted_parts, fitted_polygon}
+use Rattle.wkb_view.specs.Fits.{fitted_parts, fitted_polygon}
 use Rattle.wkb_view.specs.Lawful.{line_strings_fit}
 use Rattle.wkb_view.specs.Members.{polygon_laid, polygon_seen}
 
