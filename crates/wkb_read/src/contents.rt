@@ -29,7 +29,8 @@ fn of_line_strings(multi: &MultiLineString<'_>) -> usize
     coordinates
 }
 
-/// The coordinates of all polygons, and the polygons with their rings. Both are fewer than the bytes.
+/// The coordinates of all polygons, and the polygons with their rings. Both are fewer than the bytes; the calls of
+/// `buf` and `size` give the proof those bounds.
 fn of_polygons(multi: &MultiPolygon<'_>) -> Contents
     ensures { AreContentsOfPolygons multi.now.parts result }
 {
@@ -52,7 +53,7 @@ impl GeometryCollection<'_> {
     ghost use Rattle.wkb_read.specs.Contents.{AreContentsOfEach};
 
     /// How many coordinates its members have, and how many parts these are, themselves counted. Each number is less
-    /// than the length in bytes.
+    /// than the length in bytes; the call of `size` gives the proof that bound.
     #[cycle(contents)]
     fn contents(&self) -> Contents
         ensures { AreContentsOfEach self.now.parts result }
@@ -120,6 +121,7 @@ impl Wkb<'_> {
     pub fn num_parts(&self) -> usize
         ensures { result ≡ 1 + member_count self.now.value }
     {
+        // The proof takes the bound of this sum from the length of `buf`.
         let _bytes = self.buf();
         1 + self.contents().members
     }
