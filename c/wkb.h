@@ -482,10 +482,12 @@ typedef struct wkb_levels {
 
 /** Writes the encoding of each row of levels under the options, one after another. No row stops the others.
  *
- * It is the inverse of wkb_column_coordinates() (tested). A point, a line string and a polygon is one single. A single
- * that is no polygon has one ring, a point's ring one coordinate; an empty point is a coordinate of NaNs. All words are
- * written as they are, so an empty point is as wkb_column_write() has it only if each is 0x7ff8000000000000.
- * WKB_FORM_EWKB_OWN_SRID writes no SRID.
+ * It is the inverse of wkb_column_coordinates(), apart from SRIDs and the words of empty points: given the levels, the
+ * row ends and the validity bitmap of a column, it writes of each row of this kind and dimension whose levels were
+ * written what wkb_column_write() writes of it under the same options, and leaves a null row null. A point, a line
+ * string and a polygon is one single. A single that is no polygon has one ring, a point's ring one coordinate; an empty
+ * point is a coordinate of NaNs. All words are written as they are, so an empty point is as wkb_column_write() has it
+ * only if each is 0x7ff8000000000000. WKB_FORM_EWKB_OWN_SRID writes no SRID.
  *
  * The encoding of row i starts at ends[i - 1], or at 0 if i is 0, and ends at ends[i]. A row without an encoding ends
  * where it starts.

@@ -320,7 +320,7 @@ stay_same next before = record {
   single_ends_stay = next.single_ends_stay ∙ before.single_ends_stay;
 }
 
-wide_enough : (d : Dimension) (n : ℕ) → n ≤ width d * n
+pub wide_enough : (d : Dimension) (n : ℕ) → n ≤ width d * n
 wide_enough Xy n = omega arith
 wide_enough _ n = omega arith
 

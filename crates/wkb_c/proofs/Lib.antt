@@ -16,3 +16,11 @@ mod Rooms
 mod InTurn
 mod Collecting
 mod Gathering
+mod ThereAndBackLevels
+mod ThereAndBackKinds
+mod ThereAndBackRows
+mod ThereAndBackEncodings
+mod ThereAndBackGiven
+mod ThereAndBack
+mod ThereAndBackColumns
+mod ThereAndBackExample

@@ -47,11 +47,11 @@ pub record Reaches (from to : Totals) : Type 0 where
   pub rings : from.rings ≤ to.rings
   pub singles : from.singles ≤ to.singles
 
-scaled : (d : Dimension) (a b : ℕ) → a ≤ b → width d * a ≤ width d * b
+pub scaled : (d : Dimension) (a b : ℕ) → a ≤ b → width d * a ≤ width d * b
 scaled Xy a b h = omega (arith, h)
 scaled _ a b h = omega (arith, h)
 
-room_before : (asked : Dimension) (out : LevelLists) (from to : Totals) → Reaches from to → HasRoomUpTo asked out to
+pub room_before : (asked : Dimension) (out : LevelLists) (from to : Totals) → Reaches from to → HasRoomUpTo asked out to
     → HasRoomUpTo asked out from
 room_before asked out from to far room = record {
   words_fit = omega (arith, room.words_fit, scaled asked from.coordinates to.coordinates far.coordinates);
@@ -59,8 +59,8 @@ room_before asked out from to far room = record {
   singles_fit = omega (arith, room.singles_fit, far.singles);
 }
 
-room_in : (asked : Dimension) (out other : LevelLists) (to : Totals) → AreAsLong other out → HasRoomUpTo asked out to
-    → HasRoomUpTo asked other to
+pub room_in : (asked : Dimension) (out other : LevelLists) (to : Totals) → AreAsLong other out
+    → HasRoomUpTo asked out to → HasRoomUpTo asked other to
 room_in asked out other to long room = record {
   words_fit = omega (arith, room.words_fit, long.words);
   rings_fit = omega (arith, room.rings_fit, long.ring_ends);
@@ -89,7 +89,8 @@ put_long asked xs from out = record {
   single_ends = length-sets out.single_ends from.singles (ends from.rings (flat_map single_counts xs));
 }
 
-one_dimension : (n : ℕ) (a b : Dimension) → dimension_of_thousands n ≡ Some a → dimension_of_thousands n ≡ Some b → a ≡ b
+pub one_dimension : (n : ℕ) (a b : Dimension) → dimension_of_thousands n ≡ Some a → dimension_of_thousands n ≡ Some b
+    → a ≡ b
 one_dimension n a b f g = let same : Some a ≡ Some b = sym f ∙ g in cc
 
 -- what a row more says of totals, lengths and room

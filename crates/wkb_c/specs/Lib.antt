@@ -16,4 +16,5 @@ pub mod Room
 pub mod RowItems
 pub mod Statuses
 pub mod Subjects
+pub mod ThereAndBack
 pub mod Writings

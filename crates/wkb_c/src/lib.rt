@@ -20,6 +20,7 @@ mod numbers;
 mod options;
 mod parts;
 mod status;
+mod there_and_back;
 
 ghost use Rattle.std.specs.Prelude.{◌≡◌, ◌≢◌, ◌≤◌, ◌+◌, ◌⊎◌, ◌↔◌, None, length};
 ghost use Rattle.wkb_check.specs.Bounded.{BoundsFront};
