@@ -14,14 +14,14 @@ LACKING = "there is no "
 
 
 def need(*programs):
-    """Skip the test where the machine lacks one of the programs."""
+    """Skip the test if the machine lacks one of the programs."""
     for it in programs:
         if not shutil.which(it):
             raise unittest.SkipTest(f"{LACKING}{it}")
 
 
 def need_library():
-    """Build the C library and the Python package over it; skip the test where the machine lacks what that takes."""
+    """Build the C library and the Python package over it; skip the test if the machine lacks a program for it."""
     try:
         library.wkb()
     except library.Absent as why:
@@ -29,7 +29,7 @@ def need_library():
 
 
 def need_built(goal):
-    """Make a goal of c/Makefile; skip the test where the machine lacks what that takes."""
+    """Make a goal of c/Makefile; skip the test if the machine lacks a program for it."""
     try:
         library.build(goal)
     except library.Absent as why:
@@ -56,20 +56,20 @@ class Judge(unittest.TestCase):
     is_apart = False
 
     def wrong(self):
-        """What is wrong."""
+        """The errors."""
         raise NotImplementedError
 
     @classmethod
     @functools.lru_cache(maxsize=None)
     def found(cls):
-        """What is wrong in the repository as it is."""
+        """The errors in the repository."""
         return frozenset(cls().wrong())
 
     def test_nothing_is_wrong(self):
         self.assertFalse(self.found(), "\n" + "\n".join(sorted(self.found())))
 
     def plant(self, controls):
-        """Plant what can be planted at once. Return the controls that are planted, and the others."""
+        """Plant the controls that can be planted at once. Return these, and the others."""
         planted, others = [], []
         for control in controls:
             path, old, new, _ = control

@@ -48,7 +48,7 @@ class Gate(unittest.TestCase):
 
     @classmethod
     def git(cls, *words):
-        """What git says in the folder of the stubs."""
+        """Git's output in the folder of the stubs."""
         own = ["-c", "user.name=it", "-c", "user.email=it@example.org"]
         return subprocess.run(["git", *own, *words], cwd=cls.top, check=True, capture_output=True, text=True).stdout
 
@@ -58,7 +58,7 @@ class Gate(unittest.TestCase):
         cls.git("commit", "-qm", "as it is", "--allow-empty")
 
     def gate(self, fails="none"):
-        """The status of CI, and what it calls, where one step fails."""
+        """The status of CI, and its calls, if one step fails."""
         said = pathlib.Path(self.room.name, "said")
         said.write_text("")
         path = f"{self.top}/bin:{os.environ['PATH']}"

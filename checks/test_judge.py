@@ -13,7 +13,7 @@ CONTROL = "README.md", "", "lost", "it begins with lost"
 
 
 def seeing(*found):
-    """A judge that finds these, and what its control plants."""
+    """A judge that finds these, and its control's text."""
 
     class Seeing(judge.Judge):
         controls = [CONTROL]

@@ -33,7 +33,7 @@ class Kit(unittest.TestCase):
         self.source = self.top / "crates/low/src/lib.rt"
 
     def ran(self, *command, folder="."):
-        """The status of a command, and what it prints."""
+        """The status and the output of a command."""
         how = {"stdout": subprocess.PIPE, "stderr": subprocess.STDOUT, "text": True, "cwd": self.top / folder}
         ran = subprocess.run(command, **how)
         return ran.returncode, ran.stdout
@@ -43,7 +43,7 @@ class Kit(unittest.TestCase):
         return self.ran("tools/kit.py", "built", "mid")[1].split()
 
     def prove(self):
-        """Run `rt ci`, which has to pass, and take what it has proved."""
+        """Run `rt ci`, which has to pass, and take its libraries."""
         status, printed = self.ran("rt", "ci")
         self.assertEqual(status, 0, printed)
         status, printed = self.ran("tools/kit.py", "take")

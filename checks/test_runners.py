@@ -59,7 +59,7 @@ class Copy(unittest.TestCase):
         (self.top / path).chmod(mode)
 
     def ran(self, *command):
-        """The status of a command, and what it prints."""
+        """The status and the output of a command."""
         how = {"stdout": subprocess.PIPE, "stderr": subprocess.STDOUT, "text": True, "cwd": self.top}
         ran = subprocess.run([self.top / command[0], *command[1:]], **how)
         return ran.returncode, ran.stdout
@@ -112,7 +112,7 @@ class Memory(Copy):
     """checks/memory/run over a program that allocates once."""
 
     def of(self, hides, expected):
-        """The status over a program, and what it prints."""
+        """The status over a program, and its output."""
         need(os.environ.get("CC", "cc"))
         self.copy("checks/memory/run", "checks/memory/refuse.c", "tools/pages.py", "tools/crates")
         self.write("crates.txt", "it: std\n")
@@ -151,7 +151,7 @@ class Memory(Copy):
 
 
 class Edits(Copy):
-    """checks/edits/run over a stand-in for the prover, which says what a file names."""
+    """checks/edits/run over a stand-in for the prover, whose output a file has."""
 
     OPEN = "note: src/it.rt:1:1: a goal (`returns`){}\nfn it::f: not proved\nonly=1"
     FALSE = OPEN.format(" values allow values at which this goal is false")
@@ -218,7 +218,7 @@ class Edits(Copy):
 
 
 class Weaken(unittest.TestCase):
-    """checks/faults/weaken where a test finds each changed instruction, one of them not, or nothing changes."""
+    """checks/faults/weaken if a test finds each changed instruction, one of them not, or nothing changes."""
 
     def status_of(self, judged):
         weaken = module("checks/faults/weaken")

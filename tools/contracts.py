@@ -38,7 +38,7 @@ class Clauses:
         self.labels = collections.defaultdict(lambda: collections.defaultdict(set))
         # (crate, name) of each function that has a clause without a name.
         self.unnamed = set()
-        # (crate, name, clause, path, line), the clause being None of what has them.
+        # (crate, name, clause, path, line), the clause being None for their owner.
         self.places = []
         for crate in sorted(ROOT.glob("crates/*")):
             for path in sorted(crate.glob("src/**/*.rt")):
@@ -92,18 +92,18 @@ def proof_of(crate, path, line):
         found = IMPL.match(around)
         if not found:
             return []
-        # A check names a method by its type, the trait, and what the trait is of; the end of the name is enough.
+        # A check names a method by its type, the trait, and the trait's argument; the end of the name is enough.
         parts = [found[3], (found[1] or "").split("::")[-1], found[2] or ""]
         names = ["".join(it[:1].upper() + it[1:] for it in parts)]
     return [f"    (cd crates/{crate} && rt check --only {'::'.join([*names, FUNCTION.match(lines[-1])[2]])})"]
 
 
 def told(clauses, word):
-    """Where the call, trait or record of a name is, with its clauses, or else where the clauses of this name are."""
+    """The place of the call, trait or record of a name, with its clauses, or else those of the clauses of this name."""
     *path, last = word.split("::")
     owner, _, label = last.rpartition(".")
     named = [it for it in clauses.places if it[1] == (owner or label) and (not owner or it[2] == label)]
-    # A user's path begins with `wkb`, also of what another crate defines.
+    # A user's path begins with `wkb`, also to a definition of another crate.
     found = [it for it in named if path[:1] == [it[0]]] or named
     found = found or [it for it in clauses.places if not owner and it[2] == label]
     for crate, owner, label, path, line in found:

@@ -104,7 +104,7 @@ def read_in(found):
 
 
 def items_of(text):
-    """The items of a file. Raises ValueError where a clause, a ghost member, a variant or a field can't be read."""
+    """The items of a file. Raises ValueError if a clause, a ghost member, a variant or a field can't be read."""
     found, said = list(items(text)), len(SAID.findall(blanked(text)))
     if said != read_in(found):
         raise ValueError(f"of {said} clauses and ghost members {read_in(found)} can be read")
@@ -157,7 +157,7 @@ class Crate:
 
 
 class Paths:
-    """What the crates' paths lead to."""
+    """The items at the crates' paths."""
 
     def __init__(self):
         lines = (ROOT / "crates.txt").read_text(encoding="utf-8").splitlines()

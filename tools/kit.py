@@ -32,7 +32,7 @@ import subprocess
 import sys
 
 ROOT = pathlib.Path(__file__).resolve().parent.parent
-# What is used of the command: of itself, of the module `rtlib` that it loads, and of a crate.
+# The names that are used of the command: its own, those of the module `rtlib` that it loads, and those of a crate.
 BORROWED = {
     "rt": "KIT Crate Kept edited handles_of in_lanes kit_sum need processors rtlib unread",
     "rtlib": "Crate PARTS RATTLE crates_below files_of guarded lock sum_of",
@@ -48,7 +48,7 @@ def stop(why):
 
 
 def look(owner, label):
-    """End the script where the command has not what is borrowed of it."""
+    """Exit if the command lacks a name that is borrowed."""
     missing = [name for name in BORROWED[label].split() if not hasattr(owner, name)]
     if missing:
         what = " ".join(f"{label}.{name}" for name in missing)
@@ -153,7 +153,7 @@ def archive(name, file, *build):
 
 
 def prove_anew(crate, built, given, _jobs):
-    """Prove a crate, where those below it are proved or built, and build its library or its object file."""
+    """Prove a crate, if those below it are proved or built, and build its library or its object file."""
     if not all({**built, **given}[it.name] for it in crate.below()):
         return False
     to = f"{crate.folder}/out/{crate.name}.o" if crate.is_program else crate.rlib
@@ -199,9 +199,9 @@ def is_newer(library):
 
 
 def take_kept(kept, library):
-    """Give a library the files that the kit keeps of it, where it does. Return whether they stand in its place."""
+    """Give a library the files that the kit keeps of it, if it does. Return whether they are in its place."""
     key, stamp = kept.key(library), library.stamp()
-    # Where the kit has no folder to keep anything in, what `rt ci` has built is told by times.
+    # If the kit has no folder for stored files, the output of `rt ci` is recognized by times.
     if not kept.at and is_newer(library):
         write_stamp(library, stamp)
         return True
@@ -231,7 +231,7 @@ def take_libraries(kept, libraries):
 
 
 def take():
-    """Take what `rt ci` has proved, and print of which crates it is not here."""
+    """Take the libraries that `rt ci` has proved, and print the crates without one."""
     crates = rt.rtlib.crates_below(str(ROOT))
     libraries = [it for it in crates if not it.is_program and not it.is_static]
     held = rt.rtlib.lock(crates)

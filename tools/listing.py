@@ -7,7 +7,7 @@ from pages import ROOT
 
 
 def paragraphs(lines):
-    """The paragraphs of a comment, without its examples and what leads to them."""
+    """The paragraphs of a comment, without its examples and their introductions."""
     text = re.sub(r"(?ms)^```.*?^```$", "", "\n".join(line.strip() for line in lines))
     return [" ".join(it.split()) for it in re.split(r"\n\n+", text.strip()) if not it.endswith(":")]
 
@@ -21,7 +21,7 @@ def table(head, rows):
 
 
 def row(code, *said, clauses=(), mark=""):
-    """A row: what an item is in code, what is said of it, and its clauses as the sources have them."""
+    """A row: an item in code, its comment, and its clauses as the sources have them."""
     stated = [f"`{word} {name + ' ' if name else ''}{{ {text} }}`" for word, name, text in clauses]
     return f"| {mark}`{cell(code)}`{mark} | {cell('<br>'.join([*filter(None, said), *stated]))} |"
 

@@ -60,7 +60,7 @@ def judged(judge, *controls):
 
 
 def ended(found, summary):
-    """Print what was found wrong, each once, and what there is in all. Return the status to end with."""
+    """Print the errors, each once, and the summary. Return the exit status."""
     for it in [*dict.fromkeys(found), summary]:
         print(it)
     return 1 if found else 0
@@ -131,12 +131,12 @@ def rows_of(page):
 
 
 def spans(text):
-    """What stands in backticks."""
+    """The texts in backticks."""
     return SPAN.findall(text)
 
 
 def files():
-    """The files of the repository: those that git knows, or, where there is no git, all but what a build makes."""
+    """The files of the repository: those that git knows, or, without git, all but those of a build."""
     asked = subprocess.run(["git", "ls-files"], cwd=ROOT, stdout=subprocess.PIPE, stderr=subprocess.DEVNULL)
     if asked.returncode == 0:
         found = [ROOT / line for line in asked.stdout.decode().splitlines()]

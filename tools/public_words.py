@@ -72,7 +72,7 @@ def ghost_uses(text):
 
 
 def without_generics(text):
-    """A header without what stands in angle brackets."""
+    """A header without the text in angle brackets."""
     text = text.replace("->", "  ")
     while re.search(r"<[^<>]*>", text):
         text = re.sub(r"<[^<>]*>", "", text)
@@ -127,7 +127,7 @@ NAME = re.compile(r"(?<![\w.'])[^\W\d][\w'-]*|[◌+\-*/%^<>=≤≡≢⊎×↔&|]
 
 
 class Clauses:
-    """The public clauses of a crate's exported names, each with the names in scope and where it stands."""
+    """The public clauses of a crate's exported names, each with the names in scope and its place."""
 
     def __init__(self, crate, names, all_names, own):
         self.crate, self.names, self.all_names, self.own = crate, names, all_names, own
@@ -258,7 +258,7 @@ def out_of_date(files):
 
 
 def clauses_of(uses):
-    """Each public clause and ghost member that the face hands out, with the names in scope and where it stands."""
+    """Each public clause and ghost member that the face exports, with the names in scope and where it stands."""
     by_crate = {}
     for crate, name in exported(uses):
         by_crate.setdefault(home(crate, name, uses), set()).add(name)
@@ -268,7 +268,7 @@ def clauses_of(uses):
 
 
 def unwritable(specs):
-    """What is said of each name of a public clause that users can't write."""
+    """The message about each name of a public clause that users can't write."""
     (names, modules), missing = face(specs), {}
     for path, place, clause, scope in clauses_of(below()):
         for module, name in words_of(clause, scope):

@@ -45,7 +45,7 @@ def use_targets(text):
 
 
 class Specs:
-    """What each file of specs/ passes on."""
+    """The names that each file of specs/ re-exports."""
 
     def __init__(self):
         self.passed = {}
@@ -55,7 +55,7 @@ class Specs:
 
     @staticmethod
     def uses(text):
-        """What the lines `pub use` of a file pass on."""
+        """The names that the lines `pub use` of a file re-export."""
         lines = re.sub(r"\n[ \t]+(?=\S)", " ", re.sub(r"\n\s*\}", " }", text)).splitlines()
         for line in lines:
             match = USE.match(line)
@@ -95,7 +95,7 @@ NAME = re.compile(r"[^\W\d][\w'-]*")
 
 
 def after_groups(text):
-    """What is left of a text behind its groups in brackets."""
+    """The rest of a text after its groups in brackets."""
     text = text.lstrip()
     while text[:1] in ("(", "{"):
         depth, end = 0, len(text)

@@ -48,7 +48,7 @@ class Silent:
 class InProcess:
     """A library in this process. Its reader is a C function of at most four words, over bytes that are kept."""
 
-    # Where the reader leaves what it makes, if that isn't its result; what frees that, and whether by it alone.
+    # The reader's output parameter, if its result isn't the geometry; the call that frees it, and whether by it alone.
     made = free = None
     is_alone = 0
 

@@ -17,7 +17,7 @@ def key_of(*parts):
 
 
 def read(key):
-    """What is kept, or None; a file that isn't whole holds nothing."""
+    """The stored value, or None; a file that isn't whole has none."""
     try:
         found = json.loads((FOLDER / key).read_text(encoding="utf-8"))
         os.utime(FOLDER / key)
@@ -27,7 +27,7 @@ def read(key):
 
 
 def write(key, found):
-    """Keep something, where there is room for it."""
+    """Keep something, if there is space for it."""
     try:
         FOLDER.mkdir(parents=True, exist_ok=True)
         with tempfile.NamedTemporaryFile("w", dir=FOLDER, delete=False, encoding="utf-8") as it:
@@ -38,7 +38,7 @@ def write(key, found):
 
 
 def drop_old():
-    """Remove what was not used for long."""
+    """Remove files that were not used for long."""
     for it in FOLDER.glob("*"):
         if it.stat().st_mtime < time.time() - DAYS * 86400:
             it.unlink(missing_ok=True)

@@ -102,7 +102,7 @@ def encoded(shape, order, codes, width, srid=None):
 
 
 def shapes():
-    """The encoding of each shape in each dimension, byte order and form, and what is in it."""
+    """The encoding of each shape in each dimension, byte order and form, and its content."""
     for (shape, (kind, *counts)), dimension, order in itertools.product(SHAPES, DIMENSIONS, "<>"):
         thousands, flags, width, zmflag = dimension
         forms = [(1000 * thousands, None), (flags, None), *((flags, srid) for srid in SRIDS)]
@@ -114,7 +114,7 @@ def place(text, part, offset):
     return f"{text}, at byte {offset} (part {part})"
 
 
-# What the codes from 8 on stand for, which the library doesn't read.
+# The types of the codes from 8 on, which the library doesn't read.
 UNREAD = (
     "a circular string", "a compound curve", "a curve polygon", "a multi curve", "a multi surface", "a curve",
     "a surface", "a polyhedral surface", "a TIN", "a triangle",
@@ -129,7 +129,7 @@ def named(code):
 
 
 def refusal_of(refused, before):
-    """What is wrong with bytes that are rejected, with so many bytes before them."""
+    """The errors in bytes that are rejected, with so many bytes before them."""
     fault, text = refused.fault, refused.text
     if refused.status == Status.CODE_OUT_OF_RANGE:
         text += named(fault.code)
@@ -138,7 +138,7 @@ def refusal_of(refused, before):
 
 
 def fault_of(data, found, header):
-    """What is wrong with bytes that begin with a geometry: EWKB behind a header, or bytes after it."""
+    """The errors in bytes that begin with a geometry: EWKB behind a header, or bytes after it."""
     for index, part in enumerate(wkb.parts(data) if header else ()):
         highest = data[part.begin + (4 if data[part.begin] == 1 else 1)]
         if part.kind != Kind.RING and highest & 0xe0:
@@ -154,7 +154,7 @@ def counts(found):
 
 
 def results(data, header=b"", srs_id=None):
-    """What the functions return of a geometry with this header before it."""
+    """The results of the functions for a geometry with this header before it."""
     try:
         found = wkb.check(data)
     except Refused as refused:
@@ -174,7 +174,7 @@ def results(data, header=b"", srs_id=None):
 
 
 def geopackage(data, srs_id):
-    """What wkb_gpkg and the functions of triggers return of a geometry with this SRID."""
+    """The results of wkb_gpkg and the functions of triggers for a geometry with this SRID."""
     try:
         found = wkb.check(data)
     except Refused:
@@ -193,7 +193,7 @@ def geopackage(data, srs_id):
 
 
 def dumps():
-    """What the program shows of each input, which skips empty lines."""
+    """The program's output for each input, without empty lines."""
     every = list(dict.fromkeys(it for it in inputs() if it))
     lines = "".join(f"{it.hex()}\n" for it in every).encode()
     ran = subprocess.run([f"{sys.argv[2]}/../wkb_dump", "-l"], input=lines, stdout=subprocess.PIPE)
@@ -232,7 +232,7 @@ def try_sqlite(extension):
 
 
 def try_shapes():
-    """Compare what the package finds in the shapes with what is known of them."""
+    """Compare the package's results for the shapes with the known ones."""
     for data, expected in shapes():
         if results(data)[2:9] != expected:
             sys.exit(f"{data.hex()}:\n  expected {expected}\n  the package: {results(data)[2:9]}")
@@ -246,7 +246,7 @@ def copied(value):
 
 
 def print_rows():
-    """A line for each input and what the functions return of it, for the database's COPY."""
+    """A line for each input with the functions' results, for the database's COPY."""
     shown = dumps()
     for data in inputs():
         print("\t".join(map(copied, (data, *results(data), shown[data]))))

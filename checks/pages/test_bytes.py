@@ -59,7 +59,7 @@ def wrong_dump(lines, data):
 
 
 def wrong_lines():
-    """What is wrong with the two dumps: of the example, and of its first bytes."""
+    """The errors in the two dumps: of the example, and of its first bytes."""
     dumps = [it.splitlines() for it in DUMP.findall(text_of(PAGE))]
     if len(dumps) != 2:
         return [f"{PAGE} has {len(dumps)} dumps, and not two"]
@@ -70,7 +70,7 @@ def wrong_lines():
 
 
 def wrong_rings():
-    """What is wrong with where the dump of the example has rings."""
+    """The errors in the places of the rings in the dump of the example."""
     drawn = re.findall(r"- ring (\d), (\w+)\n +(\d+) ", DUMP.findall(text_of(PAGE))[0])
     rings = wkb().parts(example())[1:]
     names = ["exterior"] + ["interior"] * (len(rings) - 1)
@@ -104,7 +104,7 @@ def wrong_codes():
 
 
 def wrong_sizes():
-    """What is wrong with the lengths of the two forms."""
+    """The errors in the lengths of the two forms."""
     forms = [len(wkb().write(example(), form=form)) for form in (wkb().Form.ISO, wkb().Form.EWKB_OWN_SRID)]
     said = re.search(r"so (\d+) bytes\s+instead of (\d+)", text_of(PAGE))
     if not said or [int(it) for it in said.groups()] != forms:
@@ -112,7 +112,7 @@ def wrong_sizes():
 
 
 def wrong_refusal():
-    """What is wrong with the place of the refusal, once the example is cut off where the page says."""
+    """The error in the place of the error, once the example is cut off as on the page."""
     cut = cut_at()
     said = re.search(r"\*: (\d+) - (\d+) = (\d+), the\s+interior ring", text_of(PAGE))
     try:
@@ -126,7 +126,7 @@ def wrong_refusal():
 
 
 def wrong_point():
-    """What is wrong with the drawing of a point."""
+    """The errors in the drawing of a point."""
     drawn = re.search(r"(?m)^    ([0-9a-f]{2}  [0-9a-f ]+?) +(\w+) \((.*)\)$\n(?:^    .*\n)+", text_of(PAGE))
     data, below = bytes.fromhex(drawn[1]), drawn[0]
     code, order = re.search(r"code (\d+)", below), re.search(r"(\w+) endian", below)

@@ -30,7 +30,7 @@ BIG_POINT = "00000000013ff00000000000004000000000000000"
 COLLECTIONS = "010700000001000000", "010700000000000000"
 BIG_COLLECTIONS = "000000000700000001", "000000000700000000"
 STACK = 160
-# Where the code that a page shows has to be.
+# The places of the code that pages show.
 SOURCES = {
     "rust": ["crates/wkb_key/src/*.rt", "crates/wkb_c[al]*s/src/*.rt", "crates/wkb/src/**/*.rt", "rust/src/*.rs",
              "rust/**/README.md", "docs/START_RUST.md"],
@@ -74,7 +74,7 @@ def make_files(cls):
 
 
 def difference(where, expected, status, ran):
-    """What is wrong with a run, in a list: that it printed something else, or ended otherwise."""
+    """The errors of a run, in a list: another output or another status."""
     if ran.stdout == expected.encode() and ran.returncode == status:
         return []
     printed = ran.stdout.decode(errors="replace")
@@ -156,7 +156,7 @@ def flat(text):
 
 
 def lost_commands(page):
-    """What is wrong with the commands without `$ `: a file that isn't there, or another line than the page has."""
+    """The errors in the commands without `$ `: a missing file, or another line than on the page."""
     folder = ROOT / "c" if page == "c/package/package.md" else ROOT
     targets = text_of("c/Makefile") + text_of("c/package/dist")
     for number, command, expected in commands(page):
@@ -199,12 +199,12 @@ def lost_lines(page):
 
 @functools.lru_cache(maxsize=None)
 def made(tool):
-    """What a tool makes for a page."""
+    """A tool's output for a page."""
     return subprocess.run([ROOT / tool], stdout=subprocess.PIPE)
 
 
 def lost_tables():
-    """What is wrong with the pages that tools make."""
+    """The errors in generated pages."""
     for tool, page in MADE:
         if made(tool).returncode:
             yield f"{tool} failed"
@@ -213,7 +213,7 @@ def lost_tables():
 
 
 class Shown(judge.Judge):
-    """What pages show is in the sources, or prints what they say."""
+    """Code on the pages is in the sources, or prints the output on the page."""
 
     controls = [
         (PAGE, "", "    $ echo one\n    two\n\n", "printed  'one"),
@@ -241,7 +241,7 @@ class Shown(judge.Judge):
 
 
 class Dump(judge.Judge):
-    """The dump prints what pages show of it."""
+    """The dump prints the output on the pages."""
 
     controls = [(PAGE, "", "    $ c/out/wkb_dump examples/point.hex\n    lost\n\n", "expected 'lost")]
 
@@ -255,7 +255,7 @@ class Dump(judge.Judge):
 
 
 class Program(judge.Judge):
-    """The program prints what pages show of it, and what is tried beside them."""
+    """The program prints the output on the pages, and passes the other tries."""
 
     controls = [
         (PAGE, "", "    $ ./wkb_hex be < examples/point.hex\n    lost\n\n", "expected 'lost"),

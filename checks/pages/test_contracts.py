@@ -47,7 +47,7 @@ def owners_of(text, clauses, crates):
 
 
 def lost_in_row(clauses, crates, first, last, above):
-    """The labels in a row's last cell that are not of what they are said to be of, each with those."""
+    """The labels in a row's last cell that their stated owners don't have, each with those."""
     parts, texts = last.split("; "), first.split("; ")
     for at, part in enumerate(parts):
         named, labels = said_of(part)
@@ -60,7 +60,7 @@ def lost_in_row(clauses, crates, first, last, above):
 
 
 def lost_promises(clauses):
-    """The clauses in the tables of PROMISES that are not of what they are said to be of."""
+    """The clauses in the tables of PROMISES that their stated owners don't have."""
     text = text_of(PROMISES).splitlines()
     end = text.index("## Only tested")
     owners, crates, before = [], [], 0
@@ -111,7 +111,7 @@ def lost_tests():
     named = [(it[1], it[2]) for it in re.finditer(r"\(`(wkb_\w+)`: ([^;)]*)", text)]
     named += [(it[2], it[1]) for it in re.finditer(r"tests? ((?:`\w+`(?:, | and )?)+) of `(wkb_\w+)`", text)]
     for crate, names in named:
-        # The clients have no tests: what a module of theirs shows is proved.
+        # The clients have no tests: their modules are proved.
         code = "".join(f"mod {it}\n{code}" for it, code in texts(f"crates/{crate}/src/**/*.rt").items())
         for name in spans(names):
             pattern = rf"#\[test\]\s+fn {name}\(" if crate.endswith("_cases") else rf"mod \S+/{name}\.rt\n"
@@ -145,7 +145,7 @@ def given_clauses():
 
 
 def lost_statements(clauses, statements, given):
-    """What is wrong: a statement has no clause, a clause is of no contract, or a row is of no statement."""
+    """The errors: a statement has no clause, a clause is of no contract, or a row is of no statement."""
     for it in statements:
         if it not in [row[0] for row in given]:
             yield f"{README}: `{it}` has no clause in {PROMISES}"
@@ -159,7 +159,7 @@ def lost_statements(clauses, statements, given):
 
 
 def wrong_statements(clauses):
-    """What is wrong with README's table of what is proved."""
+    """The errors in README's table of proved statements."""
     statements, given = [*said_in_readme()], [*given_clauses()]
     if not statements or not given:
         return [f"{README if given else PROMISES} has no table of what README says is proved"]

@@ -52,7 +52,7 @@ OF_MEMORY = 10
 
 
 class Page:
-    """What the page says."""
+    """The statements of the page."""
 
     def __init__(self):
         text = " ".join(text_of(PAGE).split())
@@ -100,7 +100,7 @@ class Page:
         return struct.pack("<BI", int(self.said["orders"][1]), code) + srid
 
     def items_of(self, kind):
-        """What a body of this kind counts: `coordinates`, `rings`, or a kind of member; None of a point."""
+        """The items that a body of this type counts: `coordinates`, `rings`, or a type of member; None for a point."""
         found = re.match(r"a count and that many (\w+)", self.bodies[kind])
         return found and (re.sub("s$", "", found[1]) if found[1][0].isupper() else found[1])
 
@@ -126,7 +126,7 @@ class Page:
 
 
 def answer(data):
-    """What the library finds, or the name of the status that it rejects with."""
+    """The library's result, or the name of the status with which it rejects."""
     try:
         return wkb().check(data)
     except wkb().Refused as refused:
@@ -134,7 +134,7 @@ def answer(data):
 
 
 def written(data, form="ISO", srid=None):
-    """What the library writes for an input; nothing for one that it rejects."""
+    """The library's output for an input; nothing for one that it rejects."""
     try:
         return wkb().write(data, form=wkb().Form[form], srid=srid)
     except wkb().Refused:
@@ -154,7 +154,7 @@ def type_of(code):
 
 
 def wrong_codes(page):
-    """The first code that the page reads otherwise than the library; and what is wrong with its examples."""
+    """The first code that the page reads otherwise than the library; and the errors in its examples."""
     flags = [int(it, 16) for it in page.said["flags"]]
     sums = {sum(chosen) for n in range(4) for chosen in itertools.combinations(flags, n)}
     for code in (plain + flag for plain in range(4200) for flag in sums):
@@ -171,7 +171,7 @@ def wrong_codes(page):
 
 
 def wrong_numbers(page):
-    """What is wrong with orders, NaNs and widths."""
+    """The errors in orders, NaNs and widths."""
     for order, form, name in zip(map(int, page.said["orders"]), "><", ("BIG", "LITTLE")):
         found = answer(struct.pack(f"{form}BI2d", order, 1, 1, 2))
         if isinstance(found, str) or found.order.name != name:
@@ -218,14 +218,14 @@ def faults():
 
 
 def statuses_of_errors():
-    """The status of each error in Rattle, by what crates/wkb_geom makes of a cause and crates/wkb_c of it."""
+    """The status of each error in Rattle, by the code of crates/wkb_geom and crates/wkb_c."""
     errors = dict(re.findall(r"Cause::(\w+)(?:\(\w+\))? => WkbError::(\w+)", text_of(ERRORS)))
     causes = re.findall(r"(?:Cause|General)::(\w+)(?: \{ \.\. \}|\(_\))? => ([A-Z_]+),", text_of(CAUSES))
     return {errors.get(name, name): status for name, status in causes}
 
 
 def wrong_rows(rule, rows, known):
-    """What is wrong with the rows of a rule but for what is reported: status, number and text."""
+    """The errors in the rows of a rule, except for the report: status, number and text."""
     for error, status, number, text in rows:
         name = re.findall(r"\w+", error.removeprefix("General("))[0]
         value = re.search(rf"\bWKB_STATUS_{status} = (\d+)\b", text_of(HEADER))
@@ -259,7 +259,7 @@ def length(formula, **values):
 
 
 def wrong_lengths(page):
-    """The lengths that are not those of what the library writes."""
+    """The lengths that are not those of the library's output."""
     rows = {"Point with a coordinate": "Point", "LineString of n": "LineString", "MultiPoint of n": "MultiPoint"}
     for (name, kind), dim, n in itertools.product(rows.items(), page.dims, (0, 1, 4)):
         size = len(written(page.geometry(kind, dim, n)))
@@ -274,7 +274,7 @@ def wrong_lengths(page):
 
 
 def wrong_points(page):
-    """What is wrong with the point without a coordinate, and with the SRID."""
+    """The errors in the point without a coordinate, and with the SRID."""
     name, empty = "Point without one", page.header("Point", "Xy") + b"\xff" * 16
     if page.formula(name) != page.formula("Point with a coordinate"):
         yield f"{name}: it is as long as one with a coordinate"
@@ -325,7 +325,7 @@ def wrong():
 
 
 class Format(judge.Judge):
-    """The library does what docs/FORMAT.md says."""
+    """The library agrees with docs/FORMAT.md."""
 
     controls = [
         (PAGE, "Anything else is out of range", "Anything else is lost", "no sentence fits"),

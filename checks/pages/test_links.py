@@ -61,7 +61,7 @@ def lost_in_pictures():
 
 
 class Links(judge.Judge):
-    """Each link leads to what its text says."""
+    """Each link leads to the place that its text names."""
 
     controls = [
         ("README.md", "", "[lost](docs/LOST.md)\n\n", "no file docs/LOST.md"),

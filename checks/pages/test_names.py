@@ -28,7 +28,7 @@ FOREIGN = set(
 FOREIGN_PATHS = {"io", "fmt", "u8", "u32", "Self", "Enum", "Fail", "Default", "std", "crate"}
 # Files of the kit, and files that commands on the pages make.
 MADE_PATHS = {"bin/clang", "results/refused.csv", "crates/app", "build/", "test/", "source/"}
-# What pages stand for by a word in capitals in a path.
+# The words in capitals that stand for a part of a path.
 PLACES = re.compile(r"CRATE|NAME|FUNCTION")
 # A name that begins so is a command, of which only the paths are looked up.
 COMMANDS = """
@@ -68,7 +68,7 @@ def names_in(text):
         found, block = ITEM.match(line), IMPL.match(line)
         if block:
             trait = (block[1] or "").split("::")[-1]
-            # A check names what converts, as `U32FromWkbType`, by the type, the trait and what the trait is of.
+            # A check names a conversion, as `U32FromWkbType`, by the type, the trait and the trait's argument.
             full = "".join((it or "")[:1].upper() + (it or "")[1:] for it in (block[3], trait, block[2]))
             owners = [block[3], block[3] + trait, full, trait] if trait else [block[3]]
         elif found and not line.startswith(" "):
@@ -135,7 +135,7 @@ def looks_like_ours(span):
 
 
 def lost_in(span, words, code):
-    """What of a span no source has."""
+    """The parts of a span that no source has."""
     path = re.sub(r":\d+$", "", span)
     if looks_like_a_path(path):
         return [] if is_there(path) else [f"no file `{span}`"]

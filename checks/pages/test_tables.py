@@ -55,7 +55,7 @@ def usage():
     return subprocess.run([ROOT / "wkb_hex"], stdin=subprocess.DEVNULL, stdout=subprocess.PIPE).stdout.decode()
 
 
-# For each part of a cell `when` of the statuses: runs, each with what has to be printed where the cell `line` says so.
+# For each part of a cell `when` of the statuses: runs, each with the expected output if the cell `line` has it.
 def cases():
     accepted, why = run(("le",), POINT)[1], "refused: end of input\n"
     return {
@@ -81,7 +81,7 @@ def cases():
 
 
 def is_line(line, printed, expected):
-    """Whether a cell says what is printed: a line in backticks, or one of these sentences."""
+    """Whether a cell has an output: a line in backticks, or one of these sentences."""
     known = {"as above": expected, "the usage": usage(), "nothing": "", "a prefix of the line, or nothing": ""}
     if line in known:
         return printed == known[line] == expected
@@ -105,7 +105,7 @@ def wrong_statuses():
 
 
 def written(command, text):
-    """What a command writes by the text of its row, which says the form, and by its name, which says the order."""
+    """A command's output by the text of its row, which has the form, and by its name, which has the order."""
     forms = {
         "the ISO encoding in that byte order, without SRIDs": "ISO",
         "the EWKB encoding with the geometry's own SRID": "EWKB_OWN_SRID",
@@ -116,7 +116,7 @@ def written(command, text):
 
 
 def wrong_commands():
-    """The rows of commands that a run of the program contradicts; what is no encoding is shown on the page itself."""
+    """The rows of commands that a run of the program contradicts; other output is on the page itself."""
     commands = []
     for number, heads, row in rows_of("docs/PROGRAM.md"):
         for command in spans(row[0]) if heads == ["command", "what it prints"] else []:
@@ -128,7 +128,7 @@ def wrong_commands():
 
 
 def wrong_crates():
-    """What is wrong with the table of crates in ARCHITECTURE.md."""
+    """The errors in the table of crates in ARCHITECTURE.md."""
     used = dict(re.findall(r"(?m)^(\w+)(?: staticlib)?: (.*)$", text_of("crates.txt")))
     listed = [spans(row[0])[0] for _, heads, row in rows_of("ARCHITECTURE.md") if heads == ["crate", "what it does"]]
     if sorted(listed) != sorted(used):
@@ -217,7 +217,7 @@ def wrong_systems():
 
 
 def wrong_citation():
-    """What is wrong with the licences and the title of CITATION.cff."""
+    """The errors in the licences and the title of CITATION.cff."""
     text = text_of("CITATION.cff")
     listed = re.findall(r"(?m)^  - (.*)$", re.search(r"(?m)^license:\n((?:  - .*\n)+)", text)[1])
     files = sorted(it.name for it in ROOT.glob("LICENSE-*"))
@@ -229,7 +229,7 @@ def wrong_citation():
 
 
 def wrong_changes():
-    """What is wrong with the calls, and the numbers of kinds and dimensions, that CHANGELOG.md lists."""
+    """The errors in the calls, and the numbers of kinds and dimensions, that CHANGELOG.md lists."""
     text, header = " ".join(text_of("CHANGELOG.md").split()), text_of("c/wkb.h")
     calls = re.search(r"The C library: ([\w, ]+) and (\w+), the first (\w+) for columns too", text)
     names = [*calls[1].split(", "), calls[2]] if calls else []
@@ -266,7 +266,7 @@ TIMED = re.search(r"(?m)^\| our time / plain C.*\n.*\n(\| point .*\|)$", text_of
 
 
 class Tables(judge.Judge):
-    """The rows of tables are of what they are about."""
+    """The rows of tables agree with their sources."""
 
     controls = [
         ("ARCHITECTURE.md", "| `wkb_laws` | lemmas", "| `wkb_lost` | lemmas", "of the table differ"),
@@ -291,7 +291,7 @@ class Tables(judge.Judge):
 
 
 class Program(judge.Judge):
-    """The program does what docs/PROGRAM.md says."""
+    """The program agrees with docs/PROGRAM.md."""
 
     controls = [
         (PAGE, "| 1 | the input is refused", "| 2 | the input is refused", "the input is refused: the program"),

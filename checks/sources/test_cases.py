@@ -29,14 +29,14 @@ def listed():
 
 
 def questions(text):
-    """What a question may be: those of the head's table, with any SRID, and the program's words after `run`."""
+    """The allowed questions: those of the head's table, with any SRID, and the program's words after `run`."""
     heads = re.findall(r"(?m)^# \| (`.*?) \|", text)
     known = [re.sub("4326", r"\\d+", it) for head in heads for it in re.findall("`([^`]+)`", head) if it != "run"]
     return re.compile("|".join([*known, r"run( \S+)*"]))
 
 
 def rows():
-    """How many rows each case has, the questions of its paragraphs; and what is wrong with the file."""
+    """The number of test vectors of each case, the questions of its paragraphs; and the errors in the file."""
     text = text_of("crates/rows/stdin")
     asked, counted, wrong, name, many = questions(text), Counter(), [], "", None
     for number, line in enumerate([*text.splitlines(), "end:"], 1):
@@ -70,7 +70,7 @@ def tests():
 
 
 def missing():
-    """What is wrong with the rows and with the table of tests."""
+    """The errors in the test vectors and in the table of tests."""
     known_tests = tests()
     unshown = [(case, test) for case, named in listed().items() for test in named if test not in known_tests]
     return [*rows()[1], *(f"{case} is not shown by {': '.join(test)}" for case, test in unshown)]

@@ -70,7 +70,7 @@ def rows(text):
 
 
 def needed(item):
-    """What users of a type name when they match on it or make it, and what implementations of a trait owe."""
+    """The names that a user needs to match on a type or to make it, and the members that a trait requires."""
     if item.kind == "trait":
         return [it for it in item.inside if it.kind in ("fn", "type") and it.body is None]
     parts = [it for it in item.inside if it.kind != "ghost"] if item.kind in ("enum", "struct") else []
@@ -78,7 +78,7 @@ def needed(item):
 
 
 class Sources:
-    """What crates hand to their users: the items of each path, and the paths of what is needed with one."""
+    """The exports of crates: the items of each path, and the paths of the items that each one needs."""
 
     def __init__(self, crates):
         self.items, self.needed = collections.defaultdict(set), collections.defaultdict(set)
@@ -107,7 +107,7 @@ class Sources:
             self.items[f"{path}::{it.name}"].add(it.whole)
 
     def add_others(self, crate, name):
-        """Add the traits of the language's own types, and what no user sees."""
+        """Add the traits of the language's own types, and the items that no user sees."""
         for trait, kind, _ in crate.impls:
             self.items[kind].add(f"impl {trait}")
         for module, found in crate.modules.items():
@@ -115,7 +115,7 @@ class Sources:
                 self.items[f"{name}::{module}::{it.name}"].add(f"private {it.whole}")
 
     def faults(self, listed):
-        """What is wrong with a list."""
+        """The errors in a list."""
         for path, item in listed:
             found = self.items.get(path, set())
             others = sorted(it for it in found if it.split()[0] == item.split()[0])

@@ -38,7 +38,7 @@ TYPES = {
     "size_t": {"usize", "u64"},
     **{struct: {{"Fault": "WkbFault"}.get(name, name)} for struct, name in STRUCTS.items()},
 }
-# How the length of a slice is called in C, where its pointer has the name of the slice.
+# The name of a slice's length in C, if its pointer has the name of the slice.
 LENGTH = re.compile(r"\w+_(?:len|room|count)$")
 POINTER = 8
 
@@ -105,7 +105,7 @@ def is_same(ours, theirs):
 
 
 def wrong_calls():
-    """What differs between the calls that C declares and those that are exported."""
+    """The differences between the calls that C declares and those that are exported."""
     ours, theirs = declared(), exported()
     yield from (f"{RAW}: {it} is declared or exported alone" for it in sorted(ours.keys() ^ theirs.keys()))
     for name in sorted(ours.keys() & theirs.keys()):
@@ -125,7 +125,7 @@ def is_length(name, at, known):
 
 
 def wrong():
-    """What differs."""
+    """The differences."""
     ours, theirs = asserted(), proved()
     yield from (f"{C}: nothing is known of {it}" for it in ours.keys() - STRUCTS.keys())
     yield from (f"{PROVED}: nothing is known of {it}Layout" for it in theirs.keys() - set(STRUCTS.values()))

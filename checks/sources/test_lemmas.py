@@ -60,7 +60,7 @@ def blocks_of(path, text):
 
 
 def uncited(known={}):
-    """What is said of each lemma that no other definition names."""
+    """The message about each lemma that no other definition names."""
     found = []
     for path, text in sources().items():
         if (path, text) not in known:

@@ -11,7 +11,7 @@ pub fn lost()
 
 
 class PublicWords(judge.Judge):
-    """The names of the clauses of what `wkb` exports."""
+    """The names of the clauses of the exports of `wkb`."""
 
     controls = [
         ("crates/wkb/src/canon.rt", "", LOST, "TellsSameWords"),

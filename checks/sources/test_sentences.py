@@ -28,17 +28,17 @@ from pages import ROOT, text_of, texts
 from specs import NAME, WORDS, defined
 
 HEADER, LIST = "c/wkb.h", "checks/sources/sentences.txt"
-# What the first sentences of the header say of these.
+# The first sentences of the header cover these.
 TESTED = re.compile(
     r"wkb_(version|words?|whole|one_point|(?:little|big)_word|\w+_text|status_is_\w+)$|WKB_VERSION\w*$"
 )
 UNPROVED = {"meaning", "caller", "later"}
 # Functions that only state facts, of constants, layouts and rows: their clauses are about every call.
 FACTS = {"numbers", "layouts", "rows_follow"}
-# What states nothing: a line below the heads of a table, and what only Doxygen reads; the licence; and since when there
-# is a call.
+# Text that states nothing: a line below the heads of a table, Doxygen's commands, the licence, and the release that
+# added a call.
 SILENT = re.compile(r"$|-+\|[-|]+$|@file$|SPDX-License-Identifier: |@since 1\.\d+$")
-# What a comment above the code is about.
+# The subject of a comment above the code.
 DECLARED = re.compile(
     r"\s*(?:#ifndef (\w+)|#define (\w+)|typedef (?:struct|uint32_t) (\w+)|(?:static inline )?\w[\w ]*?[ *]+(wkb_\w+)\()"
 )
@@ -62,7 +62,7 @@ def sentences():
     for comment in re.finditer(r"/\*+<?(.*?)\*/", text, re.S):
         name = about(text, comment)
         lines = [re.sub(r"^ \* ?", "", line).rstrip() for line in comment[1].split("\n")]
-        # What is said of a parameter begins a paragraph, and the lines of a table are sentences of their own.
+        # The description of a parameter begins a paragraph, and the lines of a table are separate sentences.
         for part in re.split(r"\n\n|\n(?=[@|])", "\n".join(lines)):
             for sentence in re.split(r"(?<=\.) (?=[A-Z(-])", " ".join(part.split()).strip("| ")):
                 if not SILENT.match(sentence):
@@ -95,7 +95,7 @@ def definitions(crate):
 
 
 def lost_clause(clauses, words):
-    """What is wrong with a carrier that is a clause."""
+    """The errors in evidence that is a clause."""
     if len(words) < 2:
         return "a clause has a crate and an owner"
     crate, owner, *labels = words
@@ -154,7 +154,7 @@ def on_the_way(functions):
 
 
 def lost_way(sentence, carriers):
-    """Each definition that a row names though no clause of what it is about leads to it."""
+    """Each definition that a row names though no clause of its subject leads to it."""
     named = [it.split()[1:3] for it in carriers if re.match(r"clause \w+ \S", it)]
     functions = [(crate, owner) for crate, owner in named if owner in clause_words(crate)]
     calls = [it for it in clause_words("wkb_c") if it.startswith("wkb_raw_")]
@@ -167,7 +167,7 @@ def lost_way(sentence, carriers):
 
 
 def lost_test(text):
-    """What is wrong with a carrier that is a test."""
+    """The errors in evidence that is a test."""
     path, _, words = text.partition(": ")
     if not (ROOT / path).is_file():
         return f"there is no file {path}"
@@ -175,7 +175,7 @@ def lost_test(text):
 
 
 def wrong_row(clauses, sentence, carriers):
-    """What is wrong with a row whose sentence is in the header."""
+    """The errors in a row whose sentence is in the header."""
     kinds = [it.split(" ", 1)[0] for it in carriers]
     unknown = [it for it in kinds if it not in {"clause", "test"} | UNPROVED]
     if unknown or not kinds:

@@ -90,7 +90,7 @@ def twins():
 
 
 def entry(name, reason, files):
-    """What is said of a name that stands twice."""
+    """The message about a name that is defined twice."""
     return "\n".join([f"{name}: {reason}", *(f"    {it}" for it in sorted(files))])
 
 

@@ -153,7 +153,7 @@ class Taken(unittest.TestCase):
         self.assertRaises(TypeError, Column, data, offsets, rows="1")
 
     def test_texts(self):
-        """What is wrong with offsets or with a slice is said."""
+        """Errors in offsets or in a slice are reported."""
         data, offsets = rows_of(*[POINT] * 3)
         raw = struct.pack("=4q", *offsets)
         for text, offsets, options in (

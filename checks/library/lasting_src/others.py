@@ -28,7 +28,7 @@ class OneByOne:
     """A library that reads one input after another."""
 
     def writes(self, inputs):
-        """What it writes of each input; None of one that it doesn't read."""
+        """The output for each input; None for one that it doesn't read."""
         for data in inputs:
             geometry = self.read(data)
             yield geometry and self.ways(geometry)
@@ -100,7 +100,7 @@ class PostGis(AnyInput, peers.PostGis):
     wanted = ", ".join(f"{call}(g, '{'NDR' if order else 'XDR'}')" for call, _, order in calls)
 
     def tried(self, values, kind, made):
-        """For each value of a type the results, or an empty list where they are an error."""
+        """For each value of a type the results, or an empty list if they are an error."""
         rows = ", ".join(f"({at}, {value})" for at, value in enumerate(values))
         answer = self.ask(
             f"create or replace function pg_temp.tried(it {kind}) returns text as $$ declare g geometry; begin "
