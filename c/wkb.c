@@ -3,7 +3,7 @@
  * and calls its proved wkb_raw_ call. The texts, the version, the class of refusals and wkb_words have no such call. */
 #include "wkb_raw.h"
 
-/* What the proved calls assume of the compiler and its options: structs as they were proved, 64-bit pointers,
+/* The proved calls assume this of the compiler and its options: structs as they were proved, 64-bit pointers,
  * little-endian. */
 #define IS_LAID(TYPE, SIZE, ALIGNMENT, PLACES) \
   _Static_assert(sizeof(TYPE) == (SIZE) && _Alignof(TYPE) == (ALIGNMENT) && (PLACES), "another layout of " #TYPE)
@@ -41,7 +41,7 @@ IS_LAID(wkb_raw_totals, 24, 8, AT(wkb_raw_totals, 0, coordinates) && AT(wkb_raw_
 #error "the proved calls are for little endian"
 #endif
 
-/* What an empty slice points to, for any type of its items. */
+/* The target of an empty slice's pointer, for any type of its items. */
 static const uint64_t NOTHING[1] = {0};
 
 static const uint8_t *bytes_of(const void *bytes, size_t len) {
@@ -93,7 +93,7 @@ const char *wkb_kind_text(wkb_kind kind) {
   return "unknown kind";
 }
 
-/* A text that grows in a buffer. What doesn't fit is only counted. */
+/* A text that grows in a buffer. Characters that don't fit are only counted. */
 typedef struct growing {
   char *out;
   size_t room;
@@ -117,8 +117,8 @@ static void add_number(growing *text, const char *before, uint64_t number) {
   for (; power > 0; power /= 10) add_letter(text, (char)('0' + number / power % 10));
 }
 
-/* Returns what a code that isn't read stands for by OGC 06-103r4, whatever its dimension and its SRID; null if it has
- * no name. */
+/* Returns the name of a code that isn't read, by OGC 06-103r4, whatever its dimension and its SRID; null if it has
+ * none. */
 static const char *unread_kind(uint32_t code) {
   static const char *const NAMES[] = {
       "a circular string", "a compound curve", "a curve polygon", "a multi curve", "a multi surface",

@@ -3,11 +3,11 @@
 // in it is proved. Coordinates are copied only on request. A rejected input is an exception, or for the calls whose
 // names begin with try_ and for check an empty optional or false, which costs a hundredth of it.
 //
-// What a call reads must not change during the call, by another thread or another process either: copy a mapped file
-// that others may write before the call. What a call writes must not overlap what it reads.
+// The input must not change during a call, by another thread or another process either: before the call, copy a
+// mapped file that others may write. The output must not overlap the input.
 //
 // Only vectors and exceptions allocate. If an allocation fails, the call throws std::bad_alloc: a reader's table is
-// then empty, and all else is as it was. Without exceptions (-fno-exceptions) the program aborts there, as with any
+// then empty, and all else is unchanged. Without exceptions (-fno-exceptions) the program aborts there, as with any
 // vector, and the calls that throw refused are not declared. These allocate nothing: check, try_bounds, try_same,
 // try_write and try_read into spans, column, and each call of a part but words.
 #ifndef WKB_HPP
@@ -41,8 +41,8 @@ using bytes = std::span<const std::byte>;
 
 namespace detail {
 
-// Returns whether a call succeeded. If not, FAULT becomes what was FOUND, unless it is null: the first error of a
-// rejected input, or else zeros, and the status.
+// Returns whether a call succeeded. If not, FAULT becomes FOUND, unless it is null: the first error of a rejected
+// input, or else zeros, and the status.
 inline bool accepted(wkb_status status, wkb_fault &found, wkb_fault *fault) noexcept {
   if (status == WKB_STATUS_OK) return true;
   found.status = status;
@@ -79,9 +79,9 @@ inline bool accepted(wkb_status status, wkb_fault &found, wkb_fault *fault) noex
   return size;
 }
 
-// Replaces what OUT holds by the encoding of the input's geometry under the options, and returns true. If the input is
-// rejected or the options are invalid, it returns false, OUT is unchanged, and FAULT says why, unless it is null. It
-// doesn't allocate if OUT has capacity for four bytes more than the input.
+// Replaces the contents of OUT by the encoding of the input's geometry under the options, and returns true. If the
+// input is rejected or the options are invalid, it returns false, OUT is unchanged, and FAULT says why, unless it is
+// null. It doesn't allocate if OUT has capacity for four bytes more than the input.
 [[nodiscard]] inline bool try_write(bytes input, const wkb_options &options, std::vector<std::byte> &out,
                                     wkb_fault *fault = nullptr) {
   // No encoding is longer than its geometry and an SRID. Of a long input the geometry may be a small part.
@@ -109,7 +109,7 @@ inline bool accepted(wkb_status status, wkb_fault &found, wkb_fault *fault) noex
 
 #ifdef __cpp_exceptions
 
-// A rejected input: why, and which part of it.
+// Reports a rejected input: the error, and the part with it.
 class refused : public std::runtime_error {
  public:
   explicit refused(const wkb_fault &fault) : std::runtime_error(text_of(fault)), fault_(fault) {}
@@ -127,7 +127,7 @@ class refused : public std::runtime_error {
   wkb_fault fault_;
 };
 
-// One of the two inputs of `same` is rejected.
+// Reports that one of the two inputs of `same` is rejected.
 class refused_of_two : public refused {
  public:
   refused_of_two(const wkb_fault &fault, std::uint32_t which) : refused(fault), which_(which) {}
@@ -147,8 +147,8 @@ inline wkb_box bounds(bytes input) {
   return *box;
 }
 
-// Replaces what OUT holds by the encoding of the input's geometry under the options, as try_write does. Throws refused,
-// and std::invalid_argument for invalid options; OUT is then unchanged.
+// Replaces the contents of OUT by the encoding of the input's geometry under the options, as try_write does. Throws
+// refused, and std::invalid_argument for invalid options; OUT is then unchanged.
 inline void write(bytes input, const wkb_options &options, std::vector<std::byte> &out) {
   wkb_fault fault;
   if (try_write(input, options, out, &fault)) return;
@@ -183,31 +183,31 @@ class part {
   wkb_kind kind() const noexcept { return entry_->kind; }
   wkb_dim dimension() const noexcept { return entry_->dimension; }
   wkb_order order() const noexcept { return entry_->order; }
-  // The words of a coordinate: 2, 3 or 4.
+  // Returns the ordinates of a coordinate: 2, 3 or 4.
   unsigned width() const noexcept { return entry_->width; }
-  // How many coordinates, rings or members it has.
+  // Returns how many coordinates, rings or members it has.
   std::size_t size() const noexcept { return entry_->count; }
   bool empty() const noexcept { return size() == 0; }
-  // Its own SRID.
+  // Returns its own SRID.
   std::optional<std::uint32_t> srid() const noexcept {
     return entry_->has_srid == 0 ? std::nullopt : std::optional<std::uint32_t>(entry_->srid);
   }
-  // Its own bytes; of a geometry, a well-formed input.
+  // Returns its own bytes, which for a geometry are a well-formed input.
   bytes encoding() const noexcept { return {input_ + entry_->begin, entry_->end - entry_->begin}; }
-  // Its entry in the table.
+  // Returns its entry in the table.
   const wkb_part &entry() const noexcept { return *entry_; }
 
-  // Whether it has coordinates: a point, a line string or a ring. The calls below are for these.
+  // Returns whether it has coordinates: a point, a line string or a ring. The calls below are for these.
   bool has_coordinates() const noexcept { return kind() <= WKB_KIND_LINE_STRING; }
-  // Word N of coordinate I, where I is below size() and N below width().
+  // Returns ordinate N of coordinate I, for I below size() and N below width().
   double word(std::size_t i, unsigned n) const noexcept { return wkb_word(input_, entry_, i, n); }
-  // Copies the words of as many coordinates as OUT has room for, from FIRST on, and returns how many these are.
+  // Copies the ordinates of as many coordinates as OUT can hold, from FIRST on, and returns how many these are.
   std::size_t copy(std::span<double> out, std::size_t first = 0) const noexcept {
     std::size_t count = first < size() ? std::min(size() - first, out.size() / width()) : 0;
     wkb_words(input_, entry_, first, count, out.data());
     return count;
   }
-  // All words, one coordinate after another.
+  // Returns all ordinates, one coordinate after another.
   std::vector<double> words() const {
     std::vector<double> out(size() * width());
     copy(out);
@@ -228,7 +228,7 @@ class part {
   const wkb_part *entry_;
 };
 
-// Goes through the rings or members of a part.
+// Iterates over the rings or members of a part.
 class part::iterator {
  public:
   using value_type = part;
@@ -328,7 +328,7 @@ using statuses = std::vector<std::uint8_t>;
   return found;
 }
 
-// What is in each row; all zeros if its status isn't WKB_STATUS_OK.
+// The result of wkb_column_found: an entry for each row, all zeros if its status isn't WKB_STATUS_OK.
 struct row_found {
   wkb::statuses statuses;
   std::vector<wkb_found> found;
@@ -403,7 +403,7 @@ struct row_encodings {
 
 #ifdef __cpp_exceptions
 
-// A row can't be a member.
+// Reports that a row can't be a member.
 class refused_row : public refused {
  public:
   refused_row(const wkb_fault &fault, std::size_t row) : refused(fault), row_(row) {}
@@ -414,7 +414,7 @@ class refused_row : public refused {
   std::size_t row_;
 };
 
-// The encoding under the options of the geometry of this kind and dimension whose members are the rows. Throws
+// Returns the encoding under the options of the geometry of this kind and dimension whose members are the rows. Throws
 // refused_row, and std::invalid_argument for an invalid kind, dimension or option and for 2^32 rows or more.
 inline std::vector<std::byte> collect(const wkb_column &column, wkb_kind kind, wkb_dim dimension,
                                       const wkb_options &options) {
@@ -428,20 +428,20 @@ inline std::vector<std::byte> collect(const wkb_column &column, wkb_kind kind, w
 
 #endif  // __cpp_exceptions
 
-// The coordinates of all rows, in the levels of wkb_coordinates, which says how GeoArrow's offsets of each kind are
-// made of these ends.
+// The coordinates of all rows, in the levels of wkb_coordinates, which explains how to make GeoArrow's offsets of
+// each kind from these ends.
 struct row_coordinates {
   wkb::statuses statuses;
   std::vector<std::uint64_t> row_ends, single_ends, ring_ends;
   std::vector<double> words;
 };
 
-// The words that a coordinate has in a dimension.
+// Returns the number of ordinates in a dimension.
 inline std::size_t width_of(wkb_dim dimension) noexcept {
   return dimension == WKB_DIM_XY ? 2 : dimension == WKB_DIM_XYZM ? 4 : 3;
 }
 
-// Each coordinate has the words that DIMENSION names.
+// Returns the coordinates of all rows, with the ordinates of DIMENSION.
 [[nodiscard]] inline row_coordinates coordinates_of_rows(const wkb_column &column, wkb_dim dimension) {
   row_coordinates it{statuses(column.rows), std::vector<std::uint64_t>(column.rows), {}, {}, {}};
   const std::size_t width = width_of(dimension);
@@ -460,9 +460,8 @@ inline std::size_t width_of(wkb_dim dimension) noexcept {
   return it;
 }
 
-// Coordinates of one's own, in the levels of wkb_levels, which says what GeoArrow's offsets of each kind are there. A
-// level without ends has one item for each of the next, as the points of GeoArrow have; a level with ends has as many
-// items as these are.
+// Your own coordinates, in the levels of wkb_levels, which explains GeoArrow's offsets of each kind. A level without
+// ends has one item for each of the next, as GeoArrow's points have; a level with ends has as many items as ends.
 struct levels {
   std::span<const double> words;
   std::optional<std::span<const std::uint64_t>> ring_ends{}, single_ends{}, row_ends{};
@@ -470,7 +469,7 @@ struct levels {
   std::size_t validity_offset = 0;
 };
 
-// The encodings of rows of one kind and one dimension.
+// Returns the encodings of rows of one kind and one dimension.
 [[nodiscard]] inline row_encodings rows_from_coordinates(const levels &from, wkb_kind kind, wkb_dim dimension,
                                                          const wkb_options &options) {
   const auto items = [](const auto &ends, std::size_t below) { return ends ? ends->size() : below; };

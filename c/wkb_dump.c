@@ -1,5 +1,5 @@
 /* SPDX-License-Identifier: MIT OR Apache-2.0 */
-/* The walk over the bytes that wkb_check has looked at, and the lines that it puts. See wkb_dump.h. */
+/* Walks over the bytes that wkb_check has checked, and puts the lines. See wkb_dump.h. */
 #include "wkb_dump.h"
 
 #include <inttypes.h>
@@ -39,7 +39,7 @@ typedef struct dump {
   bool is_at_refused, is_full, has_stopped;
 } dump;
 
-/* Whether what is here is shown. */
+/* Returns whether the current place is shown. */
 static bool is_shown(const dump *it) {
   return !it->has_stopped && it->hidden == 0 && (it->is_at_refused || !it->is_full);
 }
@@ -49,7 +49,7 @@ static int indent_of(const dump *it) {
   return indent < MOST_INDENT ? indent : MOST_INDENT;
 }
 
-/* Puts a line. The one after the last that is wanted says that more are left out. */
+/* Puts a line. The one after the last requested line says that more are left out. */
 static void put_line(dump *it, const char *format, ...) {
   char line[LINE_ROOM + 1];
   va_list words;
@@ -66,7 +66,7 @@ static void put_line(dump *it, const char *format, ...) {
   put_line(it, "%10s..  and so on, after %" PRIu64 " lines", "", it->lines);
 }
 
-/* Goes past the next COUNT bytes, or as many as there are, and shows them with what they say. Returns whether all of
+/* Goes past the next COUNT bytes, or as many as there are, and shows them with their meaning. Returns whether all of
  * them are there. */
 static bool put_bytes(dump *it, size_t count, const char *format, ...) {
   char hex[3 * IN_A_LINE + 1] = "", says[SAYS_ROOM];
@@ -149,7 +149,7 @@ static bool put_coordinate(dump *it, uint32_t dimension, bool is_big) {
   return true;
 }
 
-/* The coordinates of a point, a line string or a ring, as many as there are. Returns whether all are there. */
+/* Shows the coordinates of a point, a line string or a ring, as many as there are. Returns whether all are there. */
 static bool put_coordinates(dump *it, uint32_t dimension, bool is_big, uint64_t count) {
   size_t size = 8 * strlen(DIMENSIONS[dimension]);
   uint64_t held = (it->len - it->at) / size, whole = count < held ? count : held;
@@ -167,7 +167,7 @@ static bool put_coordinates(dump *it, uint32_t dimension, bool is_big, uint64_t 
 
 static const char *name_of(const list *items) { return items->is_of_rings ? "ring" : "member"; }
 
-/* What is before the item of the innermost lists, from a depth on: how many are left out, and which one this is. */
+/* Shows the line before the item of the innermost lists, from a depth on: how many are left out, and its index. */
 static void put_headings(dump *it, uint32_t from) {
   uint32_t depth = it->depth;
   for (it->depth = from; it->depth <= depth; it->depth++) {
@@ -213,8 +213,7 @@ static bool put_ring(dump *it) {
          put_coordinates(it, rings->dimension, rings->is_big, count);
 }
 
-/* The code of a geometry, in the digits in which its standard has it, and what it says. Returns whether it says a
- * kind. */
+/* Shows the code of a geometry, in the digits of its standard, and its meaning. Returns whether it has a kind. */
 static bool put_code(dump *it, bool is_big, uint32_t *code, uint32_t *kind, uint32_t *dimension) {
   *code = next_number(it, is_big);
   *kind = (*code & ~FLAGS) % 1000, *dimension = (*code & ~FLAGS) / 1000;
@@ -227,7 +226,7 @@ static bool put_code(dump *it, bool is_big, uint32_t *code, uint32_t *kind, uint
   return put_bytes(it, 4, format, *code, ": ", wkb_kind_text(*kind), ", ", DIMENSIONS[*dimension]);
 }
 
-/* The front of a geometry. Returns whether the bytes after it are its body. */
+/* Shows the header of a geometry. Returns whether the bytes after it are its body. */
 static bool put_front(dump *it, bool *is_big, uint32_t *kind, uint32_t *dimension) {
   uint32_t code;
   if (it->at == it->len) return false;
@@ -238,7 +237,7 @@ static bool put_front(dump *it, bool *is_big, uint32_t *kind, uint32_t *dimensio
   return (code & SRID_FLAG) == 0 || put_bytes(it, 4, "SRID %" PRIu32, next_number(it, *is_big));
 }
 
-/* A geometry up to its own coordinates, or up to its rings or members, which are then the innermost list. Returns
+/* Shows a geometry up to its own coordinates, or up to its rings or members, which are then the innermost list. Returns
  * whether all of it is there. */
 static bool put_geometry(dump *it) {
   uint32_t kind, dimension, count;
@@ -271,7 +270,7 @@ static void put_parts(dump *it) {
   }
 }
 
-/* The items that the rejected part is in, from the innermost one on. */
+/* Shows the items around the rejected part, from the innermost one on. */
 static void put_path(dump *it) {
   char text[SAYS_ROOM] = "";
   size_t length = 0;
@@ -285,7 +284,7 @@ static void put_path(dump *it) {
   if (it->depth > 0) put_line(it, "%10s%s", "", text);
 }
 
-/* Shows the geometry behind the header, and how it ends. Returns whether it is alone. */
+/* Shows the geometry after the header, and its end. Returns whether it is alone. */
 static bool put_whole(dump *it) {
   wkb_found found;
   wkb_fault fault;
@@ -321,7 +320,7 @@ static bool put_envelope(dump *it, const char *names, bool is_big) {
   return true;
 }
 
-/* Shows the header of a GeoPackage: "GP", a version, flags, the srs_id and an envelope. Returns what is wrong with it,
+/* Shows the header of a GeoPackage: "GP", a version, flags, the srs_id and an envelope. Returns its error,
  * or NULL. */
 static const char *put_header(dump *it) {
   static const char *const ENVELOPES[] = {"", "xy", "xyz", "xym", "xyzm"};

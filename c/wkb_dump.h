@@ -1,9 +1,9 @@
 /* SPDX-License-Identifier: MIT OR Apache-2.0 */
-/* Shows the bytes of a geometry line by line, with what they mean, and where and why they are rejected. This is plain
- * C over wkb.h, and no part of the library: who wants it compiles wkb_dump.c too. It is tested, and not proved.
+/* Shows the bytes of a geometry line by line, with their meaning, and the place and reason of an error. This is plain
+ * C over wkb.h, and no part of the library: to use it, compile wkb_dump.c too. It is tested, and not proved.
  *
- * It decides nothing itself. It asks wkb_check, and ends where the geometry ends by what that finds, or with the part
- * that it rejects. It doesn't allocate, has no global state, and takes at most 8 KB of stack besides what printf takes.
+ * It decides nothing itself. It calls wkb_check, and ends at the geometry's end that this finds, or with the part
+ * that it rejects. It doesn't allocate, has no global state, and takes at most 8 KB of stack besides that of printf.
  * As for each call of wkb.h, the input must not change during a call. */
 #ifndef WKB_DUMP_H
 #define WKB_DUMP_H
@@ -18,7 +18,7 @@ extern "C" {
  * ends the dump. It may also leave it by longjmp, since the dump holds nothing. */
 typedef int wkb_dump_put(void *to, const char *line, size_t length);
 
-/* How much is shown. */
+/* The limits of the output. */
 typedef struct wkb_dump_options {
   uint32_t items;  /* of more coordinates, rings or members in one list so many are shown, the last of them with the
                       first ones; 0: all */
@@ -28,14 +28,14 @@ typedef struct wkb_dump_options {
 
 enum { WKB_DUMP_ITEMS = 3, WKB_DUMP_LINES = 1000, WKB_DUMP_LINES_MORE = 300 };
 
-/* What the dump returns, and the exit status of a program. */
+/* The result of the dump, and the exit status of a program. */
 enum {
   WKB_DUMP_ALONE = 0,   /* the input is one geometry, without trailing bytes */
   WKB_DUMP_OTHER = 1,   /* it is rejected, or more bytes come after the geometry */
   WKB_DUMP_STOPPED = 2  /* PUT has ended the dump */
 };
 
-/* What was walked over, in bytes from the start of the geometry. */
+/* The extent of the walk, in bytes from the start of the geometry. */
 typedef struct wkb_dump_walk {
   uint64_t parts;  /* how many parts have begun; the last of a rejected input is the rejected one */
   uint64_t begin;  /* where the last of them starts */

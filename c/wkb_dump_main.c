@@ -1,5 +1,5 @@
 /* SPDX-License-Identifier: MIT OR Apache-2.0 */
-/* The program wkb_dump: its options and its input. What it shows is made by wkb_dump.c. */
+/* The program wkb_dump: its options and its input. wkb_dump.c makes its output. */
 #include <stdbool.h>
 #include <stdio.h>
 #include <stdlib.h>
@@ -36,7 +36,7 @@ typedef struct program {
   const char *file;
 } program;
 
-/* Says on standard error why the input can't be read. */
+/* Prints on standard error why the input can't be read. */
 static int fails(const char *why, const char *what) {
   fprintf(stderr, "wkb_dump: %s%s\n", why, what);
   return WKB_DUMP_STOPPED;
@@ -44,7 +44,7 @@ static int fails(const char *why, const char *what) {
 
 static int put(void *to, const char *line, size_t length) { return fwrite(line, 1, length, to) != length; }
 
-/* Reads all of a file, or tells why it can't. */
+/* Reads a whole file, or prints why it can't. */
 static const char *read_file(FILE *file, size_t most, char **bytes, size_t *size) {
   size_t room = 0, got = 1;
   *bytes = NULL, *size = 0;

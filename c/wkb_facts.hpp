@@ -1,6 +1,6 @@
 // SPDX-License-Identifier: MIT OR Apache-2.0
-// What occurs in a column: which kinds and dimensions, which SRIDs, and the bounds of all rows together. It is made over
-// wkb.hpp, of what is found in each row and of the bounds of each row. Nothing in it is proved.
+// Summarizes a column: its kinds and dimensions, its SRIDs, and the bounds of all rows together. It is made over
+// wkb.hpp, from the entry and the bounds of each row. Nothing in it is proved.
 #ifndef WKB_FACTS_HPP
 #define WKB_FACTS_HPP
 
@@ -16,10 +16,10 @@ namespace wkb {
 // rest of the facts is about these rows alone.
 struct column_facts {
   std::size_t rows = 0, accepted = 0, null_rows = 0, refused = 0;
-  // How many rows are of a kind and a dimension, by their numbers: of_kind[WKB_KIND_POINT][WKB_DIM_XYZ].
+  // The number of rows of a kind and a dimension, by their numbers: of_kind[WKB_KIND_POINT][WKB_DIM_XYZ].
   std::array<std::array<std::size_t, 4>, 8> of_kind{};
-  // How many rows have no SRID, and the SRIDs that the others have, each once and in order. The SRIDs of members don't
-  // count.
+  // The number of rows without an SRID, and the SRIDs of the others, each once and in order. The SRIDs of members
+  // don't count.
   std::size_t without_srid = 0;
   std::vector<std::uint32_t> srids{};
   // The bounds of all rows together. The range of an ordinate that no row has is that of a geometry without coordinates.
@@ -28,7 +28,7 @@ struct column_facts {
 
 namespace detail {
 
-// Whether a number is below another, where -0 is below +0.
+// Returns whether a number is below another, with -0 below +0.
 inline bool is_below(double a, double b) noexcept {
   return a < b || (a == b && std::signbit(a) && !std::signbit(b));
 }
@@ -51,7 +51,7 @@ inline void sort_srids(std::vector<std::uint32_t> &srids) {
 
 }  // namespace detail
 
-// What occurs in the rows, by what is found in each and the bounds of each: both of one column.
+// Returns the facts of the rows, by the entry and the bounds of each: both of one column.
 [[nodiscard]] inline column_facts facts_of(const row_found &found, const row_bounds &bounds) {
   constexpr wkb_range NONE{std::numeric_limits<double>::infinity(), -std::numeric_limits<double>::infinity(), 0};
   column_facts facts;
@@ -77,8 +77,8 @@ inline void sort_srids(std::vector<std::uint32_t> &srids) {
   return facts;
 }
 
-// What occurs in the rows of a column. On the way it takes 162 bytes of memory a row, and up to 12
-// more if each has an SRID of its own.
+// Returns the facts of the rows of a column. It allocates 162 bytes a row meanwhile, and up to 12 more if each has
+// its own SRID.
 [[nodiscard]] inline column_facts facts_of_rows(const wkb_column &column) {
   return facts_of(found_of_rows(column), bounds_of_rows(column));
 }

@@ -1,13 +1,13 @@
 /* SPDX-License-Identifier: MIT OR Apache-2.0 */
 /* The proved calls of crates/wkb_c, which wkb.c calls and the library hides. A slice is a pointer and a length, also in
- * a struct. No pointer may be null, not even where its length is 0, and each is aligned. A size_t is a usize or a u64
- * of Rattle, of 64 bits as these are. The contracts of crates/wkb_c/src/lib.rt say what the calls promise. */
+ * a struct. No pointer may be null, not even if its length is 0, and each is aligned. A size_t is a usize or a u64
+ * of Rattle, of 64 bits as these are. The contracts of crates/wkb_c/src/lib.rt define the calls. */
 #ifndef WKB_RAW_H
 #define WKB_RAW_H
 
 #include "wkb.h"
 
-/* How many coordinates, rings and singles the rows of a column have. */
+/* The numbers of coordinates, rings and singles of the rows of a column. */
 typedef struct wkb_raw_totals {
   uint64_t coordinates;
   uint64_t rings;
@@ -36,7 +36,7 @@ typedef struct wkb_raw_level_slices {
   size_t single_room;
 } wkb_raw_level_slices;
 
-/* The levels of a column that is written. The numbers are asked for where a level has no ends. */
+/* The levels of a column that is written. The numbers are for levels without ends. */
 typedef struct wkb_raw_level_column {
   const double *words;
   size_t word_count;
