@@ -66,6 +66,13 @@ class Sbom(unittest.TestCase):
             found = {sum_["algorithm"]: sum_["checksumValue"] for sum_ in it["checksums"]}
             self.assertEqual(found["SHA256"], hashlib.sha256(content).hexdigest(), it["fileName"])
 
+    def test_a_package_has_a_sum_exactly_if_it_has_files(self):
+        files = {it["SPDXID"] for it in self.sbom["files"]}
+        holders = {it["spdxElementId"] for it in self.sbom["relationships"] if it["relatedSpdxElement"] in files}
+        self.assertEqual(len(holders), 6)
+        for it in self.sbom["packages"]:
+            self.assertEqual((it["filesAnalyzed"], "packageVerificationCode" in it), (it["SPDXID"] in holders,) * 2)
+
     def test_each_name_is_there_once(self):
         named = [it["SPDXID"] for it in (self.sbom, *self.sbom["packages"], *self.sbom["files"])]
         self.assertEqual(len(named), len({*named}))
