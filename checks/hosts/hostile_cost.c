@@ -1,11 +1,13 @@
 /* What columns cost that are made to cost much: for each call that takes offsets or levels, the processor time of good
  * columns, and that of the hostile column of the same size that takes the most. Offsets, and ends at each level, go to
  * and fro, fall, reach past the end, or give all to one row; rows are null; bytes hold as many parts as they can. It
- * prints a table in Markdown, and exits with status 1 if a hostile column takes more than MOST times as long. */
+ * prints a table in Markdown, and ends with 1 where a hostile column takes more than MOST times as long. With a word,
+ * the calls alone are tried whose names hold it. */
 #define _POSIX_C_SOURCE 200809L
 #include "wkb.h"
 #include <stdbool.h>
 #include <stdio.h>
+#include <string.h>
 #include <time.h>
 
 enum { SIZES = 2, FEW = 10000, MANY = 100000, MOST = 16, ROUNDS = 3, POINT_SIZE = 21, LEVELS_SIZE = 40 };
@@ -266,13 +268,14 @@ static bool print_row(const call *it, const cost *c) {
   return is_too_much(c, 0) || is_too_much(c, 1);
 }
 
-int main(void) {
+int main(int count, char **words) {
   bool is_slow = false;
   for (int i = 0; i < DEEPEST; i++) put_header(nest + HEADER * i, WKB_KIND_GEOMETRY_COLLECTION, i + 1 < DEEPEST);
   printf("| ns a byte | good, %d rows | %d | the most, %d | %d | what takes the most |\n", FEW, MANY, FEW, MANY);
   printf("|---|---|---|---|---|---|\n");
   for (size_t k = 0; k < sizeof CALLS / sizeof CALLS[0]; k++) {
     static cost none, c;
+    if (count > 1 && strstr(CALLS[k].name, words[1]) == NULL) continue;
     c = none;
     for (int size = 0; size < SIZES && !(size && is_too_much(&c, 0)); size++)
       (CALLS[k].kind ? try_levels : try_rows)(&CALLS[k], &c, size);

@@ -50,12 +50,18 @@ def table(path):
         return list(csv.reader(file))[1:]
 
 
-def run_example(name, *arguments, **options):
-    """The exit status of an example, what it prints, and what it says of its progress."""
+def run_example(name, *arguments, timeout=300, **options):
+    """The exit status of an example, what it prints, and what it says of its progress. One that doesn't end in so many
+    seconds is killed with its processes."""
     command = [sys.executable, EXAMPLES / name, *map(str, arguments)]
-    ran = subprocess.run(command, stdout=subprocess.PIPE, stderr=subprocess.PIPE, universal_newlines=True, timeout=300,
-                         **options)
-    return ran.returncode, ran.stdout, ran.stderr
+    ran = subprocess.Popen(command, stdout=subprocess.PIPE, stderr=subprocess.PIPE, universal_newlines=True,
+                           start_new_session=True, **options)
+    try:
+        printed = ran.communicate(timeout=timeout)
+    except subprocess.TimeoutExpired:
+        os.killpg(ran.pid, signal.SIGKILL)
+        printed = ran.communicate()
+    return ran.returncode, *printed
 
 
 def until(holds):
@@ -228,7 +234,8 @@ class ManyFiles(unittest.TestCase):
 
     @unittest.skipUnless(os.path.exists("/proc/self/cmdline"), "there is no /proc")
     def test_one_worker_that_never_starts(self):
-        self.gives_up(run_example(*self.arguments, "--timeout", 3, env=self.dying("not is_first()")))
+        """Dask itself may end such a run with an error, or wait for ever."""
+        self.gives_up(run_example(*self.arguments, "--timeout", 3, timeout=100, env=self.dying("not is_first()")))
 
     @unittest.skipUnless(os.path.exists("/proc/self/cmdline"), "there is no /proc")
     def test_worker_that_dies_once(self):
