@@ -4,13 +4,14 @@
 
 enum { FOUND_COUNT = 11, FAULT_COUNT = 5, OPTION_COUNT = 8, INPUT_MOST = 4096, LINE_MOST = 12000, CALLER_SRID = 4326 };
 
-/* A row: an input, its status, what is found or the fault, and the sums of what is written under each option. */
+/* A row: an input, its status, what is found or the fault, the sums of what is written under each option, and that of
+ * the bounds. */
 typedef struct row {
   uint8_t bytes[INPUT_MOST];
   size_t len;
   uint32_t status;
   uint64_t fields[FOUND_COUNT];
-  uint32_t sums[OPTION_COUNT];
+  uint32_t sums[OPTION_COUNT + 1];
 } row;
 
 /* The next number of a line, which is moved behind it. */
@@ -30,7 +31,7 @@ static void read_row(char *line, row *to) {
   to->status = (uint32_t)number(&fields, 10, line);
   bool is_refused = to->status != WKB_STATUS_OK;
   for (int i = 0; i < (is_refused ? FAULT_COUNT : FOUND_COUNT); i++) to->fields[i] = number(&fields, 10, line);
-  for (int i = 0; i < (is_refused ? 0 : OPTION_COUNT); i++) to->sums[i] = (uint32_t)number(&fields, 16, line);
+  for (int i = 0; i < (is_refused ? 0 : OPTION_COUNT + 1); i++) to->sums[i] = (uint32_t)number(&fields, 16, line);
   expect(strspn(fields, " \r\n") == strlen(fields), "a row with more numbers", line);
 }
 
@@ -66,8 +67,23 @@ static const char *wrong_writing(const row *r) {
     if (status != r->status) return "wkb_write has another status than wkb_check";
     if (status != WKB_STATUS_OK && !is_fault(r, &fault)) return "wkb_write has another fault than wkb_check";
     if (status == WKB_STATUS_OK && summed(out, size) != r->sums[i]) return "a byte that is written changes";
+    if (status == WKB_STATUS_OK &&
+        wkb_write(r->bytes, r->len, &options, out, size - 1, NULL, NULL) != WKB_STATUS_NO_ROOM)
+      return "room for all bytes but one is enough";
   }
   return NULL;
+}
+
+/* What is wrong with the bounds of a row, and with what is said of its bytes without the last, or NULL. */
+static const char *wrong_bounds(const row *r) {
+  wkb_box box;
+  wkb_fault fault;
+  uint32_t status = wkb_bounds(r->bytes, r->len, &box, &fault);
+  if (status != r->status) return "wkb_bounds has another status than wkb_check";
+  if (status != WKB_STATUS_OK) return is_fault(r, &fault) ? NULL : "wkb_bounds has another fault than wkb_check";
+  if (summed((const uint8_t *)&box, sizeof box) != r->sums[OPTION_COUNT]) return "a bound changes";
+  status = wkb_bounds(r->bytes, (size_t)r->fields[0] - 1, &box, NULL);
+  return wkb_status_is_early_end(status) ? NULL : "a byte less is no early end";
 }
 
 /* What is wrong with what is found of a column of one row that has the input, or NULL. */
@@ -95,7 +111,8 @@ static const char *wrong_answer(const row *r) {
   if (status == WKB_STATUS_OK && !is_found(r, &found)) return "what is found changes";
   if (status != WKB_STATUS_OK && !is_fault(r, &fault)) return "a fault changes";
   const char *wrong = wrong_entry(r);
-  return wrong ? wrong : wrong_writing(r);
+  if (!wrong) wrong = wrong_writing(r);
+  return wrong ? wrong : wrong_bounds(r);
 }
 
 /* With these bits of a byte changed, this is what is wrong with a row. */
@@ -114,6 +131,7 @@ static void wrong_rows_are_seen(row *r) {
     is_seen(r, &r->fields[i], 1, is_refused ? "a fault changes" : "what is found changes");
   for (int i = 0; i < (is_refused ? 0 : OPTION_COUNT); i++)
     is_seen(r, &r->sums[i], 1, "a byte that is written changes");
+  if (!is_refused) is_seen(r, &r->sums[OPTION_COUNT], 1, "a bound changes");
   if (!is_refused) return;
   is_seen(r, &r->status, 16, "a status changes its class");
   is_seen(r, &r->status, 2, "a status changes inside its class");

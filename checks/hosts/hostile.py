@@ -1,5 +1,5 @@
-"""Compares the extensions of SQLite and PostgreSQL with the Python package, over geometries of each type, dimension,
-byte order and form, and over some with each byte changed, and cut at each byte.
+"""Compares the extensions of SQLite and PostgreSQL with the Python package, over the inputs of c/test/lasting.rows, of
+which the answers of a model are known, and over geometries with each byte changed, and cut at each byte.
 
     python3 hostile.py sqlite PACKAGE EXTENSION    # tries all functions, also over the blobs of GeoPackages
     python3 hostile.py rows PACKAGE                # prints what the functions have to return, for postgres/run
@@ -9,6 +9,7 @@ of the program wkb_dump in the folder around it.
 """
 import itertools
 import os
+import pathlib
 import re
 import sqlite3
 import struct
@@ -20,6 +21,7 @@ sys.path.insert(0, sys.argv[2])
 import porchsorrel_wkb as wkb
 from porchsorrel_wkb import Form, Kind, Refused, Status
 
+TABLE = pathlib.Path(__file__).resolve().parents[2] / "c/test/lasting.rows"
 SEEDS = [bytes.fromhex(it) for it in (
     "0101000000000000000000f03f0000000000000040",
     "00000000013ff00000000000004000000000000000",
@@ -45,21 +47,9 @@ SEEDS = [bytes.fromhex(it) for it in (
     "010700000002000000" + 3 * "010700000001000000" + "0101000000" + 16 * "00" + "010200004000000000",
     "00000003ec00000002" "01e9030000" + 24 * "00" + "0080000001" + 24 * "00",
 )]
-# Of each kind a geometry: its rings by how many coordinates they have, or its members, by their kinds; and what the
-# functions return of it: its kind, how many coordinates, members and parts it has.
-SHAPES = [
-    ((1, 1), ("point", 1, 0, 1)),
-    ((2, 2), ("linestring", 2, 0, 1)),
-    ((3, [4, 0, 5]), ("polygon", 9, 0, 4)),
-    ((4, [(1, 1), (1, 1)]), ("multipoint", 2, 2, 3)),
-    ((5, [(2, 3), (2, 0), (2, 1)]), ("multilinestring", 4, 3, 4)),
-    ((6, [(3, [4]), (3, []), (3, [0, 6])]), ("multipolygon", 10, 3, 7)),
-    ((7, [(7, [(1, 1), (4, [])]), (2, 2)]), ("geometrycollection", 3, 2, 5)),
-    ((7, []), ("geometrycollection", 0, 0, 1)),
-]
-# The dimensions by the thousands of their codes, with the flags of EWKB and the answers of wkb_ndims and wkb_zmflag.
-DIMENSIONS = [(0, 0, 2, 0), (1, 0x80000000, 3, 2), (2, 0x40000000, 3, 1), (3, 0xc0000000, 4, 3)]
-SRIDS = [0, 4326, 2**31, 2**32 - 1]
+# What the functions return of kinds and of dimensions: the name; the answers of wkb_ndims and wkb_zmflag.
+NAMES = "point linestring polygon multipoint multilinestring multipolygon geometrycollection".split()
+DIMENSIONS = [(2, 0), (3, 2), (3, 1), (4, 3)]
 ENVELOPES = [0, 32, 48, 48, 64]
 SIDES = [(axis, end) for axis in "xyzm" for end in ("min", "max")]
 QUERY = (
@@ -74,9 +64,22 @@ GEOPACKAGE = (
 )
 
 
-def inputs():
-    """The shapes; the seeds, those with a changed byte, cut ones, and those with a byte after them."""
-    yield from (data for data, _ in shapes())
+def table():
+    """The inputs of c/test/lasting.rows with the words of their answers, as `checks/library/lasting --help` tells."""
+    for line in TABLE.read_text(encoding="utf-8").splitlines():
+        if not line.startswith("#"):
+            data, *words = line.split(" ")
+            yield bytes.fromhex(data), words
+
+
+def listed():
+    """The inputs of the table, and behind each that is accepted the same without its last byte."""
+    for data, words in table():
+        yield from [data, data[: int(words[1]) - 1]] if words[0] == "0" else [data]
+
+
+def changed():
+    """The seeds, those with a changed byte, cut ones, and those with a byte after them."""
     for seed in SEEDS:
         yield from (seed, seed + b"\1")
         yield from (seed[:i] for i in range(len(seed)))
@@ -85,29 +88,12 @@ def inputs():
                 yield seed[:i] + bytes([other]) + seed[i + 1 :]
 
 
-def encoded(shape, order, codes, width, srid=None):
-    """A shape's encoding, its members in turn in the other byte order; `codes` is added to the code of each kind."""
-    kind, own = shape
-    numbers = [kind + codes] if srid is None else [kind + codes + 0x20000000, srid]
-    head = bytes([order == "<"]) + b"".join(struct.pack(f"{order}I", it) for it in numbers)
-    coordinates = lambda many: struct.pack(f"{order}{many * width}d", *range(many * width))
-    if kind == 1:
-        return head + coordinates(own)
-    if kind == 2:
-        return head + struct.pack(f"{order}I", own) + coordinates(own)
-    head += struct.pack(f"{order}I", len(own))
-    if kind == 3:
-        return head + b"".join(struct.pack(f"{order}I", it) + coordinates(it) for it in own)
-    return head + b"".join(encoded(it, "<>"[(order == "<") ^ i % 2], codes, width) for i, it in enumerate(own))
-
-
-def shapes():
-    """The encoding of each shape in each dimension, byte order and form, and its content."""
-    for (shape, (kind, *counts)), dimension, order in itertools.product(SHAPES, DIMENSIONS, "<>"):
-        thousands, flags, width, zmflag = dimension
-        forms = [(1000 * thousands, None), (flags, None), *((flags, srid) for srid in SRIDS)]
-        for codes, srid in forms:
-            yield encoded(shape, order, codes, width, srid), (kind, srid, width, zmflag, *counts)
+def summed(data):
+    """FNV-1a in 32 bits."""
+    total = 0x811c9dc5
+    for byte in data:
+        total = (total ^ byte) * 0x01000193 & 0xffffffff
+    return total
 
 
 def place(text, part, offset):
@@ -194,7 +180,7 @@ def geopackage(data, srs_id):
 
 def dumps():
     """The program's output for each input, without empty lines."""
-    every = list(dict.fromkeys(it for it in inputs() if it))
+    every = list(dict.fromkeys(it for it in (*listed(), *changed()) if it))
     lines = "".join(f"{it.hex()}\n" for it in every).encode()
     ran = subprocess.run([f"{sys.argv[2]}/../wkb_dump", "-l"], input=lines, stdout=subprocess.PIPE)
     shown = re.split(r"(?m)^line \d+\n", ran.stdout.decode())[1:]
@@ -217,12 +203,14 @@ def try_sqlite(extension):
     database.load_extension(os.fspath(extension))
     # Python's call has no entry point before 3.12.
     database.execute("select load_extension(?, 'sqlite3_wkbst_init')", (os.fspath(extension),))
-    shown = dumps()
-    for data in inputs():
+    shown, every, in_turn = dumps(), list(headers()), itertools.cycle(headers())
+    # Each header before the seeds and what is made of them, and one in turn before what is in the table.
+    tried = [*((data, [next(in_turn)]) for data in listed()), *((data, every) for data in changed())]
+    for data, before in tried:
         dump = database.execute("select wkb_dump(?)", (data,)).fetchone()[0]
         if dump != shown[data]:
             sys.exit(f"{data.hex()}:\n{dump}\n  and by the program:\n{shown[data]}")
-        for header, srs_id in [(b"", None), *headers()]:
+        for header, srs_id in [(b"", None), *before]:
             returned = database.execute(f"{QUERY}, {GEOPACKAGE}", (header + data, SEEDS[0])).fetchone()
             expected = results(data, header, srs_id) + geopackage(data, srs_id)
             count += 1
@@ -231,11 +219,19 @@ def try_sqlite(extension):
     print(f"sqlite: {count} blobs, whole, changed and cut, give what Python gives")
 
 
-def try_shapes():
-    """Compare the package's results for the shapes with the known ones."""
-    for data, expected in shapes():
-        if results(data)[2:9] != expected:
-            sys.exit(f"{data.hex()}:\n  expected {expected}\n  the package: {results(data)[2:9]}")
+def try_table():
+    """Compare the package's results with the table: type, SRID, dimension and counts, and both encodings."""
+    for data, (status, *words) in table():
+        found = results(data)
+        returned, expected = found[0] or found[2] is not None, status == "0"
+        if expected:
+            _, parts, coordinates, _, count, srid, has_srid, kind, dimension = map(int, words[:9])
+            members = count if kind > 3 else 0
+            counts_of = *DIMENSIONS[dimension], coordinates, members, parts
+            expected = NAMES[kind - 1], srid if has_srid else None, *counts_of, words[15], words[16]
+            returned = *found[2:9], *(f"{summed(it):08x}" for it in found[9:11])
+        if returned != expected:
+            sys.exit(f"{data.hex()}:\n  expected {expected}\n  the package: {returned}")
 
 
 def copied(value):
@@ -248,12 +244,12 @@ def copied(value):
 def print_rows():
     """A line for each input with the functions' results, for the database's COPY."""
     shown = dumps()
-    for data in inputs():
+    for data in (*listed(), *changed()):
         print("\t".join(map(copied, (data, *results(data), shown[data]))))
 
 
 def main():
-    try_shapes()
+    try_table()
     if sys.argv[1] == "sqlite":
         try_sqlite(sys.argv[3])
     else:

@@ -28,20 +28,6 @@ class Found(unittest.TestCase):
         self.assertEqual((found[0], found[3], len(found)), (point, polygon, 5))
         self.assertEqual(bytes(found._memory[64:192]), bytes(128))  # null and rejected rows are zeros
 
-    def test_each(self):
-        """Each kind, dimension, order and form, and an SRID that needs 32 bits."""
-        for kind in list(Kind)[1:]:
-            for dimension in Dimension:
-                for order in "><":
-                    for form in (0, 1000):
-                        row = geometry(kind, dimension, order, form)
-                        with_srid = wkb.write(row, srid=2**32 - 1)
-                        first, second = Column.of([row, with_srid]).found().found
-                        expected = kind, dimension, len(row), Order("><".index(order)), None
-                        self.assertEqual((first.kind, first.dimension, first.size, first.order, first.srid), expected)
-                        self.assertEqual((second.srid, second.size), (2**32 - 1, len(row) + 4))
-                        self.assertEqual((first.coordinates, second.count), (1, 1))
-
     def test_none(self):
         self.assertEqual((len(Column.of([]).found().found), list(Column.of([None]).found().statuses)), (0, [16]))
 

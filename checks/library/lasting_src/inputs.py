@@ -167,6 +167,14 @@ def in_dimension(shape, mark, more):
     return out
 
 
+def with_srids():
+    """Each kind in each dimension and order, with SRIDs that have fewer or more bits than others."""
+    for kind, dimension, order, own_srid in itertools.product(range(1, 8), range(4), (0, 1), (0, 1 << 31, 0xFFFFFFFF)):
+        it = geometry(kind, dimension, 2, False)
+        it.srid = own_srid
+        yield model.write(it, order, model.OWN_SRID, None)
+
+
 def own():
     """The inputs that are made here."""
     for group in (good, nested, wrong_codes, wrong_members, counts, broken):

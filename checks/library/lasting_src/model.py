@@ -142,6 +142,29 @@ def read(data):
     return it, (*found, it.kind, it.dimension, it.width, it.order)
 
 
+def coordinates_of(it):
+    """(dimension, words) of each coordinate."""
+    if it.kind >= MULTI_POINT:
+        for member in it.body:
+            yield from coordinates_of(member)
+    else:
+        rings = it.body if it.kind == POLYGON else [it.body]
+        yield from ((it.dimension, words) for ring in rings for words in ring)
+
+
+def bounds(it):
+    """Of x, y, z and m the bits of the least and of the greatest number, and how many there are. -0 is below 0."""
+    axes = [], [], [], []
+    for dimension, words in coordinates_of(it):
+        places = (0, 1, 3) if dimension == 2 else range(len(words))
+        for place, word in zip(places, words):
+            if not is_not_a_number(word):
+                axes[place].append(word)
+    by_value = lambda word: ~word if word >> 63 else word | 1 << 63
+    keyed = [sorted(axis, key=lambda word: by_value(word) & (1 << 64) - 1) for axis in axes]
+    return [(it[0], it[-1], len(it)) if it else (0x7FF0000000000000, 0xFFF0000000000000, 0) for it in keyed]
+
+
 def code_of(it, form, has_srid):
     if form == ISO:
         return it.kind + 1000 * it.dimension

@@ -1,0 +1,150 @@
+//! The inputs of c/test/lasting.rows, whose answers are those of a model: one by one, and as a column with null rows.
+use porchsorrel_wkb::*;
+
+const KINDS: [Kind; 7] = [
+    Kind::Point,
+    Kind::LineString,
+    Kind::Polygon,
+    Kind::MultiPoint,
+    Kind::MultiLineString,
+    Kind::MultiPolygon,
+    Kind::GeometryCollection,
+];
+const DIMENSIONS: [Dimension; 4] = [Dimension::Xy, Dimension::Xyz, Dimension::Xym, Dimension::Xyzm];
+const ORDERS: [Order; 2] = [Order::BigEndian, Order::LittleEndian];
+
+/// An input, and the numbers of its answer: its status, what is found or the fault, and sums of what is written under
+/// each option and of the bounds.
+struct Row {
+    input: Vec<u8>,
+    status: u8,
+    fields: Vec<u64>,
+    sums: Vec<u32>,
+}
+
+fn row(line: &str) -> Row {
+    let mut words = line.split(' ');
+    let digits = words.next().unwrap();
+    let byte = |i| u8::from_str_radix(&digits[i..i + 2], 16).unwrap();
+    let input = (0..digits.len()).step_by(2).map(byte).collect();
+    let status = words.next().unwrap().parse().unwrap();
+    let fields = words.by_ref().take(if status == 0 { 11 } else { 5 });
+    let fields = fields.map(|it| it.parse().unwrap()).collect();
+    Row { input, status, fields, sums: words.map(|it| u32::from_str_radix(it, 16).unwrap()).collect() }
+}
+
+fn rows() -> Vec<Row> {
+    let lines = include_str!("../../c/test/lasting.rows").lines();
+    let rows: Vec<Row> = lines.filter(|it| !it.starts_with('#')).map(row).collect();
+    assert!(rows.iter().filter(|it| it.sums.len() == 9).count() > 1000);
+    rows
+}
+
+impl Row {
+    fn found(&self) -> Found {
+        let of = |i: usize| self.fields[i] as usize;
+        Found {
+            size: of(0),
+            parts: of(1),
+            coordinates: of(2),
+            offset: of(3),
+            count: of(4),
+            srid: (of(6) == 1).then_some(of(5) as u32),
+            kind: KINDS[of(7) - 1],
+            dimension: DIMENSIONS[of(8)],
+            order: ORDERS[of(10)],
+        }
+    }
+
+    /// The options of a sum.
+    fn options(&self, number: usize) -> Options {
+        let form = match (number % 4, self.found().srid) {
+            (0, _) => Form::Iso,
+            (1, Some(srid)) => Form::EwkbWithSrid(srid),
+            (2, _) => Form::EwkbWithSrid(4326),
+            _ => Form::EwkbWithoutSrid,
+        };
+        Options { order: ORDERS[number / 4], form }
+    }
+
+    fn has_refused(&self, why: &Refused) -> bool {
+        let (end, len) = why.ends.unwrap_or_default();
+        let fields = [why.part, why.offset as u64, end, len, why.code.unwrap_or_default().into()];
+        why.status.number() == self.status && fields[..] == self.fields
+    }
+}
+
+/// FNV-1a in 32 bits.
+fn summed(bytes: &[u8]) -> u32 {
+    bytes.iter().fold(0x811c_9dc5, |sum, byte| (sum ^ u32::from(*byte)).wrapping_mul(0x0100_0193))
+}
+
+fn sum_of(bounds: &Bounds) -> u32 {
+    let ranges = [bounds.x, bounds.y, bounds.z, bounds.m];
+    summed(
+        &ranges.map(|it| [it.least.to_le_bytes(), it.greatest.to_le_bytes(), it.count.to_le_bytes()].concat()).concat(),
+    )
+}
+
+#[test]
+fn each_input() {
+    let mut reader = Reader::default();
+    for it in rows() {
+        if it.status != 0 {
+            assert!(it.has_refused(&check(&it.input).unwrap_err()), "{:x?}", it.input);
+            assert!(it.has_refused(&bounds(&it.input).unwrap_err()), "{:x?}", it.input);
+            assert!(it.has_refused(&write(&it.input, &Options::default()).unwrap_err()), "{:x?}", it.input);
+            assert!(it.has_refused(&reader.read(&it.input).unwrap_err()), "{:x?}", it.input);
+            continue;
+        }
+        let (found, size) = (it.found(), it.fields[0] as usize);
+        assert_eq!((check(&it.input), found.dimension.width() as u64), (Ok(found), it.fields[9]), "{:x?}", it.input);
+        assert_eq!(sum_of(&bounds(&it.input).unwrap()), it.sums[8], "{:x?}", it.input);
+        assert_eq!(reader.read(&it.input).unwrap().parts().len(), found.parts, "{:x?}", it.input);
+        for (i, sum) in it.sums[..8].iter().enumerate() {
+            let written = write(&it.input, &it.options(i)).unwrap();
+            assert_eq!(summed(&written), *sum, "{:x?} as {:?}", it.input, it.options(i));
+            assert_eq!(same(&it.input, &written), Ok(true), "{:x?}", it.input);
+        }
+        assert!(bounds(&it.input[..size - 1]).unwrap_err().status.is_short(), "{:x?} without its end", it.input);
+    }
+}
+
+#[test]
+fn as_a_column() {
+    let rows = rows();
+    let made = Rows::of(rows.iter().flat_map(|it| [Some(&it.input), None]));
+    let column = made.column();
+    let (found, (boxes, statuses)) = (column.found(), column.bounds());
+    assert_eq!((&column.check(), &found.statuses), (&statuses, &statuses));
+    for (i, it) in rows.iter().enumerate() {
+        assert_eq!((statuses[2 * i].number(), statuses[2 * i + 1]), (it.status, Status::NULL_ROW), "{:x?}", it.input);
+        assert_eq!(found.row(2 * i), (it.status == 0).then(|| it.found()), "{:x?}", it.input);
+        assert_eq!((found.row(2 * i + 1), boxes[2 * i + 1]), (None, Bounds::EMPTY));
+        let expected = if it.status == 0 { it.sums[8] } else { sum_of(&Bounds::EMPTY) };
+        assert_eq!(sum_of(&boxes[2 * i]), expected, "{:x?}", it.input);
+    }
+    // A column has no option for SRIDs of its rows.
+    for number in (0..8).filter(|it| it % 4 != 1) {
+        let written = column.write(&rows[0].options(number));
+        assert_eq!(written.statuses, statuses);
+        for (row, it) in written.rows().step_by(2).zip(&rows) {
+            assert_eq!(row.map(summed), it.sums.get(number).copied(), "{:x?}", it.input);
+        }
+        assert!(written.rows().skip(1).step_by(2).all(|it| it.is_none()));
+    }
+}
+
+/// Rows without SRIDs, which each get one: no column needs more room.
+#[test]
+fn as_a_column_that_grows() {
+    let is_plain = |it: &Row| it.status == 0 && it.found().srid.is_none() && it.found().parts == 1;
+    let rows: Vec<Row> =
+        rows().into_iter().filter(|it| is_plain(it) && it.input.len() as u64 == it.fields[0]).collect();
+    assert!(rows.len() > 100);
+    for number in [2, 6] {
+        let written = Rows::of(rows.iter().map(|it| Some(&it.input))).column().write(&rows[0].options(number));
+        let sums: Vec<u32> = written.rows().map(|it| summed(it.unwrap())).collect();
+        assert_eq!(sums, rows.iter().map(|it| it.sums[number]).collect::<Vec<_>>());
+    }
+}
