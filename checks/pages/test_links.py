@@ -10,6 +10,7 @@ import re
 from checks import judge
 from pages import PAGES, ROOT, text_of, texts
 
+FRONT = "docs/README.md"
 LINK = re.compile(r"\[([^\]]*)\]\(([^)\s]+)\)")
 # Words that say nothing of where a link leads.
 EMPTY = {"the", "and", "for", "from", "how", "its", "not", "that", "this", "what", "which", "with"}
@@ -53,6 +54,12 @@ def lost(page):
             yield f"{page}: [{text}] leads to {link}, which shares no word with it"
 
 
+def lost_pages():
+    """The pages that the page of pages doesn't lead to."""
+    found = {os.path.normpath(os.path.join("docs", it)) for _, it in LINK.findall(text_of(FRONT))}
+    yield from (f"{FRONT}: no link to {it}" for it in PAGES if it not in found and it != FRONT)
+
+
 def lost_in_pictures():
     """The paths of files in pictures that aren't there."""
     for picture, text in texts("docs/pictures/*.svg").items():
@@ -67,9 +74,10 @@ class Links(judge.Judge):
         ("README.md", "", "[lost](docs/LOST.md)\n\n", "no file docs/LOST.md"),
         ("docs/API.md", "", "[lost](FORMAT.md#lost)\n\n", "no heading FORMAT.md#lost"),
         ("docs/API.md", "", "[the grammar](PROVING.md)\n\n", "leads to PROVING.md"),
+        ("docs/README.md", "](SPEED.md)", "](COST.md)", "no link to docs/SPEED.md"),
         ("docs/pictures/layers.svg", "c/proved/*.s<", "c/proved/*.o<", "no file c/proved/*.o"),
     ]
 
     def wrong(self):
         yield from (it for page in PAGES for it in lost(page))
-        yield from lost_in_pictures()
+        yield from (*lost_pages(), *lost_in_pictures())
