@@ -25,7 +25,7 @@ use Rattle.wkb_c.proofs.ThereAndBackRows.{as_long_back}
 
 -- ---- the levels that are given on
 
--- ends that are given, or none where there are no items
+-- ends that are given, or none if there are no items
 pub record AreGivenEnds (e : Ends) (xs : List ℕ) : Type 0 where
   pub start : start_of e ≡ 0
   pub ends : ends_of e ≡ xs
