@@ -42,21 +42,3 @@ same_polygon one m n i p q same part part' dims dims' spelled spelled' bytes byt
     same_encoding one (whole_of polygon q) (whole_of polygon p) bytes' bytes spells' spells s
     (λ j. polygon (d j) (a j)) in
     λ j. record { encoding = t j; spelled = s j; dimension = d j; parts = a j }
-
-pub same_line_string : HasOneEncoding
-    → (m n : Listed (List (List Coordinate))) (i : ℕ) (a b : Item) (d e : Dimension) (cs ds : List Coordinate) → n ≡ m
-    → a.value ≡ line_string d cs → b.value ≡ line_string e ds
-    → Some cs ≡ slice_get m.parts i → Some ds ≡ slice_get n.parts i
-    → d ≡ m.dimension → e ≡ n.dimension
-    → Some a.spelled ≡ slice_get (list_of_spellings (members_spelled m.spelled)) i
-    → Some b.spelled ≡ slice_get (list_of_spellings (members_spelled n.spelled)) i
-    → AreBytes a.encoding → AreBytes b.encoding → Spells a.spelled a.value a.encoding
-    → Spells b.spelled b.value b.encoding → b ≡ a
-same_line_string one m n i a b d e cs ds same value value' part part' dims dims' spelled spelled' bytes bytes' spells
-    spells' =
-    let c : ds ≡ cs = at_one m n (λ l. l) i cs ds same part part' in
-    let s = spelled_one m n i a.spelled b.spelled same spelled spelled' in
-    let k = dimension_one m n d e same dims dims' in
-    let v : b.value ≡ a.value = value' ∙ (λ j. line_string (k j) (c j)) ∙ sym value in
-    let t = same_encoding one b a bytes' bytes spells' spells s v in
-    λ j. record { encoding = t j; spelled = s j; value = v j }

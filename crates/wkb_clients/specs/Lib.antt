@@ -14,5 +14,4 @@ pub mod Plain
 pub mod Boxes
 pub mod Geopackage
 pub mod Windows
-pub mod Gathered
 pub mod Sites

@@ -1,13 +1,16 @@
-//! Equal views return the same. A clone is equal to its source, so it has the same members.
+//! Equal views return the same. A clone is equal to its source, so it has the same members and the same encodings.
 
-ghost use Rattle.std.specs.Prelude.{◌≡◌, option_map};
+ghost use Rattle.std.specs.Prelude.{◌≡◌, option_map, IfOk};
 ghost use Rattle.wkb.specs.Prelude.{AreBytes};
-ghost use Rattle.wkb.specs.Reads.{line_string_seen, polygon_seen};
+ghost use Rattle.wkb.specs.Reads.{polygon_seen};
 ghost use Rattle.wkb_clients.specs.Members.{SpellsInFull};
 
-use wkb::geom::{GeometryCollectionTrait, MultiLineStringTrait, MultiPolygonTrait};
+use std::alloc::Global;
+use wkb::error::WkbResult;
+use wkb::geom::{GeometryCollectionTrait, MultiPolygonTrait};
 use wkb::laws::{are_bytes, one_encoding, spelled_in_full};
-use wkb::reader::{GeometryCollection, LineString, MultiLineString, MultiPolygon, Polygon, Wkb};
+use wkb::reader::{GeometryCollection, MultiPolygon, Polygon, Wkb};
+use wkb::writer::{WriteOptions, to_vec};
 
 /// The geometries of one index in two equal collections: the same bytes, spelled alike, of one value.
 pub fn both_geometries<'m, 'a>(
@@ -31,15 +34,6 @@ fn polygon_spelled(polygon: &Polygon)
     are_bytes(polygon.buf());
 }
 
-// The bytes of a line string spell it.
-fn line_string_spelled(line_string: &LineString)
-    ensures bytes { AreBytes (line_string_seen line_string.now).encoding }
-    ensures spells { SpellsInFull (line_string_seen line_string.now) }
-{
-    spelled_in_full();
-    are_bytes(line_string.buf());
-}
-
 /// The polygons of one index in two equal multi polygons.
 pub fn both_polygons<'m, 'a>(
     source: &'m MultiPolygon<'a>,
@@ -60,22 +54,21 @@ pub fn both_polygons<'m, 'a>(
     }
 }
 
-/// The line strings of one index in two equal multi line strings.
-pub fn both_line_strings<'a>(
-    source: &MultiLineString<'a>,
-    clone: &MultiLineString<'a>,
-    i: usize,
-) -> (Option<LineString<'a>>, Option<LineString<'a>>)
-    requires { clone.now ≡ source.now }
-    ensures { option_map line_string_seen result.1 ≡ option_map line_string_seen result.0 }
+/// The encodings of a geometry that was read and of its clone: the same bytes.
+pub fn with_clone(
+    alloc: Global,
+    geometry: &Wkb,
+    options: &WriteOptions,
+) -> WkbResult<(Vec<u8>, Vec<u8>)>
+    ensures { IfOk result (λ written. written.1.items ≡ written.0.items) }
 {
-    one_encoding();
-    match (source.line_string(i), clone.line_string(i)) {
-        (Some(one), Some(other)) => {
-            line_string_spelled(&one);
-            line_string_spelled(&other);
-            (Some(one), Some(other))
-        }
-        missing => missing,
+    let clone = geometry.clone()?;
+    let first = match to_vec(alloc, geometry, options) {
+        Ok(bytes) => bytes,
+        Err(e) => return Err(e),
+    };
+    match to_vec(alloc, &clone, options) {
+        Ok(second) => Ok((first, second)),
+        Err(e) => Err(e),
     }
 }

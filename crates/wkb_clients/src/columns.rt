@@ -37,19 +37,3 @@ pub fn polygon_of_row(
         None => Ok(None),
     }
 }
-
-/// How many bytes the rows of a column of polygons take that aren't null and hold one.
-pub fn polygons_size(levels: &Levels, null: &[bool], options: &WriteOptions) -> u64 {
-    let mut bytes = 0u64;
-    for (i, row) in levels.rows(Kind::Polygon, Dimensions::Xy).enumerate() {
-        if i < null.len() && null[i] {
-            continue;
-        }
-        if let Some(polygon) = row {
-            if let Ok(size) = polygon.size(options) {
-                bytes = bytes.saturating_add(size as u64);
-            }
-        }
-    }
-    bytes
-}

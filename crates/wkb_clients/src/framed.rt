@@ -1,6 +1,6 @@
-//! Encodings before bytes of the user's own, as a format has them that frames WKB.
+//! Encodings before a byte of the user's own, and with their sizes, as a format has them that frames WKB.
 
-ghost use Rattle.std.specs.Prelude.{◌∷◌, [], IfErr};
+ghost use Rattle.std.specs.Prelude.{◌≡◌, ◌∷◌, [], IfOk, IfErr, length};
 ghost use Rattle.wkb.specs.Writes.{IsVecError};
 ghost use Rattle.wkb_clients.specs.Framed.{IsFramed};
 
@@ -8,7 +8,7 @@ use std::alloc::Global;
 use wkb::error::WkbResult;
 use wkb::geom::GeometryTrait;
 use wkb::laws::{srid_fits, writable_is_read};
-use wkb::writer::{VecSink, WriteOptions, to_vec, write_geometry};
+use wkb::writer::{WriteOptions, geometry_wkb_size_with, to_vec};
 
 /// The encoding of a geometry and a byte after it, which are read as the geometry's value and that byte.
 ///
@@ -32,21 +32,20 @@ pub fn marked<G: GeometryTrait>(
     Ok(bytes)
 }
 
-/// The encoding of a geometry and a trailer, which are read as the geometry's value and the trailer.
-pub fn with_trailer<G: GeometryTrait>(
+/// The encoding of a geometry, and the size that it was asked for: the length of what is written.
+pub fn sized<G: GeometryTrait>(
     alloc: Global,
     geom: &G,
     options: &WriteOptions,
-    trailer: &[u8],
-) -> WkbResult<Vec<u8>>
-    ensures { IsFramed trailer.now options.now (G.geometry geom.now) result }
+) -> WkbResult<(Vec<u8>, usize)>
+    ensures { IfOk result (λ written. length written.0.items ≡ written.1) }
 {
-    let mut sink = VecSink::new(alloc);
-    match write_geometry(&mut sink, geom, options) {
-        Ok(()) => {}
+    let size = match geometry_wkb_size_with(geom, options) {
+        Ok(size) => size,
         Err(e) => return Err(e),
+    };
+    match to_vec(alloc, geom, options) {
+        Ok(bytes) => Ok((bytes, size)),
+        Err(e) => Err(e),
     }
-    let mut bytes = sink.into_vec();
-    bytes.extend_from_slice(trailer)?;
-    Ok(bytes)
 }

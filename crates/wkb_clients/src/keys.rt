@@ -3,13 +3,12 @@
 ghost use Rattle.std.specs.Prelude.{◌≡◌, ◌⊎◌, [], IfOk, IfErr};
 ghost use Rattle.wkb.specs.Prelude.{IsMemory};
 ghost use Rattle.wkb.specs.Reads.{IsRefusal};
-ghost use Rattle.wkb.specs.Encodings.{IsRewritingWithSrid};
 ghost use Rattle.wkb_clients.specs.Keys.{IsKey, HasOneKey, HasOneEwkbKey, Inserts};
 
 use std::alloc::Global;
 use std::marker::Model;
 use wkb::Endianness;
-use wkb::canon::{canonical, canonical_with_srid};
+use wkb::canon::canonical;
 use wkb::error::WkbResult;
 use wkb::laws::{
     are_bytes, equal_encodings, equal_encodings_with_own_srid, geometry_agrees, rewriting_is_read,
@@ -38,17 +37,7 @@ pub fn one_key()
     equal_encodings();
 }
 
-/// The key of the geometry at the start of the bytes with its SRID.
-///
-/// Rejected as `read_wkb` rejects the bytes.
-pub fn ewkb_key(alloc: Global, bytes: &[u8], order: Endianness) -> WkbResult<Vec<u8>>
-    ensures ok { IfOk result (λ key. IsRewritingWithSrid order bytes.now key.items) }
-    ensures err { IfErr result (λ e. IsMemory e ⊎ IsRefusal bytes.now e) }
-{
-    canonical_with_srid(alloc, bytes, order)
-}
-
-/// Two inputs have one such key exactly if their values and their outermost SRIDs are equal.
+/// Two inputs have one encoding with their own SRIDs exactly if their values and their outermost SRIDs are equal.
 pub fn one_ewkb_key()
     ensures { HasOneEwkbKey }
 {

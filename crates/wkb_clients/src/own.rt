@@ -1,6 +1,6 @@
-//! The own bytes of a view, and of a member of a collection.
+//! The own bytes of a view; a member of a collection is one, too.
 
-ghost use Rattle.std.specs.Prelude.{◌≡◌, IfOk, IfErr, IfSome, MatchBool};
+ghost use Rattle.std.specs.Prelude.{◌≡◌, IfOk, IfErr, MatchBool};
 ghost use Rattle.wkb.specs.Prelude.{IsMemory};
 ghost use Rattle.wkb.specs.Checks.{AreBounds};
 ghost use Rattle.wkb.specs.Geometries.{geometry_of};
@@ -12,7 +12,6 @@ use wkb::Endianness;
 use wkb::canon::{canonical_with_srid, same};
 use wkb::check::{Bounds, Refused, Summary, bounds, check};
 use wkb::error::WkbResult;
-use wkb::geom::{GeometryTrait, GeometryType};
 use wkb::laws::{are_bytes, one_front, read_or_refused, spelled_in_full};
 use wkb::reader::{Polygon, Wkb, read_wkb};
 
@@ -31,19 +30,6 @@ pub fn bounds_of(w: &Wkb<'_>) -> Bounds
         Ok(found) => found,
         Err(_) => unreachable!(),
     }
-}
-
-/// The check of a member of a collection, if there is one of this index, which never rejects it.
-pub fn check_member_again(w: &Wkb<'_>, i: usize) -> Option<Result<Summary, Refused>>
-    ensures { IfSome result (λ found. IfErr found (λ _. ⊥)) }
-{
-    let GeometryType::GeometryCollection(members) = w.as_type() else {
-        return None;
-    };
-    let Some(member) = members.get(i) else {
-        return None;
-    };
-    Some(check(member.buf()))
 }
 
 /// The geometry, read again from its own bytes.

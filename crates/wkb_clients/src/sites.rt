@@ -1,17 +1,23 @@
-//! Types of one's own over geometries of `wkb`: a plain point with a number, and a line string that was read with one.
+//! Types of one's own over geometries of `wkb`: a plain point with a number, a line string that was read with one, and
+//! geometries that were read, together.
 
+ghost use Rattle.std.specs.Prelude.{map};
 ghost use Rattle.wkb.specs.Prelude.{as_dimensions};
 ghost use Rattle.wkb.specs.Plain.{point_dimensions, point_coordinate, point_lawful};
-ghost use Rattle.wkb.specs.Reads.{line_string_dimension, seen_coordinates};
+ghost use Rattle.wkb.specs.Reads.{line_string_dimension, seen_coordinates, geometry_seen};
 ghost use Rattle.wkb.specs.Lawful.{line_string_view_lawful};
 ghost use Rattle.wkb.specs.Writes.{IsEncodingOf};
-ghost use Rattle.wkb_clients.specs.Sites.{site_meant, route_meant};
+ghost use Rattle.wkb_clients.specs.Sites.{site_meant, route_meant, bundle_meant};
 
 use std::alloc::Global;
 use wkb::error::WkbResult;
-use wkb::geom::{Coord, Dimensioned, Dimensions, LineStringTrait, Point, PointTrait};
-use wkb::reader;
-use wkb::writer::{VecSink, WriteOptions, write_line_string, write_point};
+use wkb::geom::{
+    Coord, Dimensioned, Dimensions, GeometryCollectionTrait, LineStringTrait, Point, PointTrait,
+};
+use wkb::reader::{self, Wkb};
+use wkb::writer::{
+    VecSink, WriteOptions, write_geometry_collection, write_line_string, write_point,
+};
 
 /// A point over the caller's own words, and the number of what is there.
 #[derive(Clone, Copy)]
@@ -75,6 +81,43 @@ impl<'a> LineStringTrait for Route<'a> {
     }
 }
 
+/// Geometries that were read, as a collection of these dimensions.
+#[derive(Drop)]
+pub struct Bundle<'a> {
+    pub dim: Dimensions,
+    pub members: Vec<Wkb<'a>>,
+}
+
+impl Dimensioned for Bundle<'_> {
+    ghost dimensions = { λ bundle. bundle.dim };
+
+    fn dim(&self) -> Dimensions {
+        self.dim
+    }
+}
+
+impl<'a> GeometryCollectionTrait for Bundle<'a> {
+    ghost use Rattle.wkb.specs.Members.{items_lawful};
+
+    type GeometryType = Wkb<'a>;
+
+    ghost members = { λ bundle. map geometry_seen bundle.members.items };
+
+    ghost lawful = { λ bundle. items_lawful bundle.members.items };
+
+    fn geometries(&self) -> &[Wkb<'a>] {
+        self.members.as_slice()
+    }
+
+    fn num_geometries(&self) -> usize {
+        self.members.len()
+    }
+
+    fn geometry(&self, i: usize) -> Option<&Wkb<'a>> {
+        self.members.get(i)
+    }
+}
+
 /// The encoding of a site.
 pub fn site_encoding(alloc: Global, site: &Site, options: &WriteOptions) -> WkbResult<Vec<u8>>
     ensures { IsEncodingOf options.now (site_meant site.now) result }
@@ -92,6 +135,17 @@ pub fn route_encoding(alloc: Global, route: &Route, options: &WriteOptions) -> W
 {
     let mut sink = VecSink::new(alloc);
     match write_line_string(&mut sink, route, options) {
+        Ok(()) => Ok(sink.into_vec()),
+        Err(e) => Err(e),
+    }
+}
+
+/// The encoding of a bundle.
+pub fn bundle_encoding(alloc: Global, bundle: &Bundle, options: &WriteOptions) -> WkbResult<Vec<u8>>
+    ensures { IsEncodingOf options.now (bundle_meant bundle.now) result }
+{
+    let mut sink = VecSink::new(alloc);
+    match write_geometry_collection(&mut sink, bundle, options) {
         Ok(()) => Ok(sink.into_vec()),
         Err(e) => Err(e),
     }
