@@ -5,3 +5,5 @@ pub mod Words
 pub mod BoxesHold
 pub mod FoundInBoxes
 pub mod Packages
+pub mod WordRuns
+pub mod AllPoints

@@ -15,3 +15,4 @@ pub mod Boxes
 pub mod Geopackage
 pub mod Windows
 pub mod Sites
+pub mod Coordinates

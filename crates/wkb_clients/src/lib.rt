@@ -5,6 +5,7 @@ pub mod boxes;
 pub mod clones;
 pub mod collections;
 pub mod columns;
+pub mod coordinates;
 pub mod corners;
 pub mod drawn;
 pub mod features;

@@ -8,6 +8,8 @@
 #![tactic(auto)]
 
 #[cfg(test)]
+mod all_coordinates;
+#[cfg(test)]
 mod calls;
 #[cfg(test)]
 mod cases;

@@ -1,0 +1,84 @@
+-- All coordinates of a value, and the multi point that has a point at each of them.
+use Rattle.std.specs.Prelude.{◌≡◌, ◌⊎◌, ◌≤◌, ◌^◌, ℕ, List, [], ◌∷◌, ◌++◌, map, flat_map, length, Option, Some, None}
+use Rattle.std.specs.Prelude.{Result, IfOk, MatchOption, Vec}
+use Rattle.std.specs.Global.{Global}
+use Rattle.std.specs.declared.alloc.AllocError.{AllocError}
+use Rattle.wkb.specs.Prelude.{Dimension, as_dimensions, WkbError, IsMemory}
+use Rattle.wkb.specs.Values.{Coordinate, Value, Values, point, line_string, polygon, multi_point, multi_line_string}
+use Rattle.wkb.specs.Values.{multi_polygon, collection, no_members, member, dimension}
+use Rattle.wkb.specs.Spellings.{Spelling, Front}
+use Rattle.wkb.specs.Geometries.{Geometry, normal_point}
+use Rattle.wkb.specs.Geometries.{multi_point as points_of}
+use Rattle.wkb.specs.Encodings.{encoding_of}
+use Rattle.wkb.specs.Writes.{WriteOptions}
+
+-- the coordinate of a point; an empty one has none
+abbrev pub of_point : Option Coordinate → List Coordinate
+of_point None = []
+of_point (Some c) = c ∷ []
+
+-- the coordinates of rings or of line strings
+abbrev pub of_parts : List (List Coordinate) → List Coordinate
+of_parts parts = flat_map (λ cs. cs) parts
+
+-- all coordinates of a value, at every level and in order
+abbrev mutual
+  pub coordinates_of : Value → List Coordinate
+  coordinates_of (point d c) = of_point c
+  coordinates_of (line_string d cs) = cs
+  coordinates_of (polygon d rings) = of_parts rings
+  coordinates_of (multi_point d points) = flat_map of_point points
+  coordinates_of (multi_line_string d lines) = of_parts lines
+  coordinates_of (multi_polygon d polygons) = flat_map of_parts polygons
+  coordinates_of (collection d ts) = coordinates_of_each ts
+
+  pub coordinates_of_each : Values → List Coordinate
+  coordinates_of_each no_members = []
+  coordinates_of_each (member t ts) = coordinates_of t ++ coordinates_of_each ts
+
+-- the words of coordinates, one after another
+abbrev pub words_of : List Coordinate → List ℕ
+words_of cs = flat_map (λ c. c) cs
+
+-- at Ok these words were added behind the others
+abbrev pub Adds : List ℕ → List ℕ → List ℕ → Result (Unit {0}) AllocError → Type 0
+Adds old new more r = IfOk r (λ _. new ≡ old ++ more)
+
+-- a value has this dimension, and so has each member of a collection in it
+abbrev mutual
+  pub HasOnly : Dimension → Value → Type 0
+  HasOnly d (point e c) = e ≡ d
+  HasOnly d (line_string e cs) = e ≡ d
+  HasOnly d (polygon e rings) = e ≡ d
+  HasOnly d (multi_point e points) = e ≡ d
+  HasOnly d (multi_line_string e lines) = e ≡ d
+  HasOnly d (multi_polygon e polygons) = e ≡ d
+  HasOnly d (collection e ts) = (e ≡ d) × HaveOnly d ts
+
+  pub HaveOnly : Dimension → Values → Type 0
+  HaveOnly d no_members = Unit {0}
+  HaveOnly d (member t ts) = HasOnly d t × HaveOnly d ts
+
+-- a collection in the value has a member of another dimension
+abbrev pub HasOther : Value → Type 0
+HasOther t = HasOnly (dimension t) t → ⊥
+
+-- the multi point with a point at each coordinate of the value, in its dimension
+abbrev pub points_meant : Value → Geometry
+points_meant t = points_of (as_dimensions (dimension t)) (map (λ c. Some c) (coordinates_of t))
+
+-- The bytes are that multi point's encoding under the options, and are read as it, with nothing behind: bit for bit,
+-- but for a point at not-a-numbers alone, which is read as an empty one.
+pub record ArePoints (options : WriteOptions) (t : Value) (bytes : List ℕ) : Type 0 where
+  pub encoding_is : bytes ≡ encoding_of options (points_meant t)
+  pub spelling : Spelling
+  pub read : Front bytes spelling
+      (multi_point (dimension t) (map (λ c. normal_point (Some c)) (coordinates_of t))) []
+
+-- what is found is that encoding, or nothing where a member has another dimension
+abbrev pub FindsPoints : WriteOptions → Value → Option (Vec ℕ Global) → Type 0
+FindsPoints options t found = MatchOption found (HasOther t) (λ bytes. ArePoints options t bytes.items)
+
+-- an allocation failed, or there are more points than a count of four bytes can say
+abbrev pub IsWantOfRoom : Value → WkbError → Type 0
+IsWantOfRoom t e = IsMemory e ⊎ (2 ^ 32 ≤ length (coordinates_of t))
