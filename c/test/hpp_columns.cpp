@@ -1,5 +1,5 @@
 // Tries each call of wkb.hpp for columns, and those of coordinates of one's own, over each kind, dimension and byte
-// order. It prints nothing, and what is wrong where something is.
+// order. It prints nothing, and an error if there is one.
 #include "hpp_shapes.h"
 
 #include <cmath>

@@ -1,5 +1,5 @@
 // Tries wkb.hpp over the inputs of test/lasting.rows, whose answers are those of a model: one by one, and as a column
-// with null rows. It prints nothing, and what is wrong where something is.
+// with null rows. It prints nothing, and an error if there is one.
 #include "hpp.h"
 
 #include <algorithm>

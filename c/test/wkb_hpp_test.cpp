@@ -1,4 +1,4 @@
-// Tries wkb.hpp. It prints nothing, and what is wrong where something is.
+// Tries wkb.hpp. It prints nothing, and an error if there is one.
 #include "test/hpp.h"
 
 #include <cstring>

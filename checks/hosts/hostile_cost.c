@@ -1,8 +1,8 @@
-/* What columns cost that are made to cost much: for each call that takes offsets or levels, the processor time of good
- * columns, and that of the hostile column of the same size that takes the most. Offsets, and ends at each level, go to
- * and fro, fall, reach past the end, or give all to one row; rows are null; bytes hold as many parts as they can. It
- * prints a table in Markdown, and exits with status 1 if a hostile column takes more than MOST times as long. With a
- * word, only the calls are tried whose names contain it. */
+/* Measures worst-case columns: for each call that takes offsets or levels, the processor time of good columns, and that
+ * of the hostile column of the same size that takes the most. Offsets, and ends at each level, go to and fro, fall,
+ * exceed the end, or give all to one row; rows are null; bytes have as many parts as they can. It prints a table in
+ * Markdown, and exits with status 1 if a hostile column takes more than MOST times as long. With a word, only the calls
+ * whose names contain it are tried. */
 #define _POSIX_C_SOURCE 200809L
 #include "wkb.h"
 #include <stdbool.h>

@@ -6,7 +6,7 @@ use alloc::vec::Vec;
 use core::fmt;
 use core::ptr;
 
-/// Why rows are no members of one geometry: the first row that can't be one, counted from 0.
+/// Why the rows could not be collected: the first row that can't be a member, counted from 0.
 #[derive(Clone, Copy, Debug, Eq, PartialEq)]
 pub enum NotCollected {
     /// There are 2^32 rows or more, which a count of four bytes doesn't hold.

@@ -101,13 +101,13 @@ impl<'a> Column<'a> {
         Column { data, offsets, validity: None }
     }
 
-    /// A column with offsets of 32 bits. There is a row less than there are offsets.
+    /// A column with 32-bit offsets. There is one row fewer than offsets.
     #[must_use]
     pub fn binary(data: &'a [u8], offsets: &'a [i32]) -> Self {
         Column::new(data, Offsets::Small(offsets))
     }
 
-    /// A column with offsets of 64 bits.
+    /// A column with 64-bit offsets.
     #[must_use]
     pub fn large_binary(data: &'a [u8], offsets: &'a [i64]) -> Self {
         Column::new(data, Offsets::Large(offsets))

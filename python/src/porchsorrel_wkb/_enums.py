@@ -79,7 +79,7 @@ class Dimension(enum.IntEnum):
 
 
 class Order(enum.IntEnum):
-    """The byte orders, by the byte that tells them."""
+    """The byte orders, numbered by their marker byte."""
 
     BIG = 0
     LITTLE = 1
