@@ -193,7 +193,7 @@ are_points law options t bytes form fit is fine =
       read = subst (λ v. Front bytes read.0 v []) (normal_is t) read.1;
     }
 
--- ---- what is refused
+-- ---- what is rejected
 
 no_dimensions_fault : (d : Dimension) → dimensions_fault (as_dimensions d) ≡ None
 unfolding dimensions_fault

@@ -68,14 +68,14 @@ abbrev pub points_meant : Value → Geometry
 points_meant t = points_of (as_dimensions (dimension t)) (map (λ c. Some c) (coordinates_of t))
 
 -- The bytes are that multi point's encoding under the options, and are read as it, with nothing behind: bit for bit,
--- but for a point at not-a-numbers alone, which is read as an empty one.
+-- but for a point of NaNs alone, which is read as an empty one.
 pub record ArePoints (options : WriteOptions) (t : Value) (bytes : List ℕ) : Type 0 where
   pub encoding_is : bytes ≡ encoding_of options (points_meant t)
   pub spelling : Spelling
   pub read : Front bytes spelling
       (multi_point (dimension t) (map (λ c. normal_point (Some c)) (coordinates_of t))) []
 
--- what is found is that encoding, or nothing where a member has another dimension
+-- what is found is that encoding, or nothing if a member has another dimension
 abbrev pub FindsPoints : WriteOptions → Value → Option (Vec ℕ Global) → Type 0
 FindsPoints options t found = MatchOption found (HasOther t) (λ bytes. ArePoints options t bytes.items)
 

@@ -168,9 +168,9 @@ fn put_members(words: &mut Vec<u64>, members: &[Wkb]) -> Result<(), AllocError>
 }
 
 /// The encoding of the multi point that has a point at each coordinate of the geometry, in their order. An empty point
-/// has no coordinate; a point at not-a-numbers alone keeps its words, and is read as an empty one.
+/// has no coordinate; a point of NaNs alone keeps its words, and is read as an empty one.
 ///
-/// None where a collection has a member of another dimension. Refused where there are more than 4294967295 coordinates.
+/// None if a collection has a member of another dimension. Rejected if there are more than 4294967295 coordinates.
 pub fn as_multi_point(
     alloc: Global,
     geometry: &Wkb,

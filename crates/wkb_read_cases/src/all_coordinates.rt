@@ -66,7 +66,7 @@ fn kinds(rt: HostRuntime) -> Result<(), Fail> {
     Ok(())
 }
 
-// A collection of a point with z, and in it one of a line whose first coordinate is not-a-numbers alone: their words
+// A collection of a point with z, and in it one of a line whose first coordinate is NaNs alone: their words
 // are kept. An empty point in it has no coordinate. Collections without members have none.
 #[test]
 fn collections(rt: HostRuntime) -> Result<(), Fail> {
