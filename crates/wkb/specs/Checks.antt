@@ -1,4 +1,4 @@
--- What the check without memory returns, and the bounds.
+-- The results of the check without allocation, and the bounds.
 pub use Rattle.wkb_check.specs.Public.{Describes, DescribesFront, DescribesOnlyFront, IsRefusedFor, IsRefusedOnlyFor}
 pub use Rattle.wkb_check.specs.Public.{Checks, IsBounded}
 pub use Rattle.wkb_check.specs.Counted.{coordinate_count}

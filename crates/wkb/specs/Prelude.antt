@@ -1,4 +1,4 @@
--- Shared names of the field: byte orders, forms, dimensions, numbers and errors. Passed on; declares nothing.
+-- Shared names of the field: byte orders, forms, dimensions, numbers and errors. Re-exports only.
 pub use Rattle.wkb_geom.specs.declared.common.Endianness.{Endianness}
 pub use Rattle.wkb_geom.specs.declared.common.Endianness.TheVariants.{BigEndian, LittleEndian}
 pub use Rattle.wkb_geom.specs.declared.common.Form.{Form}

@@ -1,5 +1,5 @@
 //! The canonical form: the one encoding of the value at the start of an input. Inputs are checked, and then rewritten
-//! and compared where they are.
+//! and compared in place.
 
 ghost use Rattle.std.specs.Prelude.{◌≡◌, ◌<◌, ◌⊎◌, IfOk, IfErr, MatchBool};
 ghost use Rattle.wkb_geom.specs.Reading.{type_kind};

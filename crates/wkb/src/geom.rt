@@ -1,5 +1,5 @@
 //! The traits that a caller's own geometries implement, in place of `geo-traits`; plain geometries
-//! that borrow a caller's words; and the number that a word stands for.
+//! that borrow a caller's ordinates; and the number that the bits of an ordinate stand for.
 
 ghost use Rattle.std.specs.Prelude.{◌≡◌, IfSome, is_some, not, to_bits, from_bits};
 ghost use Rattle.std.specs.Float.{binary64, NotNan};

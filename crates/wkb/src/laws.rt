@@ -1,4 +1,4 @@
-//! Lemmas over the definitions: what they say of any two inputs, and of any encoding.
+//! Lemmas over the definitions: facts about any two inputs, and about any encoding.
 
 ghost use Rattle.wkb.specs.Prelude.{AreBytes};
 ghost use Rattle.wkb.specs.Encodings.{IsForm};

@@ -1,8 +1,8 @@
-//! Geometries over columns of coordinates, as GeoArrow has them: the words of all coordinates in one slice, and for
-//! each level where its items end. A row has singles, a single has rings, a ring has coordinates. They allocate
+//! Geometries over columns of coordinates, as GeoArrow has them: the ordinates of all coordinates in one slice, and
+//! for each level the ends of its items. A row has singles, a single has rings, a ring has coordinates. They allocate
 //! nothing.
 //!
-//! A column's rows are asked for one after another. One that means nothing of the column's kind is none:
+//! A column's rows are read one after another. A row that makes no geometry of the column's kind is None:
 //!
 //! ```
 //! // Two polygons: a ring of four coordinates; a ring of five, and a hole of four.
