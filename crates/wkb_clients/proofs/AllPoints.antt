@@ -48,7 +48,7 @@ has_by d [] i m h all = absurd (omega (arith, h))
 has_by d (x ∷ ms) zero m h all = all.0
 has_by d (x ∷ ms) (suc i) m h all = has_by d ms i m (omega (arith, h)) all.1
 
--- where all have one dimension, each has it
+-- if all have one dimension, each has it
 pub each_has : (d : Dimension) (ms : List Item) (i : ℕ) (m : Item) → m ≡ slice_index_or ms i m → i < length ms
     → HaveOnly d (values ms) → HasOnly d m.value
 each_has d ms i m is inside all = subst (λ (v : Item). HasOnly d v.value) (sym is) (has_by d ms i m inside all)

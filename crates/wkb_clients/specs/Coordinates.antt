@@ -68,7 +68,7 @@ abbrev pub points_meant : Value → Geometry
 points_meant t = points_of (as_dimensions (dimension t)) (map (λ c. Some c) (coordinates_of t))
 
 -- The bytes are that multi point's encoding under the options, and are read as it, with nothing behind: bit for bit,
--- but for a point of NaNs alone, which is read as an empty one.
+-- but for a coordinate of NaNs, which is read as an empty point.
 pub record ArePoints (options : WriteOptions) (t : Value) (bytes : List ℕ) : Type 0 where
   pub encoding_is : bytes ≡ encoding_of options (points_meant t)
   pub spelling : Spelling

@@ -168,7 +168,7 @@ fn put_members(words: &mut Vec<u64>, members: &[Wkb]) -> Result<(), AllocError>
 }
 
 /// The encoding of the multi point that has a point at each coordinate of the geometry, in their order. An empty point
-/// has no coordinate; a point of NaNs alone keeps its words, and is read as an empty one.
+/// has no coordinate; a coordinate of NaNs keeps its words, and is read as an empty point.
 ///
 /// None if a collection has a member of another dimension. Rejected if there are more than 4294967295 coordinates.
 pub fn as_multi_point(

@@ -66,8 +66,8 @@ fn kinds(rt: HostRuntime) -> Result<(), Fail> {
     Ok(())
 }
 
-// A collection of a point with z, and in it one of a line whose first coordinate is NaNs alone: their words
-// are kept. An empty point in it has no coordinate. Collections without members have none.
+// A collection of a point with z, and in it one of a line whose first coordinate is NaNs: their words are kept. An
+// empty point in it has no coordinate. Collections without members have none.
 #[test]
 fn collections(rt: HostRuntime) -> Result<(), Fail> {
     let alloc = rt.alloc();
