@@ -350,6 +350,6 @@ int main(int argc, char **argv) {
     if (!is_right && wrong++ < 5) std::printf("wrong: row %ld, kind %u\n", i, whole.kind());
     words += expected.words.size();
   }
-  std::printf("c: %ld geometries of OGR, %zu words, %ld differ\n", rows, words, wrong);
+  std::printf("ogr_test: %ld geometries of OGR, %zu words, %ld differ\n", rows, words, wrong);
   return wrong == 0 && rows > 0 ? 0 : 1;
 }

@@ -132,7 +132,7 @@ def here():
         try:
             found.append(make())
         except peers.Absent as why:
-            print(f"c: left out: what lasts beside {NAMES[make]}, since {why}")
+            print(f"lasting: left out: what lasts beside {NAMES[make]}, since {why}")
     return found
 
 
