@@ -132,6 +132,14 @@ class RoundTrip(unittest.TestCase):
             return single(kind)
         return part(kind + 1000 * dimension, [single(kind - 3) for _ in range(random.randrange(4))])
 
+    def test_points_without_ends(self):
+        """A row is as many numbers as a coordinate of the dimension has."""
+        for dimension in Dimension:
+            first, second = (doubles(*range(i, i + dimension.width)) for i in (1, 9))
+            rows = [struct.pack("<BI", 1, 1 + 1000 * dimension) + it.tobytes() for it in (first, second)]
+            it = column_from_coordinates(Kind.POINT, first + second, dimension=dimension)
+            self.assertEqual((rows_in(it), list(it.statuses)), (rows, [0, 0]))
+
     def test_round_trip(self):
         random.seed(7)
         for kind in map(Kind, range(Kind.POINT, Kind.GEOMETRY_COLLECTION)):
