@@ -1,6 +1,7 @@
 //! The kind of a geometry, by what `as_type` hands out; the code of one that the check found; and the byte of an order.
 
-ghost use Rattle.std.specs.Prelude.{◌≡◌, ◌-◌, MatchBool};
+ghost use Rattle.std.specs.Prelude.{◌≡◌, MatchBool};
+ghost use Rattle.std.specs.Prelude.{◌-◌};
 ghost use Rattle.wkb.specs.Checks.{type_kind, type_dimension};
 ghost use Rattle.wkb.specs.Prelude.{order_byte, HasOrder};
 ghost use Rattle.wkb.specs.Spellings.{iso_code};
