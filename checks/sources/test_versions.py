@@ -19,7 +19,7 @@ NAMED = [
     ("docs/TESTING.md", rf"of version\s({NUMBER})"),
     ("docs/START_C.md", r"find_package\(wkb ([\d.]+)"),
     ("CHANGELOG.md", rf"\A(?:.*\n)*?## ({NUMBER})\n"),
-    ("c/package/package.md", r"version ([\d.]+) of the calls"),
+    ("c/package/package.md", r"version\s([\d.]+)\sof\sthe\scalls"),
     ("c/package/package.md", rf"porchsorrel-wkb-c-({NUMBER})\.tar"),
     ("c/proved/PROVED", r"(?m)^version (.*)$"),
     ("postgres/wkb.control", r"(?m)^default_version = '(.*)'$"),
