@@ -9,12 +9,12 @@ use Rattle.wkb_geom.specs.Spellings.{Spelling, header}
 use Rattle.wkb_geom.specs.Fronts.{Front}
 use Rattle.wkb_check.specs.Counted.{coordinate_count}
 use Rattle.wkb_check.specs.Pieces.{count_of, leading}
-use Rattle.wkb_check.specs.Public.{DescribesFront}
-use Rattle.wkb_check.specs.declared.answer.Summary.{Summary}
 use Rattle.wkb_check.specs.declared.parts.Part.{Part}
 use Rattle.wkb_c.specs.declared.fault.WkbFault.{WkbFault}
 use Rattle.wkb_c.specs.declared.found.Found.{Found}
 use Rattle.wkb_c.specs.declared.status.TheConstants.{OK, NO_MEMORY}
+use Rattle.wkb_check.specs.Bounded.{BoundsFront}
+use Rattle.wkb_check.specs.declared.range.Bounds.{Bounds}
 use Rattle.wkb_c.specs.Statuses.{IsFault}
 
 -- the input begins with a geometry, and these are its numbers
@@ -41,6 +41,14 @@ pub record TellsFound (input : List ℕ) (before after : Found) (fault fault' : 
   pub refused : status ≢ OK → IsFault input status fault'
   pub no_memory : status ≢ NO_MEMORY
   pub found_kept : status ≢ OK → after ≡ before
+  pub fault_kept : status ≡ OK → fault' ≡ fault
+
+-- what a call does that puts the bounds of the geometry at the front of an input, or tells why there is none
+pub record TellsBounds (input : List ℕ) (before after : Bounds) (fault fault' : WkbFault) (status : ℕ) : Type 0 where
+  pub accepted : status ≡ OK → BoundsFront input after
+  pub refused : status ≢ OK → IsFault input status fault'
+  pub no_memory : status ≢ NO_MEMORY
+  pub bounds_kept : status ≢ OK → after ≡ before
   pub fault_kept : status ≡ OK → fault' ≡ fault
 
 -- the entry of a geometry that is its only part

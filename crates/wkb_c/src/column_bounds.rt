@@ -1,15 +1,16 @@
 //! The bounds of a column's rows.
 
-ghost use Rattle.std.specs.Prelude.{◌≡◌, ◌+◌, ◌<◌, ◌^◌, length};
+ghost use Rattle.std.specs.Prelude.{◌≡◌, ◌+◌, ◌<◌, ◌^◌, length, IfOk, IfErr};
+ghost use Rattle.wkb_check.specs.Bounded.{BoundsFront};
 ghost use Rattle.wkb_c.specs.Boxes.{IsRowBox, AreRowBoxes};
 ghost use Rattle.wkb_c.specs.Classes.{FitsByte};
-ghost use Rattle.wkb_c.specs.Columns.{Reach};
+ghost use Rattle.wkb_c.specs.Columns.{Reach, IsRefusedWith};
 ghost use Rattle.wkb_c.specs.RowItems.{KeepsFrom, rows_of};
 
 use crate::column::Column;
 use crate::fault::status_of_cause;
 use crate::status::OK;
-use wkb_check::{Bounds, put_bounds};
+use wkb_check::{Bounds, put_any_bounds, put_plain_bounds};
 
 /// Puts the bounds of row i, and returns its status.
 fn bound_row(column: &Column, i: usize, reach: &mut u64, found: &mut Bounds) -> u32
@@ -24,9 +25,28 @@ fn bound_row(column: &Column, i: usize, reach: &mut u64, found: &mut Bounds) -> 
         Ok(row) => row,
         Err(status) => return status,
     };
-    match put_bounds(row, found) {
+    if put_plain_bounds(row, found) {
+        return OK;
+    }
+    match bound_any(row, found) {
         Ok(()) => OK,
-        Err(refused) => status_of_cause(refused.cause),
+        Err(status) => status,
+    }
+}
+
+/// Puts the bounds of a row by the long way, or returns the status of its refusal.
+///
+/// It isn't inlined, so that other rows don't pay for its frame.
+#[inline(never)]
+fn bound_any(row: &[u8], found: &mut Bounds) -> Result<(), u32>
+    ensures front { IfOk result (λ _. BoundsFront row.now found.new) }
+    ensures refused { IfErr result (IsRefusedWith row.now) }
+    ensures kept { IfErr result (λ _. found.new ≡ found.old) }
+    ensures known { IfErr result FitsByte }
+{
+    match put_any_bounds(row, found) {
+        Ok(()) => Ok(()),
+        Err(refused) => Err(status_of_cause(refused.cause)),
     }
 }
 

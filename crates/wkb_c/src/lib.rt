@@ -24,7 +24,7 @@ mod there_and_back;
 
 ghost use Rattle.std.specs.Prelude.{◌≡◌, ◌≢◌, ◌≤◌, ◌+◌, ◌⊎◌, ◌↔◌, None, length};
 ghost use Rattle.wkb_check.specs.Bounded.{BoundsFront};
-ghost use Rattle.wkb_c.specs.Checks.{IsFound, TellsFound};
+ghost use Rattle.wkb_c.specs.Checks.{IsFound, TellsFound, TellsBounds};
 ghost use Rattle.wkb_c.specs.Classes.{IsRefusalStatus, IsNoRefusal};
 ghost use Rattle.wkb_c.specs.Requests.{request_of};
 ghost use Rattle.wkb_c.specs.Statuses.{IsFault, IsRefusedInTurn, IsComparison};
@@ -39,7 +39,7 @@ use inputs::{FIRST, SECOND, compare};
 use options::{Options, request_of};
 use parts::list_parts;
 use status::{NO_MEMORY, NO_ROOM, OK, UNKNOWN_OPTION};
-use wkb_check::{Bounds, Part, check_plain, put_bounds};
+use wkb_check::{Bounds, Part, check_plain, put_any_bounds, put_plain_bounds};
 
 /// Whether a geometry is at the start of the bytes.
 ///
@@ -88,7 +88,20 @@ pub extern "C" fn wkb_raw_bounds(buf: &[u8], bounds: &mut Bounds, fault: &mut Wk
     ensures bounds_kept { result ≢ OK → bounds.new ≡ bounds.old }
     ensures fault_kept { result ≡ OK → fault.new ≡ fault.old }
 {
-    match put_bounds(buf, bounds) {
+    if put_plain_bounds(buf, bounds) {
+        return OK;
+    }
+    bound_any(buf, bounds, fault)
+}
+
+/// Puts the bounds by the long way, which collections and refused bytes need.
+///
+/// It isn't inlined, so that other bytes don't pay for its frame.
+#[inline(never)]
+fn bound_any(buf: &[u8], bounds: &mut Bounds, fault: &mut WkbFault) -> u32
+    ensures { TellsBounds buf.now bounds.old bounds.new fault.old fault.new result }
+{
+    match put_any_bounds(buf, bounds) {
         Ok(()) => OK,
         Err(refused) => report_refusal(&refused, fault),
     }

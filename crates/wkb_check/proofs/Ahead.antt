@@ -16,7 +16,10 @@ use Rattle.wkb_geom.specs.Spellings.{header, Header}
 use Rattle.wkb_laws.proofs.Parts.{then_append, begins_number, drop_front, header_length}
 use Rattle.wkb_laws.proofs.Complete.{head_of}
 use Rattle.wkb_check.specs.Bounded.{HasGeometry}
-use Rattle.wkb_check.specs.Pieces.{count_of, leading, piece_of, bare_head, HeaderIs}
+use Rattle.wkb_laws.proofs.OneFront.{one_spelling}
+use Rattle.wkb_check.specs.declared.answer.Summary.{Summary}
+use Rattle.wkb_check.specs.Public.{DescribesFront}
+use Rattle.wkb_check.specs.Pieces.{count_of, leading, piece_of, bare_head, HeaderIs, IsHeaderAt}
 use Rattle.wkb_check.specs.declared.pieces.Piece.{Piece}
 use Rattle.wkb_check.proofs.Public.{geometry_opens}
 use Rattle.wkb_check.proofs.Bodies.{rest_smaller}
@@ -96,6 +99,31 @@ piece_is : (at : ℕ) (s : Spelling) (t : Value) {k : ℕ} {d : Dimension} {orde
     (record { kind = k; dimension = d; order = order; srid = srid; count = n; begin = at; offset = offset })
     (piece_of at s t)
 piece_is at (node h words ss) t is n offset count_is offset_is = cc
+
+-- what the check found is what the header says
+pub found_header : {buf : List ℕ} {found : Summary} → DescribesFront buf found → {k : ℕ} {d : Dimension}
+    → k ≡ type_kind found.wkb_type → d ≡ type_dimension found.wkb_type
+    → IsHeaderAt buf 0 k d found.order found.srid
+found_header f k_is d_is = λ g.
+    let same = one_spelling f.spelled g.spelled f.value g.value f.front.front g.begins.front f.rest g.rest
+    f.front.spelled g.begins.first (sym f.front.whole ∙ g.begins.whole) in
+    rw (← same.spelling, ← same.value)
+    (record {
+      kind_is = k_is ∙ ap type_kind f.described.wkb_type ∙ type_kind_is f.value;
+      dimension_is = d_is ∙ ap type_dimension f.described.wkb_type ∙ type_dimension_is f.value;
+      order_is = f.described.order;
+      srid_is = f.described.srid;
+    })
+
+-- what the header of a geometry says of its piece
+pub piece_by : (at : ℕ) (s : Spelling) (t : Value) {k : ℕ} {d : Dimension} {order : Endianness} {srid : Option ℕ}
+    → HeaderIs s t k d order srid → (p : Piece) → p ≡ piece_of at s t
+    → record { kind_is : p.kind ≡ k; dimension_is : p.dimension ≡ d; order_is : p.order ≡ order }
+piece_by at (node h words ss) t is p e = record {
+  kind_is = ap (λ (q : Piece). q.kind) e ∙ sym is.kind_is;
+  dimension_is = ap (λ (q : Piece). q.dimension) e ∙ sym is.dimension_is;
+  order_is = ap (λ (q : Piece). q.order) e ∙ sym is.order_is;
+}
 
 -- the number of a kind is the code of that kind
 pub bare_meant : (k : ℕ) → 1 ≤ k → k ≤ 7 → meaning_of k ≡ Some (meaning (type_of k Xy) false)

@@ -8,7 +8,7 @@ use Rattle.wkb_laws.specs.Prelude.{Endianness, Dimension, number}
 use Rattle.wkb_check.specs.Bounded.{HasGeometry, HasGeometries, decoded_rings}
 use Rattle.wkb_check.specs.Pieces.{Ahead, own_end, ring_piece, piece_of, pieces_of, pieces_of_rings, pieces_of_each}
 use Rattle.wkb_check.specs.Pieces.{size_of_rings, sizes, IsPieceAt, IsInside, IsAhead, HasAhead, Takes, Steps}
-use Rattle.wkb_check.specs.Pieces.{bytes_left}
+use Rattle.wkb_check.specs.Pieces.{bytes_left, AreRings, IsRing}
 use Rattle.wkb_check.specs.declared.pieces.Piece.{Piece}
 use Rattle.wkb_check.specs.declared.pieces.Pieces.{Pieces}
 use Rattle.wkb_check.proofs.Placing.{First, alone, first_one, of_first, Inside, leaf_inside, rings_inside}
@@ -222,6 +222,27 @@ goes w now p h t =
       keeps = can;
       rests = λ f. tt;
     }
+
+-- fewer bytes are left after a piece
+pub fewer_left : {old new : Pieces} {p : Piece} → Steps old (Some p) new → bytes_left new < bytes_left old
+fewer_left s = omega (arith, s.further, s.inside.ends, s.inside.inside, ap length s.same)
+
+-- a ring that was taken, and those after it
+pub ring_of : {order : Endianness} {d : Dimension} {w : Pieces} {p : Piece} → AreRings order d w
+    → IsRing w.order w.dimension p → IsRing order d p
+ring_of are is = record {
+  kind_is = is.kind_is;
+  order_is = is.order_is ∙ are.order_is;
+  dimension_is = is.dimension_is ∙ are.dimension_is;
+}
+
+pub rings_after : {order : Endianness} {d : Dimension} {w now : Pieces} → AreRings order d w
+    → AreRings w.order w.dimension now → AreRings order d now
+rings_after before after = record {
+  order_is = after.order_is ∙ before.order_is;
+  dimension_is = after.dimension_is ∙ before.dimension_is;
+  alone = after.alone;
+}
 
 -- what calls of `next` gave, and what is to come after them, are the pieces that were to come
 pub given : (w now : Pieces) (ps xs : List Piece) → IsAhead w ps → Yields Steps w xs now

@@ -1,7 +1,7 @@
 -- The words of a geometry's pieces: they widen a range as the words of its value do.
 use Rattle.std.proofs.Common.{◌≡◌, ℕ, zero, suc, ◌+◌, ◌*◌, List, [], ◌∷◌, ◌++◌, take, drop}
 use Rattle.std.proofs.Common.{Some, None, Option, true, false, nat_lt, refl, sym, ap, ◌∙◌}
-use Rattle.std.proofs.Common.{append-nil, append_assoc}
+use Rattle.std.proofs.Common.{append-nil, append_assoc, subst}
 use Rattle.std.proofs.lemmas.Bool.{cond-true, cond-false}
 use Rattle.std.specs.Cmp.{first_so, second_so}
 use Rattle.wkb_geom.specs.Numbers.{is_nan}
@@ -19,7 +19,8 @@ use Rattle.wkb_check.specs.Ordinates.{Axis, x_axis, axis_place, word_at, words_o
 use Rattle.wkb_check.specs.Ordinates.{words_in}
 use Rattle.wkb_check.specs.Ordinates.{words_on, words_on_each, point_words_on}
 use Rattle.wkb_check.specs.Bounded.{on, nothing, HasGeometry, AreBounds}
-use Rattle.wkb_check.specs.Pieces.{pieces_of, piece_of, own_end}
+use Rattle.wkb_check.specs.Pieces.{pieces_of, piece_of, own_end, IsRing, IsAhead, IsTaken, IsNext, Steps}
+use Rattle.wkb_check.specs.declared.pieces.Pieces.{Pieces}
 use Rattle.wkb_check.proofs.Widening.{widened-append}
 use Rattle.wkb_check.proofs.Placing.{leaf_of, own_piece}
 use Rattle.wkb_check.specs.Subjects.{Subject, dimension_in, subject_coordinates, subjects, subjects_of_rings}
@@ -153,3 +154,54 @@ pub all_widened : (buf : List ℕ) (b : Bounds) (ps : List Piece) (g : HasGeomet
     → pieces_of 0 g.spelled g.value ≡ ps
     → ((a : Axis) → on a b ≡ widened (on a nothing) (words_of_each (piece_words a buf) ps)) → AreBounds b g.value
 all_widened buf b ps g all widens = λ a. rw (widens a, on_nothing a, ← all) (all_words a buf g)
+
+-- ---- the loop over the rings of a polygon
+
+-- the words of a ring
+pub ring_words : (a : Axis) (buf : List ℕ) (p : Piece) {order : Endianness} {d : Dimension} → IsRing order d p
+    → piece_words a buf p ≡ words_in a d (coordinates order d p.count (drop p.offset buf))
+ring_words a buf p r =
+    leaf_words a buf p (ap (λ k. nat_lt k 3) r.kind_is)
+    ∙ (λ i. words_in a (r.dimension_is i) (coordinates (r.order_is i) (r.dimension_is i) p.count (drop p.offset buf)))
+
+-- the bounds are widened by the pieces that were passed, and the others are to come
+pub record WidenedSoFar (buf : List ℕ) (w : Pieces) (b : Bounds) (g : HasGeometry buf) : Type 0 where
+  pub passed : List Piece
+  pub left : List Piece
+  pub all : pieces_of 0 g.spelled g.value ≡ passed ++ left
+  pub ahead : IsAhead w left
+  pub widens : (a : Axis) → on a b ≡ widened (on a nothing) (words_of_each (piece_words a buf) passed)
+
+module _ {buf : List ℕ} where
+  -- the first piece has no coordinates
+  pub first_passed : {w : Pieces} {first : Piece} {b : Bounds} (g : HasGeometry buf)
+      → IsTaken w (pieces_of 0 g.spelled g.value) first → nat_lt first.kind 3 ≡ false → b ≡ nothing
+      → WidenedSoFar buf w b g
+  first_passed {first = first} g taken high none = record {
+    passed = first ∷ [];
+    left = taken.rest;
+    all = taken.first;
+    ahead = taken.ahead;
+    widens = λ a.
+        ap (on a) none ∙ ap (λ ws. widened (on a nothing) (ws ++ [])) (sym (no_words a buf first high));
+  }
+
+  pub one_passed : {old new : Pieces} {b now : Bounds} {p : Piece} {g : HasGeometry buf} → WidenedSoFar buf old b g
+      → Steps old (Some p) new → ((a : Axis) → on a now ≡ widened (on a b) (piece_words a buf p))
+      → WidenedSoFar buf new now g
+  one_passed {p = p} x s more =
+      let taken = s.steps x.left x.ahead in
+      record {
+        passed = x.passed ++ p ∷ [];
+        left = taken.rest;
+        all = x.all ∙ ap (λ ps. x.passed ++ ps) taken.first ∙ sym (append_assoc x.passed (p ∷ []) taken.rest);
+        ahead = taken.ahead;
+        widens = λ a. more a ∙ widened_push a buf (on a nothing) x.passed p _ (x.widens a);
+      }
+
+  pub all_passed : {old new : Pieces} {b : Bounds} {r : Option Piece} {g : HasGeometry buf} → WidenedSoFar buf old b g
+      → r ≡ None → Steps old r new → AreBounds b g.value
+  all_passed {new = new} {b = b} {g = g} x none s =
+      all_widened buf b x.passed g
+      (x.all ∙ ap (λ ps. x.passed ++ ps) (subst (IsNext new x.left) none (s.steps x.left x.ahead)) ∙ append-nil x.passed)
+      x.widens

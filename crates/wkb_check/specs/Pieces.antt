@@ -168,11 +168,24 @@ pub record HasAll (bytes : List ℕ) (w : Pieces) : Type 0 where
   pub geometries : w.geometries ≡ 1
   pub same : w.bytes.now ≡ bytes
 
+-- the rings of a polygon in this order and dimension are to come, and no geometry after them
+pub record AreRings (order : Endianness) (d : Dimension) (w : Pieces) : Type 0 where
+  pub order_is : w.order ≡ order
+  pub dimension_is : w.dimension ≡ d
+  pub alone : w.geometries ≡ 0
+
+-- this piece is a ring of a polygon in this order and dimension
+pub record IsRing (order : Endianness) (d : Dimension) (p : Piece) : Type 0 where
+  pub kind_is : p.kind ≡ 0
+  pub order_is : p.order ≡ order
+  pub dimension_is : p.dimension ≡ d
+
 -- all of them but the first one are
 pub record IsBehind (bytes : List ℕ) (first : Piece) (w : Pieces) : Type 0 where
   pub steps : (g : HasGeometry bytes) → IsTaken w (all_pieces g) first
   pub inside : IsInside bytes 0 w.at first
   pub same : w.bytes.now ≡ bytes
+  pub rings : first.kind ≡ POLYGON → AreRings first.order first.dimension w
 
 -- this piece was taken, or none
 pub record TakesOrStays (w : Pieces) (result : Option Piece) (now : Pieces) : Type 0 where

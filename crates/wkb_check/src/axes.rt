@@ -1,6 +1,7 @@
 //! Ranges on all axes, while they are widened.
 
 ghost use Rattle.std.specs.Prelude.{◌≡◌, ◌*◌, ◌≤◌, length};
+ghost use Rattle.wkb_geom.specs.declared.common.Dimension.TheVariants.{Xy};
 ghost use Rattle.wkb_geom.specs.Dimensions.{width};
 ghost use Rattle.wkb_geom.specs.Reading.{coordinates};
 ghost use Rattle.wkb_check.specs.Ranges.{CanWiden, WidensRange, AreNumbers};
@@ -13,13 +14,16 @@ use crate::ranks::Ranks;
 use wkb_geom::words::{WORD_SIZE, rest_from, u64_at};
 use wkb_geom::{Dimension, Endianness};
 
-/// The ranges on each axis.
+/// The bytes of a coordinate of an x and a y.
+const XY_SIZE: usize = 2 * WORD_SIZE;
+
+/// The ranges on each axis. Most coordinates have no z and no m, whose ranges are kept as they are returned.
 #[derive(Clone, Copy)]
 pub(crate) struct AxisRanks {
     x: Ranks,
     y: Ranks,
-    z: Ranks,
-    m: Ranks,
+    z: Range,
+    m: Range,
 }
 
 /// Widens the ranks of x and y by the first two words of each of `count` coordinates, as if each were a number.
@@ -161,8 +165,8 @@ impl AxisRanks {
         AxisRanks {
             x: none,
             y: none,
-            z: none,
-            m: none,
+            z: Range::empty(),
+            m: Range::empty(),
         }
     }
 
@@ -174,8 +178,8 @@ impl AxisRanks {
         Bounds {
             x: self.x.range(),
             y: self.y.range(),
-            z: self.z.range(),
-            m: self.m.range(),
+            z: self.z,
+            m: self.m,
         }
     }
 
@@ -198,5 +202,15 @@ impl AxisRanks {
         self.z.widen_at(z, order, dimension, count, bytes);
         let m = place_of_m(dimension);
         self.m.widen_at(m, order, dimension, count, bytes);
+    }
+
+    /// As `widen`, by coordinates of an x and a y. Where it is inlined the order is a constant.
+    #[inline(always)]
+    pub(crate) fn widen_xy(&mut self, order: Endianness, count: u32, bytes: &[u8])
+        requires whole { XY_SIZE * count ≤ length bytes.now }
+        requires room { HasRoom (bounds_by self.old) bytes.now }
+        ensures { WidensBounds self.old self.new Xy (coordinates order Xy count bytes.now) }
+    {
+        widen_plane_in(&mut self.x, &mut self.y, order, XY_SIZE, count, bytes);
     }
 }

@@ -22,4 +22,4 @@ pub use head::size_of_srid;
 pub use parts::{Part, PartPlace, put_geometries, width_number};
 pub use pieces::{Piece, Pieces, RING};
 pub use range::{Bounds, Range};
-pub use scan::{bounds, put_bounds};
+pub use scan::{bounds, put_any_bounds, put_plain_bounds};

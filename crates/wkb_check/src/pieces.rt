@@ -3,9 +3,10 @@
 ghost use Rattle.std.specs.Prelude.{◌≡◌, ◌+◌, ◌≤◌, ◌<◌, ◌^◌, length, drop, IfSome, None, nat_lt};
 ghost use Rattle.std.specs.Iterator.{at_most};
 ghost use Rattle.wkb_geom.specs.Numbers.{number};
+ghost use Rattle.wkb_geom.specs.Reading.{type_kind};
 ghost use Rattle.wkb_check.specs.Bounded.{HasGeometry};
 ghost use Rattle.wkb_check.specs.Pieces.{own_end, ring_piece, IsPieceAt, IsHeaderAt, HasAhead, HasAll, IsBehind};
-ghost use Rattle.wkb_check.specs.Pieces.{Takes, TakesOrStays, Steps, bytes_left};
+ghost use Rattle.wkb_check.specs.Pieces.{Takes, TakesOrStays, Steps, AreRings, IsRing, bytes_left};
 ghost use Rattle.wkb_check.specs.Public.{DescribesFront};
 
 use crate::answer::Summary;
@@ -60,7 +61,7 @@ impl Piece {
 
     /// The geometry that begins at this byte and has this header, up to its rings or members.
     #[inline(always)]
-    fn of_header(
+    pub(crate) fn of_header(
         bytes: &[u8],
         begin: usize,
         kind: u32,
@@ -115,6 +116,17 @@ impl Piece {
         let kind = found.wkb_type.kind();
         let dimension = found.wkb_type.dimension();
         Piece::of_header(bytes, 0, kind, dimension, found.order, found.srid)
+    }
+
+    /// As `outermost`, of a polygon: where it is inlined the kind is a constant.
+    #[inline(always)]
+    pub fn polygon(bytes: &[u8], found: &Summary) -> Piece
+        requires here { DescribesFront bytes.now found.now }
+        requires polygon { type_kind found.now.wkb_type ≡ POLYGON }
+        ensures { IsPieceAt bytes.now 0 result }
+    {
+        let dimension = found.wkb_type.dimension();
+        Piece::of_header(bytes, 0, POLYGON, dimension, found.order, found.srid)
     }
 
     /// The ring that begins at this byte, of a polygon of this order and dimension.
@@ -184,7 +196,10 @@ impl<'a> Pieces<'a> {
     fn next_ring(&mut self) -> Piece
         requires ahead { HasAhead self.old }
         requires some { 0 < self.old.rings }
-        ensures { Takes self.old self.new result }
+        ensures takes { Takes self.old self.new result }
+        ensures ring { IsRing self.old.order self.old.dimension result }
+        ensures rings { self.old.geometries ≡ 0
+            → AreRings self.old.order self.old.dimension self.new }
     {
         let piece = Piece::of_ring(self.bytes, self.at, self.order, self.dimension);
         self.rings -= 1;
@@ -199,7 +214,9 @@ impl<'a> Pieces<'a> {
         requires no_ring { self.old.rings ≡ 0 }
         requires some { 0 < self.old.geometries }
         requires piece { IsPieceAt self.old.bytes.now self.old.at piece.now }
-        ensures { Takes self.old self.new piece.now }
+        ensures takes { Takes self.old self.new piece.now }
+        ensures rings { piece.now.kind ≡ POLYGON → self.old.geometries ≡ 1
+            → AreRings piece.now.order piece.now.dimension self.new }
     {
         self.geometries -= 1;
         self.at = piece.end();
@@ -209,6 +226,22 @@ impl<'a> Pieces<'a> {
             self.dimension = piece.dimension;
         } else if piece.kind > POLYGON {
             self.geometries += piece.count as usize;
+        }
+    }
+
+    /// The next piece, if it is a ring. No geometry follows the rings, so that it is what `next` gives.
+    #[inline(always)]
+    pub fn next_if_ring(&mut self) -> Option<Piece>
+        requires ahead { HasAhead self.old }
+        requires alone { self.old.geometries ≡ 0 }
+        ensures steps { Steps self.old result self.new }
+        ensures ring { IfSome result (IsRing self.old.order self.old.dimension) }
+        ensures rings { AreRings self.old.order self.old.dimension self.new }
+    {
+        if self.rings > 0 {
+            Some(self.next_ring())
+        } else {
+            None
         }
     }
 

@@ -3,7 +3,7 @@
 ghost use Rattle.std.specs.Prelude.{◌≡◌, ◌+◌, ◌*◌, ◌<◌, ◌≤◌, ◌^◌, length, IfSome, true};
 ghost use Rattle.wkb_geom.specs.Dimensions.{width};
 ghost use Rattle.wkb_check.specs.Ranges.{word_of as word_by, range_by, with_word};
-ghost use Rattle.wkb_check.specs.Ranges.{CanWiden, WidensRange, AreNumbers, WidensNumbers};
+ghost use Rattle.wkb_check.specs.Ranges.{widened, CanWiden, WidensRange, AreNumbers, WidensNumbers};
 ghost use Rattle.wkb_check.specs.Ordinates.{column_words, place_words};
 
 use crate::range::Range;
@@ -171,7 +171,9 @@ impl Ranks {
             }
         }
     }
+}
 
+impl Range {
     /// Widens the range by the word at this place of each of `count` coordinates, if they have one there.
     #[inline(always)]
     pub(crate) fn widen_at(
@@ -185,11 +187,13 @@ impl Ranks {
         requires place { IfSome place (λ k. k < width dimension) }
         requires whole { 8 * width dimension * count ≤ length bytes.now }
         requires room { self.old.count + length bytes.now < 2 ^ 64 }
-        ensures { WidensRange self.old self.new (place_words place order dimension count bytes.now) }
+        ensures { self.new ≡ widened self.old (place_words place order dimension count bytes.now) }
     {
         if let Some(word) = place {
             let size = dimension.coordinate_size();
-            self.widen(order, size, WORD_SIZE * word, count, bytes);
+            let mut ranks = Ranks::of(*self);
+            ranks.widen(order, size, WORD_SIZE * word, count, bytes);
+            *self = ranks.range();
         }
     }
 }

@@ -1,17 +1,19 @@
 //! The bounds of a geometry, by one walk over its pieces.
 
-ghost use Rattle.std.specs.Prelude.{◌≡◌, nat_lt, true, Err, IfOk, IfErr, IfSome};
+ghost use Rattle.std.specs.Prelude.{◌≡◌, nat_lt, true, false, Err, IfOk, IfErr, IfSome};
 ghost use Rattle.wkb_geom.specs.declared.code.TheConstants.{POLYGON};
+ghost use Rattle.wkb_geom.specs.declared.common.Dimension.TheVariants.{Xy};
 ghost use Rattle.wkb_check.specs.Bounded.{HasGeometry, AreBounds, BoundsFront, BoundsOnlyFront, FindsBounds};
-ghost use Rattle.wkb_check.specs.Pieces.{IsPieceAt};
+ghost use Rattle.wkb_check.specs.Pieces.{IsPieceAt, IsHeaderAt};
 ghost use Rattle.wkb_check.specs.Public.{Checks, DescribesFront};
 
 use crate::answer::{Refused, Summary, check, check_plain};
 use crate::axes::AxisRanks;
 use crate::pieces::{Piece, Pieces};
 use crate::range::Bounds;
-use wkb_geom::code::POLYGON;
+use wkb_geom::code::{POLYGON, WkbType};
 use wkb_geom::words::rest_from;
+use wkb_geom::{Dimension, Endianness};
 
 /// The bounds of a geometry that has coordinates, and so is this piece alone.
 #[inline(always)]
@@ -49,6 +51,57 @@ fn only_piece(buf: &[u8], found: &Summary) -> Option<Piece>
     }
 }
 
+/// Puts the bounds of a polygon of x and y in an order that is a constant where this is inlined.
+#[tactic(auto, using(crate::proofs::Following::fewer_left))]
+#[inline(always)]
+fn put_bounds_of_rings_in(buf: &[u8], order: Endianness, srid: Option<u32>, bounds: &mut Bounds)
+    requires here { HasGeometry buf.now }
+    requires header { IsHeaderAt buf.now 0 POLYGON Xy order srid }
+    ensures { (g : HasGeometry buf.now) → AreBounds bounds.new g.value }
+{
+    let first = Piece::of_header(buf, 0, POLYGON, Dimension::Xy, order, srid);
+    let mut ranks = AxisRanks::empty();
+    let mut pieces = Pieces::behind(buf, &first);
+    while let Some(ring) = pieces.next_if_ring() {
+        let bytes = rest_from(buf, ring.offset);
+        ranks.widen_xy(order, ring.count, bytes);
+    }
+    *bounds = ranks.bounds();
+}
+
+/// Puts the bounds of a polygon of x and y, with a loop for each order. It takes scalars, so that what was found of
+/// other geometries needs no place in memory.
+#[inline(never)]
+fn put_bounds_of_rings(buf: &[u8], order: Endianness, srid: Option<u32>, bounds: &mut Bounds)
+    requires here { HasGeometry buf.now }
+    requires header { IsHeaderAt buf.now 0 POLYGON Xy order srid }
+    ensures { (g : HasGeometry buf.now) → AreBounds bounds.new g.value }
+{
+    match order {
+        Endianness::BigEndian => {
+            put_bounds_of_rings_in(buf, Endianness::BigEndian, srid, bounds);
+        }
+        Endianness::LittleEndian => {
+            put_bounds_of_rings_in(buf, Endianness::LittleEndian, srid, bounds);
+        }
+    }
+}
+
+/// Puts the bounds of a geometry that has no coordinates itself.
+#[inline(always)]
+fn put_bounds_of_others(buf: &[u8], found: &Summary, bounds: &mut Bounds)
+    requires { DescribesFront buf.now found.now }
+    ensures { (g : HasGeometry buf.now) → AreBounds bounds.new g.value }
+{
+    if let WkbType::Polygon(dimension) = found.wkb_type {
+        if let Dimension::Xy = dimension {
+            put_bounds_of_rings(buf, found.order, found.srid, bounds);
+            return;
+        }
+    }
+    put_bounds_of_front(buf, bounds);
+}
+
 /// Puts the bounds of the geometry at the start of bytes in which the check found this.
 #[inline(always)]
 fn put_bounds_found(buf: &[u8], found: &Summary, bounds: &mut Bounds)
@@ -57,7 +110,7 @@ fn put_bounds_found(buf: &[u8], found: &Summary, bounds: &mut Bounds)
 {
     match only_piece(buf, found) {
         Some(only) => *bounds = bounds_of_piece(buf, &only),
-        None => put_bounds_of_front(buf, bounds),
+        None => put_bounds_of_others(buf, found, bounds),
     }
 }
 
@@ -76,18 +129,34 @@ fn put_bounds_of_front(buf: &[u8], bounds: &mut Bounds)
     *bounds = ranks.bounds();
 }
 
+/// Puts the bounds of the geometry at the front of the bytes, if `check_plain` finds it. Else [`put_any_bounds`] has to
+/// look.
+///
+/// It returns no `Result`, which would need a place in memory.
+#[tactic(auto, using(crate::proofs::Scanning::front_there))]
+#[inline(always)]
+pub fn put_plain_bounds(buf: &[u8], bounds: &mut Bounds) -> bool
+    ensures front { result ≡ true → BoundsFront buf.now bounds.new }
+    ensures one_front { result ≡ true → BoundsOnlyFront buf.now bounds.new }
+    ensures kept { result ≡ false → bounds.new ≡ bounds.old }
+{
+    match check_plain(buf) {
+        Some(found) => {
+            put_bounds_found(buf, &found, bounds);
+            true
+        }
+        None => false,
+    }
+}
+
 /// Puts what [`bounds`] finds into the caller's bounds, or leaves these as they are and returns its refusal.
 #[tactic(auto, using(crate::proofs::Scanning::front_there))]
-pub fn put_bounds(buf: &[u8], bounds: &mut Bounds) -> Result<(), Refused>
+pub fn put_any_bounds(buf: &[u8], bounds: &mut Bounds) -> Result<(), Refused>
     ensures front { IfOk result (λ _. BoundsFront buf.now bounds.new) }
     ensures one_front { IfOk result (λ _. BoundsOnlyFront buf.now bounds.new) }
     ensures refused { IfErr result (λ e. Checks buf.now (Err e)) }
     ensures kept { IfErr result (λ _. bounds.new ≡ bounds.old) }
 {
-    if let Some(found) = check_plain(buf) {
-        put_bounds_found(buf, &found, bounds);
-        return Ok(());
-    }
     check(buf)?;
     put_bounds_of_front(buf, bounds);
     Ok(())
@@ -102,6 +171,9 @@ pub fn bounds(buf: &[u8]) -> Result<Bounds, Refused>
     ensures { FindsBounds buf.now result }
 {
     let mut found = Bounds::empty();
-    put_bounds(buf, &mut found)?;
+    if put_plain_bounds(buf, &mut found) {
+        return Ok(found);
+    }
+    put_any_bounds(buf, &mut found)?;
     Ok(found)
 }

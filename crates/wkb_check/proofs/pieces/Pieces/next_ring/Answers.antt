@@ -6,6 +6,6 @@ pub end-self-requires : goal.end-self-requires
 end-self-requires c =
     omega (arith, ring_inside c.args.self.now c.requires.ahead c.requires.some _ c.of_ring-piece.ensures)
 
-pub returns : goal.returns
-returns c =
+pub returns-clause-takes : goal.returns-clause-takes
+returns-clause-takes c =
     ring_takes c.args.self.now c.requires.ahead c.requires.some _ c.of_ring-piece.ensures _ c.end-self.ensures

@@ -16,19 +16,19 @@ overflow_add-self c =
           c.if-piece-gt-POLYGON.true c.if-piece-eq-POLYGON.false,
     )
 
-pub returns-then-piece-eq-POLYGON : goal.returns-then-piece-eq-POLYGON
-returns-then-piece-eq-POLYGON c =
+pub returns-then-piece-eq-POLYGON-clause-takes : goal.returns-then-piece-eq-POLYGON-clause-takes
+returns-then-piece-eq-POLYGON-clause-takes c =
     let r = c.requires in
     polygon_takes c.args.self.now r.ahead r.no_ring r.some _ r.piece _ c.end-self.ensures c.if-piece-eq-POLYGON.true
 
-pub returns-then-piece-gt-POLYGON : goal.returns-then-piece-gt-POLYGON
-returns-then-piece-gt-POLYGON c =
+pub returns-then-piece-gt-POLYGON-clause-takes : goal.returns-then-piece-gt-POLYGON-clause-takes
+returns-then-piece-gt-POLYGON-clause-takes c =
     let r = c.requires in
     members_takes c.args.self.now r.ahead r.no_ring r.some _ r.piece _ c.end-self.ensures c.if-piece-gt-POLYGON.true
     c.if-piece-eq-POLYGON.false
 
-pub returns-else-piece-gt-POLYGON : goal.returns-else-piece-gt-POLYGON
-returns-else-piece-gt-POLYGON c =
+pub returns-else-piece-gt-POLYGON-clause-takes : goal.returns-else-piece-gt-POLYGON-clause-takes
+returns-else-piece-gt-POLYGON-clause-takes c =
     let r = c.requires in
     leaf_takes c.args.self.now r.ahead r.no_ring r.some _ r.piece _ c.end-self.ensures c.if-piece-gt-POLYGON.false
     c.if-piece-eq-POLYGON.false

@@ -4,7 +4,7 @@ use Rattle.wkb_check.proofs.pieces.PiecesIterator.next.Goals as goal
 
 pub returns-then-self-gt0-clause-goes : goal.returns-then-self-gt0-clause-goes
 returns-then-self-gt0-clause-goes c =
-    goes c.args.self.now c.next_ring.new.self c.next_ring.result c.requires c.next_ring.ensures
+    goes c.args.self.now c.next_ring.new.self c.next_ring.result c.requires c.next_ring.ensures.takes
 
 pub returns-then-self-gt0-2-clause-goes : goal.returns-then-self-gt0-2-clause-goes
 returns-then-self-gt0-2-clause-goes c =
