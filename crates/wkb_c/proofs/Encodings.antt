@@ -1,5 +1,5 @@
 -- The encoding that is asked for of what was checked, and how long it is.
-use Rattle.wkb_c.proofs.Common.{◌≡◌, ◌≢◌, ℕ, ◌+◌, ◌≤◌, ◌<◌, inl, inr, List, ◌++◌, length, drop, Some, None, refl, sym}
+use Rattle.wkb_c.proofs.Common.{◌≡◌, ◌≢◌, ◌⊎◌, ℕ, ◌+◌, ◌≤◌, ◌<◌, inl, inr, List, ◌++◌, length, drop, Some, None, refl, sym}
 use Rattle.wkb_c.proofs.Common.{ap, ◌∙◌, arith, header}
 use lib.Seq.{sets, sets-eq, length-sets}
 use Rattle.wkb_geom.specs.declared.common.Endianness.{Endianness}
@@ -17,11 +17,13 @@ use Rattle.wkb_c.specs.Columns.{IsRow}
 use Rattle.wkb_c.specs.declared.column.Column.{Column}
 use Rattle.wkb_c.specs.Requests.{IsRequested, request_of, options_for}
 use Rattle.wkb_c.specs.RowItems.{IsRowStep, RowHas, RowFails}
-use Rattle.wkb_c.specs.Writings.{WritesRequested, HasEncoding, FailsToWrite}
+use Rattle.wkb_c.specs.Writings.{WritesRequested, WritesAsked, meant, meaningless, Encodes, HasEncoding, FailsToWrite}
+use Rattle.wkb_c.specs.Statuses.{IsStatusOfWriting, does, lacks_room as short_of_room}
 use Rattle.wkb_c.specs.declared.options.Options.{Options}
 use Rattle.wkb_c.specs.declared.options.Request.{Request}
 use Rattle.wkb_c.specs.declared.options.Request.TheVariants.{Encoding, OwnSrid}
-use Rattle.wkb_c.specs.declared.status.TheConstants.{OK, NO_ROOM}
+use Rattle.wkb_c.specs.declared.status.TheConstants.{OK, NO_ROOM, UNKNOWN_OPTION}
+use Rattle.wkb_c.specs.declared.fault.WkbFault.{WkbFault}
 use Rattle.wkb_c.proofs.RowItems.{IsLent, called_step}
 
 -- an encoding has a first byte
@@ -118,3 +120,48 @@ module _ {c : Column} {i start status count : ℕ} {before lent sub after : List
       let h = w.no_room told in
       (h.encoding, (row_encoding row is o request asked h.encoding h.is_requested, h.lacks)))
       w.out_kept w.known
+
+few_told : {status : ℕ} → (status ≡ OK) ⊎ (status ≡ NO_ROOM) → status ≤ 2
+few_told (inl e) = omega (arith, e)
+few_told (inr e) = omega (arith, e)
+
+writing_told : {status : ℕ} → (status ≡ OK) ⊎ (status ≡ NO_ROOM) → IsStatusOfWriting status
+writing_told (inl e) = inr (does e)
+writing_told (inr e) = inr (short_of_room e)
+
+neither : {status : ℕ} → (status ≡ OK) ⊎ (status ≡ NO_ROOM) → status ≢ OK → status ≢ NO_ROOM → ⊥
+neither (inl e) not_ok not_short = not_ok e
+neither (inr e) not_ok not_short = not_short e
+
+not_unknown : {status : ℕ} → (status ≡ OK) ⊎ (status ≡ NO_ROOM) → status ≡ UNKNOWN_OPTION → ⊥
+not_unknown (inl e) told = omega (arith, e, told)
+not_unknown (inr e) told = omega (arith, e, told)
+
+-- what a call says that wrote for options
+pub asked_encodes : {o : Options} {input before after : List ℕ} {status size size' : ℕ}
+    → WritesAsked o input before after status size size' → (fault : WkbFault)
+    → Encodes o input before after size size' fault fault status
+asked_encodes {o = o} (meant request asked w) fault =
+    let few = few_told w.known in
+    record {
+      written = λ ok. record { request = request; asked = asked; written = w.written ok };
+      no_room = λ told. record { request = request; asked = asked; lacks = w.no_room told };
+      unknown = (λ told. absurd (omega (arith, told, few)), λ none. absurd (is_asked o request asked none));
+      bound = λ told. w.bound;
+      refused = λ told. absurd (omega (arith, told, few));
+      known = writing_told w.known;
+      out_kept = w.out_kept;
+      size_kept = λ not_ok not_short. absurd (neither w.known not_ok not_short);
+      fault_kept = λ told. refl;
+    }
+asked_encodes {o = o} (meaningless none told kept same) fault = record {
+  written = λ ok. absurd (omega (arith, ok, told));
+  no_room = λ short. absurd (omega (arith, short, told));
+  unknown = (λ _. none, λ _. told);
+  bound = λ other. absurd (not_unknown other told);
+  refused = λ other. absurd (omega (arith, other, told));
+  known = inl told;
+  out_kept = λ _. kept;
+  size_kept = λ _ _. same;
+  fault_kept = λ _. refl;
+}

@@ -43,6 +43,15 @@ pub record WantsRoom (o : Options) (input before : List ℕ) (size : ℕ) : Type
   pub asked : request_of o ≡ Some request
   pub lacks : FindsNoRoom request input before size
 
+-- What is done for options, where a check has found the geometry: the encoding that they ask for is written, or doesn't
+-- fit its room; or they mean nothing.
+pub data WritesAsked (o : Options) (input before after : List ℕ) (status size size' : ℕ) : Type 0 where
+  meant : (request : Request) → request_of o ≡ Some request
+      → WritesRequested request input before after status size'
+      → WritesAsked o input before after status size size'
+  meaningless : request_of o ≡ None → status ≡ UNKNOWN_OPTION → after ≡ before → size' ≡ size
+      → WritesAsked o input before after status size size'
+
 -- what a call does that writes the encoding that the options ask for
 pub record Encodes (o : Options) (input before after : List ℕ) (size size' : ℕ) (fault fault' : WkbFault)
     (status : ℕ) : Type 0 where

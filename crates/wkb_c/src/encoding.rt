@@ -4,16 +4,16 @@ ghost use Rattle.std.specs.Prelude.{◌≡◌, ◌<◌};
 ghost use Rattle.wkb_geom.specs.Reading.{type_kind};
 ghost use Rattle.wkb_geom.specs.declared.code.TheConstants.{POLYGON};
 ghost use Rattle.wkb_check.specs.Public.{DescribesFront};
-ghost use Rattle.wkb_c.specs.Requests.{options_for};
-ghost use Rattle.wkb_c.specs.Writings.{WritesRequested};
+ghost use Rattle.wkb_c.specs.Requests.{options_for, request_of};
+ghost use Rattle.wkb_c.specs.Writings.{WritesRequested, WritesAsked};
 
-use crate::options::Request;
-use crate::status::{NO_ROOM, OK};
+use crate::options::{Options, Request, request_of};
+use crate::status::{NO_ROOM, OK, UNKNOWN_OPTION};
 use wkb_check::Summary;
 use wkb_geom::Form;
 use wkb_geom::code::WkbType;
 use wkb_geom::header::SRID_SIZE;
-use wkb_rewrite::{encoded_size, put_encoding, put_one_piece, size_with_own_srid};
+use wkb_rewrite::{encoded_size, put_encoding, put_one_piece, put_polygon, size_with_own_srid};
 use wkb_sink::WriteOptions;
 
 /// The options of a request, for a geometry that has this SRID of its own.
@@ -54,21 +54,24 @@ pub fn write_requested(
     OK
 }
 
-/// As `write_requested`, for a geometry that is one piece: a point or a line string.
+/// As `write_requested` for what the options ask for, for a geometry that is one piece: a point or a line string.
 ///
 /// It isn't inlined, so that other geometries don't pay for its frame.
 #[inline(never)]
 fn write_one_piece(
     buf: &[u8],
     found: &Summary,
-    request: Request,
+    options: &Options,
     out: &mut [u8],
     size: &mut u64,
 ) -> u32
     requires here { DescribesFront buf.now found.now }
     requires kind { type_kind found.now.wkb_type < POLYGON }
-    ensures { WritesRequested request buf.now out.old out.new result size.new }
+    ensures { WritesAsked options.now buf.now out.old out.new result size.old size.new }
 {
+    let Some(request) = request_of(options) else {
+        return UNKNOWN_OPTION;
+    };
     let options = options_for(request, found.srid);
     let wanted = size_with_own_srid(buf, found, options.form);
     *size = wanted as u64;
@@ -79,22 +82,54 @@ fn write_one_piece(
     OK
 }
 
-/// As `write_requested`, by shorter code for a geometry that is one piece.
+/// As `write_one_piece`, for a polygon.
+#[inline(never)]
+fn write_polygon(
+    buf: &[u8],
+    found: &Summary,
+    options: &Options,
+    out: &mut [u8],
+    size: &mut u64,
+) -> u32
+    requires here { DescribesFront buf.now found.now }
+    requires kind { type_kind found.now.wkb_type ≡ POLYGON }
+    ensures { WritesAsked options.now buf.now out.old out.new result size.old size.new }
+{
+    let Some(request) = request_of(options) else {
+        return UNKNOWN_OPTION;
+    };
+    let options = options_for(request, found.srid);
+    let wanted = size_with_own_srid(buf, found, options.form);
+    *size = wanted as u64;
+    if out.len() < wanted {
+        return NO_ROOM;
+    }
+    put_polygon(buf, found, options, out);
+    OK
+}
+
+/// As `write_requested` for what the options ask for, if they mean something, by shorter code for some kinds.
+///
+/// These read the options themselves, so that they take no registers during the check, and no place in memory.
 #[inline(always)]
 pub fn write_plain(
     buf: &[u8],
     found: &Summary,
-    request: Request,
+    options: &Options,
     out: &mut [u8],
     size: &mut u64,
 ) -> u32
     requires { DescribesFront buf.now found.now }
-    ensures { WritesRequested request buf.now out.old out.new result size.new }
+    ensures { WritesAsked options.now buf.now out.old out.new result size.old size.new }
 {
     match found.wkb_type {
         WkbType::Point(_) | WkbType::LineString(_) => {
-            write_one_piece(buf, found, request, out, size)
+            write_one_piece(buf, found, options, out, size)
         }
-        _ => write_requested(buf, found, request, out, size),
+        WkbType::Polygon(_) => write_polygon(buf, found, options, out, size),
+        _ => match request_of(options) {
+            Some(request) => write_requested(buf, found, request, out, size),
+            None => UNKNOWN_OPTION,
+        },
     }
 }

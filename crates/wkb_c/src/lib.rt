@@ -130,11 +130,7 @@ pub extern "C" fn wkb_raw_write(
     ensures fault_kept { IsNoRefusal result → fault.new ≡ fault.old }
 {
     match check_plain(buf) {
-        // The options are read after the check, so that they take no registers during it.
-        Some(plain) => match request_of(options) {
-            Some(request) => write_plain(buf, &plain, request, out, size),
-            None => UNKNOWN_OPTION,
-        },
+        Some(plain) => write_plain(buf, &plain, options, out, size),
         None => write_any(buf, options, out, size, fault),
     }
 }

@@ -1,11 +1,12 @@
 -- The encoding is put piece by piece.
 use Rattle.std.proofs.Common.{◌≡◌, ℕ, ◌+◌, ◌≤◌, List, [], ◌++◌, length, sym, ap, ◌∙◌, arith, length-append, nat_lt}
-use Rattle.std.proofs.Common.{true, append-nil, refl}
+use Rattle.std.proofs.Common.{true, append-nil, refl, map}
 use lib.Seq.{sets}
-use Rattle.wkb_laws.specs.Prelude.{Endianness, Form, inner}
+use Rattle.wkb_laws.specs.Prelude.{Endianness, Form, inner, encoding, geometry_of}
 use Rattle.wkb_check.specs.declared.pieces.Piece.{Piece}
 use Rattle.wkb_check.specs.declared.pieces.Pieces.{Pieces}
-use Rattle.wkb_check.specs.Pieces.{own_end, IsPieceAt}
+use Rattle.wkb_check.specs.Bounded.{HasGeometry}
+use Rattle.wkb_check.specs.Pieces.{own_end, IsPieceAt, IsTaken, pieces_of}
 use Rattle.wkb_check.proofs.Placing.{sets_after, own_piece, leaf_of, geometry_inside}
 use Rattle.wkb_check.specs.declared.answer.Summary.{Summary}
 use Rattle.wkb_check.specs.Public.{DescribesFront}
@@ -58,6 +59,37 @@ module _ {buf : List ℕ} {order : Endianness} {form : Form} {w : Pieces} {at : 
           ∙ l.put;
       long = put_length p ∙ l.long;
     }
+
+-- the first piece comes first, and then the others are left
+module _ {buf : List ℕ} (order : Endianness) (form : Form) (g : HasGeometry buf) {w : Pieces} {p : Piece}
+    (taken : IsTaken w (pieces_of 0 g.spelled g.value) p) where
+  abbrev first_own : List ℕ
+  first_own = share_encoding order form (share_in buf p)
+
+  abbrev first_others : List ℕ
+  first_others = shares_encoding order (inner form) (map (share_in buf) taken.rest)
+
+  first_all : encoding order form (geometry_of g.value) ≡ first_own ++ first_others
+  first_all =
+      sym (encoded order form g)
+      ∙ ap (shares_encoding order form)
+      (sym (pieces_say buf 0 g.spelled g.value g.rest g.begins) ∙ ap (map (share_in buf)) taken.first)
+
+  pub first_room : (out : List ℕ) → length (encoding order form (geometry_of g.value)) ≤ length out
+      → HasRoomAt out 0 (share_encoding order form (share_in buf p))
+  first_room out fits = omega (arith, fits, ap length first_all, length-append first_own first_others)
+
+  pub first_left : {to : ℕ} {out with : List ℕ} → w.bytes.now ≡ buf
+      → IsPut out with 0 to (share_encoding order form (share_in buf p))
+      → Left buf order (inner form) w to with out (encoding order form (geometry_of g.value))
+  first_left {to = to} {out = out} same put = record {
+    shares = map (share_in buf) taken.rest;
+    rest = record { pieces = taken.rest; ahead = taken.ahead; bytes = same; say = refl };
+    size = omega (arith, put.end_is, ap length first_all, length-append first_own first_others);
+    put = ap (λ z. sets z to first_others) put.put ∙ sets_after out 0 to first_own first_others put.end_is
+        ∙ ap (sets out 0) (sym first_all);
+    long = put_length put;
+  }
 
 -- a geometry with coordinates is one piece, and its encoding is that piece's
 module _ {buf : List ℕ} {found : Summary} (d : DescribesFront buf found) {p : Piece} (first : IsPieceAt buf 0 p)

@@ -1,10 +1,10 @@
 -- The pieces that are to come, and what they say.
-use Rattle.std.proofs.Common.{◌≡◌, ℕ, ◌≤◌, ◌<◌, List, [], ◌∷◌, length, map, Option, Some, None, refl, sym, ap, ◌∙◌}
+use Rattle.std.proofs.Common.{◌≡◌, ℕ, ◌≤◌, List, [], ◌∷◌, length, map, Option, Some, None, refl, sym, ap, ◌∙◌}
 use Rattle.std.proofs.Common.{subst, arith, ◌↔◌, IsTrue, is_some, Bool, true, false, not}
 use Rattle.wkb_check.specs.declared.pieces.Piece.{Piece}
 use Rattle.wkb_check.specs.declared.pieces.Pieces.{Pieces}
 use Rattle.wkb_check.specs.Bounded.{HasGeometry}
-use Rattle.wkb_check.specs.Pieces.{own_end, pieces_of, bytes_left, IsAhead, HasAhead, IsNext, Steps}
+use Rattle.wkb_check.specs.Pieces.{own_end, pieces_of, IsAhead, HasAhead, IsNext, Steps}
 use Rattle.wkb_rewrite.specs.Shares.{Share, share_in}
 use Rattle.wkb_rewrite.proofs.ValueShares.{shares_of}
 use Rattle.wkb_rewrite.proofs.Spelled.{pieces_say}
@@ -45,10 +45,6 @@ next_taken {buf = buf} r s =
       first = sym r.say ∙ ap (map (share_in buf)) one.first;
       left = record { pieces = one.rest; ahead = one.ahead; bytes = s.same ∙ r.bytes; say = refl };
     }
-
--- fewer bytes are left
-pub fewer_left : {old new : Pieces} {p : Piece} → Steps old (Some p) new → bytes_left new < bytes_left old
-fewer_left s = omega (arith, s.further, s.inside.ends, s.inside.inside, ap length s.same)
 
 pub nothing_ahead : {old new : Pieces} {ps : List Piece} {r : Option Piece} → IsAhead old ps → r ≡ None
     → Steps old r new → ps ≡ []

@@ -38,7 +38,7 @@ fn are_alike(a: &[u8], x: &Piece, b: &[u8], y: &Piece) -> bool
 
 /// Whether the pieces of two geometries are alike, one after another. It looks at no order, no code and no SRID, and
 /// ends at the first difference.
-#[tactic(auto, using(crate::proofs::Walks::fewer_left))]
+#[tactic(auto, using(wkb_check::proofs::Following::fewer_left))]
 fn have_like_pieces(a: &[u8], b: &[u8]) -> bool
     requires first { HasGeometry a.now }
     requires second { HasGeometry b.now }

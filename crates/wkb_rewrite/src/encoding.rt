@@ -7,15 +7,16 @@ ghost use Rattle.wkb_geom.specs.declared.header.TheConstants.{SRID_SIZE};
 ghost use Rattle.wkb_geom.specs.Encodings.{form_srid};
 ghost use Rattle.wkb_geom.specs.Reading.{type_kind};
 ghost use Rattle.wkb_check.specs.Bounded.{HasGeometry};
+ghost use Rattle.wkb_check.specs.Pieces.{IsPieceAt};
 ghost use Rattle.wkb_check.specs.Public.{DescribesFront};
 ghost use Rattle.wkb_rewrite.specs.Targets.{IsFrontSize, FrontFits, PutsFront};
 
 use crate::copied::Copied;
 use crate::put::{put_piece, put_piece_of};
 use wkb_check::{Piece, Pieces, Summary, size_of_srid};
-use wkb_geom::Form;
 use wkb_geom::code::MULTI_POINT;
 use wkb_geom::header::SRID_SIZE;
+use wkb_geom::{Endianness, Form};
 use wkb_sink::WriteOptions;
 
 /// The SRID that is written under a form.
@@ -60,7 +61,7 @@ pub fn encoded_size(buf: &[u8], found: &Summary, form: Form) -> usize
 
 /// Puts the encoding of a geometry that is known to be at the start of these bytes at the start of a slice, which has
 /// room for it, and returns its size. What comes after it in the slice stays as it was.
-#[tactic(auto, using(crate::proofs::Walks::fewer_left))]
+#[tactic(auto, using(wkb_check::proofs::Following::fewer_left))]
 pub fn put_pieces(buf: &[u8], options: WriteOptions, out: &mut [u8]) -> usize
     requires here { HasGeometry buf.now }
     requires room { FrontFits buf.now options out.old }
@@ -94,6 +95,53 @@ pub fn put_encoding(buf: &[u8], found: &Summary, options: WriteOptions, out: &mu
     match Copied::of(buf, found, options) {
         Some(copied) => copied.put(out),
         None => put_pieces(buf, options, out),
+    }
+}
+
+/// Puts the encoding of a polygon that begins with this piece at the front of a slice.
+///
+/// Its rings follow one another, and no other piece follows them, so that each is put by short code.
+#[tactic(auto, using(wkb_check::proofs::Following::fewer_left))]
+#[inline(always)]
+fn put_rings(buf: &[u8], first: &Piece, options: WriteOptions, out: &mut [u8])
+    requires here { HasGeometry buf.now }
+    requires first { IsPieceAt buf.now 0 first.now }
+    requires polygon { first.now.kind ≡ POLYGON }
+    requires room { FrontFits buf.now options out.old }
+    ensures put { PutsFront buf.now options out.old out.new }
+{
+    let mut pieces = Pieces::behind(buf, first);
+    let mut at = put_piece(buf, first, options, out, 0);
+    let inner = WriteOptions {
+        endianness: options.endianness,
+        form: options.form.inner(),
+    };
+    while let Some(ring) = pieces.next_if_ring() {
+        at = put_piece(buf, &ring, inner, out, at);
+    }
+}
+
+/// As `put_encoding`, for a polygon.
+#[inline(always)]
+pub fn put_polygon(buf: &[u8], found: &Summary, options: WriteOptions, out: &mut [u8])
+    requires here { DescribesFront buf.now found.now }
+    requires kind { type_kind found.now.wkb_type ≡ POLYGON }
+    requires room { FrontFits buf.now options out.old }
+    ensures put { PutsFront buf.now options out.old out.new }
+{
+    let first = Piece::polygon(buf, found);
+    let form = options.form;
+    // In the first two arms both orders are constants, for which the call is compiled.
+    match (first.order, options.endianness) {
+        (Endianness::BigEndian, Endianness::LittleEndian) => {
+            let endianness = Endianness::LittleEndian;
+            put_rings(buf, &first, WriteOptions { endianness, form }, out);
+        }
+        (Endianness::LittleEndian, Endianness::BigEndian) => {
+            let endianness = Endianness::BigEndian;
+            put_rings(buf, &first, WriteOptions { endianness, form }, out);
+        }
+        _ => put_rings(buf, &first, options, out),
     }
 }
 

@@ -10,4 +10,6 @@ mod put;
 
 pub use comparison::have_one_value;
 pub use copied::Copied;
-pub use encoding::{encoded_size, put_encoding, put_one_piece, put_pieces, size_with_own_srid};
+pub use encoding::{
+    encoded_size, put_encoding, put_one_piece, put_pieces, put_polygon, size_with_own_srid,
+};

@@ -1,0 +1,21 @@
+use Rattle.std.proofs.Common.{◌≡◌, arith}
+use Rattle.wkb_rewrite.proofs.Measured.{here, kind_of}
+use Rattle.wkb_rewrite.proofs.encoding.put_polygon.Goals as goal
+use Rattle.wkb_rewrite.proofs.encoding.put_polygon.Goals.{After-polygon-first}
+
+polygon : (c : After-polygon-first) → c.polygon-first.result.kind ≡ 3
+polygon c =
+    let g = here c.requires.here in
+    omega (arith, c.requires.kind, kind_of c.requires.here g _ (c.polygon-first.ensures g))
+
+pub put_rings-requires-clause-polygon : goal.put_rings-requires-clause-polygon
+put_rings-requires-clause-polygon c = polygon (goal.at.put_rings-requires-clause-polygon c).After-polygon-first
+
+pub put_rings-requires-in-LittleEndian-BigEndian-clause-polygon :
+    goal.put_rings-requires-in-LittleEndian-BigEndian-clause-polygon
+put_rings-requires-in-LittleEndian-BigEndian-clause-polygon c =
+    polygon (goal.at.put_rings-requires-in-LittleEndian-BigEndian-clause-polygon c).After-polygon-first
+
+pub put_rings-requires-in_default-clause-polygon : goal.put_rings-requires-in_default-clause-polygon
+put_rings-requires-in_default-clause-polygon c =
+    polygon (goal.at.put_rings-requires-in_default-clause-polygon c).After-polygon-first
