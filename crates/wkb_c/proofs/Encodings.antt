@@ -137,7 +137,7 @@ not_unknown : {status : ℕ} → (status ≡ OK) ⊎ (status ≡ NO_ROOM) → st
 not_unknown (inl e) told = omega (arith, e, told)
 not_unknown (inr e) told = omega (arith, e, told)
 
--- what a call says that wrote for options
+-- the answer of a call that wrote for options
 pub asked_encodes : {o : Options} {input before after : List ℕ} {status size size' : ℕ}
     → WritesAsked o input before after status size size' → (fault : WkbFault)
     → Encodes o input before after size size' fault fault status

@@ -43,8 +43,8 @@ pub record WantsRoom (o : Options) (input before : List ℕ) (size : ℕ) : Type
   pub asked : request_of o ≡ Some request
   pub lacks : FindsNoRoom request input before size
 
--- What is done for options, where a check has found the geometry: the encoding that they ask for is written, or doesn't
--- fit its room; or they mean nothing.
+-- The effect of options, after a check has found the geometry: the encoding that they request is written, or doesn't
+-- fit the capacity; or they mean nothing.
 pub data WritesAsked (o : Options) (input before after : List ℕ) (status size size' : ℕ) : Type 0 where
   meant : (request : Request) → request_of o ≡ Some request
       → WritesRequested request input before after status size'

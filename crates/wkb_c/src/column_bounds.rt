@@ -34,7 +34,7 @@ fn bound_row(column: &Column, i: usize, reach: &mut u64, found: &mut Bounds) -> 
     }
 }
 
-/// Puts the bounds of a row by the long way, or returns the status of its refusal.
+/// Puts the bounds of a row by the long way, or returns the status of its error.
 ///
 /// It isn't inlined, so that other rows don't pay for its frame.
 #[inline(never)]

@@ -54,7 +54,7 @@ pub fn write_requested(
     OK
 }
 
-/// As `write_requested` for what the options ask for, for a geometry that is one piece: a point or a line string.
+/// As `write_requested` for these options, for a geometry that is one piece: a point or a line string.
 ///
 /// It isn't inlined, so that other geometries don't pay for its frame.
 #[inline(never)]
@@ -108,7 +108,7 @@ fn write_polygon(
     OK
 }
 
-/// As `write_requested` for what the options ask for, if they mean something, by shorter code for some kinds.
+/// As `write_requested` for these options, if they mean something, by shorter code for some kinds.
 ///
 /// These read the options themselves, so that they take no registers during the check, and no place in memory.
 #[inline(always)]

@@ -94,7 +94,7 @@ pub extern "C" fn wkb_raw_bounds(buf: &[u8], bounds: &mut Bounds, fault: &mut Wk
     bound_any(buf, bounds, fault)
 }
 
-/// Puts the bounds by the long way, which collections and refused bytes need.
+/// Puts the bounds by the long way, which collections and rejected bytes need.
 ///
 /// It isn't inlined, so that other bytes don't pay for its frame.
 #[inline(never)]

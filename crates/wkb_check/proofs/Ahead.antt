@@ -100,7 +100,7 @@ piece_is : (at : ℕ) (s : Spelling) (t : Value) {k : ℕ} {d : Dimension} {orde
     (piece_of at s t)
 piece_is at (node h words ss) t is n offset count_is offset_is = cc
 
--- what the check found is what the header says
+-- the check found what the header says
 pub found_header : {buf : List ℕ} {found : Summary} → DescribesFront buf found → {k : ℕ} {d : Dimension}
     → k ≡ type_kind found.wkb_type → d ≡ type_dimension found.wkb_type
     → IsHeaderAt buf 0 k d found.order found.srid
@@ -115,7 +115,7 @@ found_header f k_is d_is = λ g.
       srid_is = f.described.srid;
     })
 
--- what the header of a geometry says of its piece
+-- the header of a geometry determines its piece
 pub piece_by : (at : ℕ) (s : Spelling) (t : Value) {k : ℕ} {d : Dimension} {order : Endianness} {srid : Option ℕ}
     → HeaderIs s t k d order srid → (p : Piece) → p ≡ piece_of at s t
     → record { kind_is : p.kind ≡ k; dimension_is : p.dimension ≡ d; order_is : p.order ≡ order }

@@ -204,7 +204,7 @@ impl AxisRanks {
         self.m.widen_at(m, order, dimension, count, bytes);
     }
 
-    /// As `widen`, by coordinates of an x and a y. Where it is inlined the order is a constant.
+    /// As `widen`, by coordinates of an x and a y. If it is inlined, the order is a constant.
     #[inline(always)]
     pub(crate) fn widen_xy(&mut self, order: Endianness, count: u32, bytes: &[u8])
         requires whole { XY_SIZE * count ≤ length bytes.now }

@@ -118,7 +118,7 @@ impl Piece {
         Piece::of_header(bytes, 0, kind, dimension, found.order, found.srid)
     }
 
-    /// As `outermost`, of a polygon: where it is inlined the kind is a constant.
+    /// As `outermost`, of a polygon: if it is inlined, the kind is a constant.
     #[inline(always)]
     pub fn polygon(bytes: &[u8], found: &Summary) -> Piece
         requires here { DescribesFront bytes.now found.now }
@@ -229,7 +229,7 @@ impl<'a> Pieces<'a> {
         }
     }
 
-    /// The next piece, if it is a ring. No geometry follows the rings, so that it is what `next` gives.
+    /// The next piece, if it is a ring. No geometry follows the rings, so it is the one that `next` returns.
     #[inline(always)]
     pub fn next_if_ring(&mut self) -> Option<Piece>
         requires ahead { HasAhead self.old }

@@ -51,7 +51,7 @@ fn only_piece(buf: &[u8], found: &Summary) -> Option<Piece>
     }
 }
 
-/// Puts the bounds of a polygon of x and y in an order that is a constant where this is inlined.
+/// Puts the bounds of a polygon of x and y in an order that is a constant if this is inlined.
 #[tactic(auto, using(crate::proofs::Following::fewer_left))]
 #[inline(always)]
 fn put_bounds_of_rings_in(buf: &[u8], order: Endianness, srid: Option<u32>, bounds: &mut Bounds)
@@ -69,8 +69,8 @@ fn put_bounds_of_rings_in(buf: &[u8], order: Endianness, srid: Option<u32>, boun
     *bounds = ranks.bounds();
 }
 
-/// Puts the bounds of a polygon of x and y, with a loop for each order. It takes scalars, so that what was found of
-/// other geometries needs no place in memory.
+/// Puts the bounds of a polygon of x and y, with a loop for each order. It takes scalars, so that the findings on other
+/// geometries need no place in memory.
 #[inline(never)]
 fn put_bounds_of_rings(buf: &[u8], order: Endianness, srid: Option<u32>, bounds: &mut Bounds)
     requires here { HasGeometry buf.now }
@@ -129,7 +129,7 @@ fn put_bounds_of_front(buf: &[u8], bounds: &mut Bounds)
     *bounds = ranks.bounds();
 }
 
-/// Puts the bounds of the geometry at the front of the bytes, if `check_plain` finds it. Else [`put_any_bounds`] has to
+/// Puts the bounds of the geometry at the start of the bytes, if `check_plain` finds it. Else [`put_any_bounds`] has to
 /// look.
 ///
 /// It returns no `Result`, which would need a place in memory.

@@ -98,7 +98,7 @@ pub fn put_encoding(buf: &[u8], found: &Summary, options: WriteOptions, out: &mu
     }
 }
 
-/// Puts the encoding of a polygon that begins with this piece at the front of a slice.
+/// Puts the encoding of a polygon that begins with this piece at the start of a slice.
 ///
 /// Its rings follow one another, and no other piece follows them, so that each is put by short code.
 #[tactic(auto, using(wkb_check::proofs::Following::fewer_left))]
