@@ -224,7 +224,7 @@ class Shown(judge.Judge):
         (PAGE, "", "    make -C c lost\n\n", "no Makefile has lost"),
         (PAGE, "", "It prints `what is lost`.\n\n", "no source prints `what is lost`"),
         ("docs/API.md", "##", "#", "makes another one"),
-        ("docs/pictures/speed.svg", ">19 Porch", ">18 Porch", "speed.svg: `tools/bars --write` makes another one"),
+        ("docs/pictures/speed.svg", " OGR</text>", " ORG</text>", "speed.svg: `tools/bars --write` makes another one"),
         ("crates/wkb_cases/src/columns.rt", "let mut written", "let mut put", "no proved code has"),
     ]
 

@@ -60,12 +60,12 @@ def cases():
     accepted, why = run(("le",), POINT)[1], "refused: end of input\n"
     return {
         "the input is accepted": [(("le",), {"text": POINT}, accepted)],
-        "the input is refused": [
+        "the input is rejected": [
             (("le",), {"text": REFUSED}, why),
             (("cost",), {"text": REFUSED}, "refused turns 1 slots 0\n"),
         ],
         "the input is not lines of hex": [(("le",), {"text": text}, "not hex\n") for text in ("0g", "0")],
-        "another number of lines than the command takes": [
+        "has the wrong number of lines for the command": [
             (("le",), {"text": f"{POINT}\n{POINT}\n"}, "not hex\n"),
             (("same",), {"text": POINT}, "not hex\n"),
         ],
@@ -76,7 +76,7 @@ def cases():
         "the input can't be read": [(("le",), {"stdin": "/"}, "")],
         "the output can't be written": [(("le",), {"text": POINT, "stdout": "/dev/full"}, "")],
         "an argument isn't UTF-8": [((b"\xff",), {"text": POINT}, "")],
-        "there is no memory for the arguments": [],
+        "allocating the arguments failed": [],
     }
 
 
@@ -93,7 +93,7 @@ def wrong_statuses():
     """The rows of statuses that a run of the program contradicts."""
     known, seen = cases(), set()
     for number, heads, row in rows_of("docs/PROGRAM.md"):
-        for when in re.split(r", or |, | or (?=there)", row[1]) if heads == ["status", "when", "line"] else []:
+        for when in re.split(r", or |, ", row[1]) if heads == ["status", "when", "line"] else []:
             seen.add(when)
             if when not in known:
                 yield f"docs/PROGRAM.md:{number}: no run shows `{when}`"
@@ -119,7 +119,7 @@ def wrong_commands():
     """The rows of commands that a run of the program contradicts; other output is on the page itself."""
     commands = []
     for number, heads, row in rows_of("docs/PROGRAM.md"):
-        for command in spans(row[0]) if heads == ["command", "what it prints"] else []:
+        for command in spans(row[0]) if heads == ["command", "output"] else []:
             commands.append(command)
             if command[-2:] in ("le", "be") and run((command,), POLYGON)[1] != written(command, row[1]):
                 yield f"docs/PROGRAM.md:{number}: {command} prints {run((command,), POLYGON)[1][:40]}.."
@@ -294,8 +294,8 @@ class Program(judge.Judge):
     """The program agrees with docs/PROGRAM.md."""
 
     controls = [
-        (PAGE, "| 1 | the input is refused", "| 2 | the input is refused", "the input is refused: the program"),
-        (PAGE, "takes | `not hex` |", "takes | `no hex` |", "the input is not lines of hex: the program"),
+        (PAGE, "| 1 | the input is rejected", "| 2 | the input is rejected", "the input is rejected: the program"),
+        (PAGE, "command | `not hex` |", "command | `no hex` |", "the input is not lines of hex: the program"),
         (PAGE, "failed | `out of memory` |", "failed | nothing |", "an allocation failed: the program"),
         (PAGE, "can't be written | a prefix", "can't be opened | a prefix", "`the output can't be opened`"),
         (PAGE, "an allocation failed", "no allocation failed", "no row of the statuses says `an allocation failed`"),
