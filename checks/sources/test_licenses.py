@@ -84,3 +84,10 @@ class Sbom(unittest.TestCase):
         held = re.findall(r"(?m)^of-the-kit (.*)$", text_of("c/proved/PROVED"))
         self.assertIn(", ".join(held) or "none by name", kit["comment"])
         self.assertEqual(kit["licenseDeclared"], "NOASSERTION")
+
+    def test_the_library_has_the_licence_of_its_assembly(self):
+        library = next(it for it in self.sbom["packages"] if it["name"] == "porchsorrel-wkb-c")
+        stated = re.search(r'path = "c/proved/\*\.s"(?s:.*?)SPDX-License-Identifier = "(.*)"', text_of("REUSE.toml"))[1]
+        self.assertEqual(library["licenseDeclared"], stated)
+        named = {it["licenseId"] for it in self.sbom["hasExtractedLicensingInfos"]}
+        self.assertEqual({*re.findall(r"LicenseRef-[\w-]+", stated)}, named)
