@@ -112,14 +112,6 @@ pub fn supported_dimension(dim: Dimensions) -> Dimension
     dimension_to_write(dim)
 }
 
-/// The form's SRID, if it has one, fits four bytes. This stands for the proof alone.
-#[inline(always)]
-pub fn form_fits(form: Form)
-    ensures { IsForm form }
-{
-    length_of_header(form);
-}
-
 /// The size that was measured and that of the header, where `usize` holds their sum.
 #[inline]
 #[tactic(auto, using(crate::proofs::Sizes::size_laws))]

@@ -8,7 +8,7 @@ ghost use Rattle.wkb_write.specs.Prelude.{Lays, PutsGeometry, TellsPut, CopiesTo
 ghost use Rattle.wkb_write.specs.Prelude.{TellsFailure, MIN_BLOCK, result_of};
 
 use crate::checked::Checked;
-use crate::measure::{Measured, form_fits, refuse, size_of, whole_size};
+use crate::measure::{Measured, refuse, size_of, whole_size};
 use crate::{Sink, VecSink, WriteOptions};
 use std::alloc::{AllocError, Global};
 use std::io;
@@ -17,6 +17,7 @@ use std::marker::PhantomData;
 use wkb_geom::{Fault, Form, WkbError, WkbResult};
 use wkb_sink::block::MIN_BLOCK;
 use wkb_sink::buffered::put_all;
+use wkb_sink::options::length_of_header;
 use wkb_sink::{Buffered, MAX_IN_PLACE, Stopped};
 
 /// The result of putting: nothing, or the sink stopped.
@@ -264,20 +265,13 @@ pub fn lay_whole<G, K: Writable<G>>(bytes: &mut [u8], geom: &G, options: &WriteO
     }
 }
 
-/// `bytes.len()`; as a call its result has a range in proofs.
+/// The number of bytes. That it fits `usize` is seen in proofs only by this clause.
 #[inline(always)]
 pub fn length(bytes: &[u8]) -> usize
-    ensures { result ≡ length bytes.now }
+    ensures len { result ≡ length bytes.now }
+    ensures fits { length bytes.now < 2 ^ 64 }
 {
     bytes.len()
-}
-
-// What is in memory is never rejected for its size: its length fits `usize`. This stands for the proof alone.
-#[inline(always)]
-fn length_fits(bytes: &[u8])
-    ensures { length bytes.now < 2 ^ 64 }
-{
-    length(bytes);
 }
 
 /// Writes an encoding that is in memory.
@@ -290,8 +284,9 @@ pub fn write_encoding<S: Sink>(
     requires working { S.has_failed writer.old ≡ false }
     ensures { CopiesTo S.Sink writer.old writer.new options.now bytes.now result }
 {
-    form_fits(options.form);
-    length_fits(bytes);
+    // These two calls stand for the proof alone: the SRID of the form, and the length, fit.
+    length_of_header(options.form);
+    length(bytes);
     wkb_result(put_all(writer, bytes))
 }
 
@@ -302,6 +297,7 @@ pub fn vec_of_encoding(alloc: Global, bytes: &[u8]) -> WkbResult<Vec<u8>>
     ensures err { IfErr result IsMemory }
     ensures fits { length bytes.now < 2 ^ 64 }
 {
-    length_fits(bytes);
+    // For the proof alone: the length fits.
+    length(bytes);
     Ok(Vec::from_slice(alloc, bytes)?)
 }

@@ -3,5 +3,5 @@ use Rattle.wkb_write.proofs.writable.write_encoding.Goals as goal
 
 pub returns : goal.returns
 returns g c = λ geo lawful none is.
-    let fits = encoding_fits _ _ _ is none c.length_fits.ensures in
-    put_writes _ fits lawful c.form_fits.ensures (rw is at c.put_all.ensures) c.wkb_result.ensures
+    let fits = encoding_fits _ _ _ is none c.length.ensures.fits in
+    put_writes _ fits lawful c.length_of_header.ensures.fits (rw is at c.put_all.ensures) c.wkb_result.ensures
