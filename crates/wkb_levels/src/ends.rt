@@ -124,7 +124,7 @@ impl<'w> Ends<'w> {
     }
 }
 
-/// `from + i`, which fits: it is at most `last`, or `i` is 0. `last` stands for the proof alone.
+/// `from + i`, which fits: it is at most `last`, or `i` is 0. The proof takes the bound from `last`.
 fn number_at(from: u64, i: usize, last: u64) -> u64
     requires { (i ≡ 0) ⊎ (from + i ≤ last) }
     ensures { result ≡ from + i }
@@ -132,7 +132,7 @@ fn number_at(from: u64, i: usize, last: u64) -> u64
     from + i as u64
 }
 
-/// The number `i + 1` after `from`, which is no greater than `last`, which stands for the proof alone.
+/// `from + i + 1`, which fits: it is at most `last`. The proof takes the bound from `last`.
 fn number_behind(from: u64, i: usize, last: u64) -> u64
     requires { from + i < last }
     ensures { result ≡ from + i + 1 }
@@ -140,7 +140,7 @@ fn number_behind(from: u64, i: usize, last: u64) -> u64
     from + i as u64 + 1
 }
 
-/// The end at an index.
+/// The end at an index. It is a call, since the proof sees no bound of a slice in an enum.
 fn end_at(ends: &[u64], i: usize) -> u64
     requires { i < length ends.now }
     ensures { result ≡ slice_index ends.now i }
