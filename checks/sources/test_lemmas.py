@@ -26,7 +26,6 @@ OTHERS = {
     "wkb_cases": "Places",
     "wkb_clients": "Corners Features Shapes",
     "wkb_geom": "Items Lawful Stored",
-    "wkb_levels": "Cuts Meant PointLists PolygonLists RingLists Scans",
     "wkb_write_cases": "LongLine",
 }
 

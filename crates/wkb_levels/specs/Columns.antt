@@ -1,5 +1,6 @@
 -- What the levels of a column mean.
-use Rattle.std.specs.Prelude.{ℕ, ◌<◌, ◌/◌, ◌≤◌, List, length, slice_index, slice_range}
+use Rattle.std.specs.Prelude.{ℕ, ◌+◌, ◌-◌, ◌<◌, ◌/◌, ◌≤◌, List, [], ◌∷◌, length, slice_index, slice_range}
+use Rattle.std.specs.List.{AllByRecursion}
 use Rattle.wkb_geom.specs.declared.common.Dimensions.{Dimensions}
 use Rattle.wkb_geom.specs.Dimensions.{size}
 use Rattle.wkb_levels.specs.declared.ends.Ends.{Ends}
@@ -94,3 +95,13 @@ pub record IsFloor (l : Levels) (d : Dimensions) (i : ℕ) (floor : Place) : Typ
   pub singles : IsLevelFloor (SpansSingles l) (row_end l) i floor.singles
   pub rings : IsLevelFloor (SpansRings l) (rings_end l) i floor.rings
   pub coordinates : IsLevelFloor (SpansCoordinates l d) (coordinates_end l) i floor.coordinates
+
+-- how many items of a level some rows span
+abbrev pub spanned : (ℕ → ℕ) → (ℕ → ℕ) → List ℕ → ℕ
+spanned begin end [] = 0
+spanned begin end (i ∷ rows) = end i - begin i + spanned begin end rows
+
+-- the rows are different ones, the last first
+abbrev pub AreFromLast : List ℕ → Type 0
+AreFromLast [] = Unit {0}
+AreFromLast (i ∷ rows) = AllByRecursion (λ j. j < i) rows × AreFromLast rows

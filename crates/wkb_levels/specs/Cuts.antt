@@ -1,10 +1,8 @@
 -- Lists that are cut out of one longer list by the ends of their items.
-use Rattle.std.specs.Prelude.{◌≡◌, ℕ, zero, suc, ◌+◌, ◌-◌, ◌≤◌, ◌<◌, List, [], ◌∷◌, length, All, slice_index}
+use Rattle.std.specs.Prelude.{◌≡◌, ℕ, zero, suc, ◌+◌, ◌-◌, ◌≤◌, ◌<◌, List, [], ◌∷◌, length, slice_index}
 use Rattle.std.specs.Prelude.{slice_range}
 use Rattle.std.specs.Prelude.{Option, Some, None, option_and_then}
 use Rattle.std.specs.Option.{option_map}
-use Rattle.std.specs.List.{AllByRecursion}
-use Rattle.std.proofs.lemmas.List.Elements.{All-take, All-drop, recursion_from_All}
 
 -- where item i begins, where the first begins at `start`
 abbrev pub start_at : ℕ → List ℕ → ℕ → ℕ
@@ -26,15 +24,6 @@ abbrev pub pieces_from : {A : Type 0} → ℕ → List A → ℕ → List ℕ �
 pieces_from base items start [] = []
 pieces_from base items start (e ∷ ends) =
     slice_range items (start - base) (e - base) ∷ pieces_from base items e ends
-
--- what holds of all items holds of all items of the pieces
-pub pieces-all : {A : Type 0} (P : A → Type 0) (base : ℕ) (items : List A) (start : ℕ) (ends : List ℕ) → All P items
-    → AllByRecursion (AllByRecursion P) (pieces_from base items start ends)
-pieces-all P base items start [] all = tt
-pieces-all P base items start (e ∷ ends) all = (
-  recursion_from_All P _ (All-take P (e - base - (start - base)) _ (All-drop P (start - base) items all)),
-  pieces-all P base items e ends all,
-)
 
 -- the one item of a list of one item
 abbrev pub only : {A : Type 0} → List A → Option A

@@ -5,6 +5,7 @@ pub mod PointLists
 pub mod PolygonLists
 pub mod Columns
 pub mod Meant
+pub mod Lawful
 pub mod RowWrites
 pub mod RowsLeft
 pub mod Scans

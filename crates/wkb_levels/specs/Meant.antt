@@ -1,11 +1,10 @@
 -- What a row means, and what the levels of a row mean.
-use Rattle.std.specs.Prelude.{◌≡◌, ℕ, List, map, Option, Some, None, MatchOption, option_and_then, refl}
+use Rattle.std.specs.Prelude.{◌≡◌, ℕ, List, map, Option, Some, None, MatchOption, option_and_then}
 use Rattle.std.specs.Option.{option_map}
 use Rattle.wkb_geom.specs.declared.common.Dimensions.{Dimensions}
 use Rattle.wkb_geom.specs.Geometries.{Geometry, point, line_string, polygon, multi_point, multi_line_string}
-use Rattle.wkb_geom.specs.Geometries.{multi_polygon, dimensions_of, IsGeometry}
+use Rattle.wkb_geom.specs.Geometries.{multi_polygon}
 use Rattle.wkb_plain.specs.Kinds.{point_dimensions, point_coordinate, line_string_dimensions, line_string_coordinates}
-use Rattle.wkb_plain.specs.Lawful.{point_lawful, line_string_lawful}
 use Rattle.wkb_levels.specs.declared.polygons.Polygons.{Polygons}
 use Rattle.wkb_levels.specs.declared.rings.Rings.{Rings}
 use Rattle.wkb_levels.specs.declared.single.Single.{Single}
@@ -17,8 +16,8 @@ use Rattle.wkb_levels.specs.declared.row.Kind.TheVariants as kinds
 use Rattle.wkb_levels.specs.declared.levels.Levels.{Levels}
 use Rattle.wkb_levels.specs.Columns.{AreRowLevels, IsClear, singles_of}
 use Rattle.wkb_levels.specs.Cuts.{only, only_each}
-use Rattle.wkb_levels.specs.RingLists.{rings_dimensions, rings_rings, rings_lawful}
-use Rattle.wkb_levels.specs.PointLists.{points_dimensions, points_points, points_lawful}
+use Rattle.wkb_levels.specs.RingLists.{rings_dimensions, rings_rings}
+use Rattle.wkb_levels.specs.PointLists.{points_dimensions, points_points}
 use Rattle.wkb_levels.specs.PolygonLists.{polygons_dimensions, polygons_polygons}
 
 -- ---- a row
@@ -36,20 +35,6 @@ single_meant (singles.LineString l) = line_string (line_string_dimensions l) (li
 single_meant (singles.Polygon p) = polygon (rings_dimensions p) (rings_rings p)
 single_meant (singles.MultiPoint m) = multi_point (points_dimensions m) (points_points m)
 single_meant (singles.MultiLineString m) = multi_line_string (rings_dimensions m) (rings_rings m)
-
-pub single_has_one_dimension : (s : Single) → dimensions_of (single_meant s) ≡ single_dimensions s
-single_has_one_dimension (singles.Point p) = refl
-single_has_one_dimension (singles.LineString l) = refl
-single_has_one_dimension (singles.Polygon p) = refl
-single_has_one_dimension (singles.MultiPoint m) = refl
-single_has_one_dimension (singles.MultiLineString m) = refl
-
-pub single_lawful : (s : Single) → IsGeometry (single_meant s)
-single_lawful (singles.Point p) = point_lawful p
-single_lawful (singles.LineString l) = line_string_lawful l
-single_lawful (singles.Polygon p) = rings_lawful p
-single_lawful (singles.MultiPoint m) = points_lawful m
-single_lawful (singles.MultiLineString m) = rings_lawful m
 
 abbrev pub row_meant : Row → Geometry
 row_meant (rows.Single s) = single_meant s

@@ -1,15 +1,12 @@
 -- What polygons one after another mean.
 use Rattle.std.specs.Prelude.{ℕ, List}
-use Rattle.std.specs.List.{AllByRecursion}
-use Rattle.std.proofs.lemmas.List.Elements.{All-from_recursion}
 use Rattle.wkb_geom.specs.declared.common.Dimensions.{Dimensions}
-use Rattle.wkb_geom.specs.Geometries.{AreCoordinates}
 use Rattle.wkb_levels.specs.declared.ends.Ends.{Ends}
 use Rattle.wkb_levels.specs.declared.polygons.Polygons.{Polygons}
 use Rattle.wkb_levels.specs.declared.rings.Rings.{Rings}
-use Rattle.wkb_levels.specs.Cuts.{pieces_from, pieces-all}
+use Rattle.wkb_levels.specs.Cuts.{pieces_from}
 use Rattle.wkb_levels.specs.EndLists.{start_of, ends_of}
-use Rattle.wkb_levels.specs.RingLists.{rings_dimensions, rings_rings, rings_lawful}
+use Rattle.wkb_levels.specs.RingLists.{rings_dimensions, rings_rings}
 
 -- the polygons of these rings that end here; the first begins with the first ring
 abbrev pub polygons_of : Rings → Ends → List (List (List (List ℕ)))
@@ -20,10 +17,3 @@ polygons_dimensions p = rings_dimensions p.rings
 
 abbrev pub polygons_polygons : Polygons → List (List (List (List ℕ)))
 polygons_polygons p = polygons_of p.rings p.ends
-
-pub polygons_lawful : (p : Polygons)
-    → AllByRecursion (AllByRecursion (AreCoordinates (polygons_dimensions p))) (polygons_polygons p)
-polygons_lawful p =
-    pieces-all (AreCoordinates (polygons_dimensions p)) (start_of p.ends) (rings_rings p.rings) (start_of p.ends)
-    (ends_of p.ends)
-    (All-from_recursion (AreCoordinates (polygons_dimensions p)) _ (rings_lawful p.rings))

@@ -1,15 +1,11 @@
 -- What rings one after another mean.
 use Rattle.std.specs.Prelude.{ℕ, ◌+◌, ◌/◌, ◌<◌, List, length}
-use Rattle.std.specs.List.{AllByRecursion}
-use Rattle.std.proofs.lemmas.List.Elements.{All-from_recursion}
 use Rattle.wkb_geom.specs.declared.common.Dimensions.{Dimensions}
 use Rattle.wkb_geom.specs.Dimensions.{size}
-use Rattle.wkb_geom.specs.Geometries.{IsCoordinate, AreCoordinates}
 use Rattle.wkb_plain.specs.Runs.{coordinates_in}
-use Rattle.wkb_plain.specs.Lawful.{coordinates_in-lawful}
 use Rattle.wkb_levels.specs.declared.rings.Rings.{Rings}
 use Rattle.wkb_levels.specs.declared.ends.Ends.{Ends}
-use Rattle.wkb_levels.specs.Cuts.{pieces_from, pieces-all}
+use Rattle.wkb_levels.specs.Cuts.{pieces_from}
 use Rattle.wkb_levels.specs.EndLists.{start_of, ends_of, AreEndsWithin}
 
 -- the rings of the coordinates in some words
@@ -29,8 +25,3 @@ FitWords d words e = (0 < size d) × AreEndsWithin (length words / size d) e
 -- the ends of polygons don't fall or pass these rings, the first of which is where the first polygon begins
 abbrev pub FitRings : Rings → Ends → Type 0
 FitRings r e = AreEndsWithin (start_of e + length (rings_rings r)) e
-
-pub rings_lawful : (r : Rings) → AllByRecursion (AreCoordinates (rings_dimensions r)) (rings_rings r)
-rings_lawful r =
-    pieces-all (IsCoordinate r.dim) 0 (coordinates_in r.dim r.words.now) (start_of r.ends) (ends_of r.ends)
-    (All-from_recursion (IsCoordinate r.dim) _ (coordinates_in-lawful r.dim r.words.now r.in_range))

@@ -1,5 +1,5 @@
--- No item of a level is looked at for two rows: rows that are clear span none together.
-use Rattle.std.specs.Prelude.{ℕ, ◌+◌, ◌-◌, ◌/◌, ◌≤◌, ◌<◌, List, [], ◌∷◌, length}
+-- Lemmas: no item of a level is looked at for two rows, since rows that are clear span none together.
+use Rattle.std.specs.Prelude.{ℕ, ◌/◌, ◌≤◌, ◌<◌, List, [], ◌∷◌, length}
 use Rattle.std.proofs.Common.{arith}
 use Rattle.std.specs.List.{AllByRecursion}
 use Rattle.wkb_geom.specs.declared.common.Dimensions.{Dimensions}
@@ -7,17 +7,7 @@ use Rattle.wkb_geom.specs.Dimensions.{size}
 use Rattle.wkb_levels.specs.declared.levels.Levels.{Levels}
 use Rattle.wkb_levels.specs.EndLists.{ends_of}
 use Rattle.wkb_levels.specs.Columns.{row_begin, row_end, rings_begin, rings_end, coordinates_begin, coordinates_end}
-use Rattle.wkb_levels.specs.Columns.{SpansSingles, SpansRings, SpansCoordinates, EndUpTo, IsClear}
-
--- how many items of a level some rows span
-abbrev pub spanned : (ℕ → ℕ) → (ℕ → ℕ) → List ℕ → ℕ
-spanned begin end [] = 0
-spanned begin end (i ∷ rows) = end i - begin i + spanned begin end rows
-
--- the rows are different ones, the last first
-abbrev pub AreFromLast : List ℕ → Type 0
-AreFromLast [] = Unit {0}
-AreFromLast (i ∷ rows) = AllByRecursion (λ j. j < i) rows × AreFromLast rows
+use Rattle.wkb_levels.specs.Columns.{SpansSingles, SpansRings, SpansCoordinates, EndUpTo, IsClear, spanned, AreFromLast}
 
 -- a row spans items of the level, and begins behind the earlier rows that do
 record Stands (Spans : ℕ → Type 0) (begin end : ℕ → ℕ) (i : ℕ) : Type 0 where

@@ -2,7 +2,8 @@
 
 ghost use Rattle.std.specs.Prelude.{◌≡◌, map, Some};
 ghost use Rattle.wkb_plain.specs.Kinds.{line_string_dimensions, line_string_coordinates};
-ghost use Rattle.wkb_levels.specs.PointLists.{points_dimensions, points_points, points_lawful};
+ghost use Rattle.wkb_levels.specs.PointLists.{points_dimensions, points_points};
+ghost use Rattle.wkb_levels.specs.Lawful.{points_lawful};
 
 use wkb_geom::{Dimensioned, Dimensions, LineStringTrait, MultiPointTrait};
 use wkb_plain::{LineString, Point};

@@ -87,7 +87,8 @@ impl Dimensioned for Polygons<'_> {
 
 #[tactic(auto, using(crate::proofs::Pieces::piece_laws))]
 impl<'w> MadePolygons for Polygons<'w> {
-    ghost use Rattle.wkb_levels.specs.PolygonLists.{polygons_polygons, polygons_lawful};
+    ghost use Rattle.wkb_levels.specs.PolygonLists.{polygons_polygons};
+    ghost use Rattle.wkb_levels.specs.Lawful.{polygons_lawful};
 
     type MadePolygon = Rings<'w>;
 

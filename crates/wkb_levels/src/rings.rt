@@ -129,7 +129,8 @@ impl Dimensioned for Rings<'_> {
 
 #[tactic(auto, using(crate::proofs::Pieces::piece_laws))]
 impl<'w> PolygonTrait for Rings<'w> {
-    ghost use Rattle.wkb_levels.specs.RingLists.{rings_rings, rings_lawful};
+    ghost use Rattle.wkb_levels.specs.RingLists.{rings_rings};
+    ghost use Rattle.wkb_levels.specs.Lawful.{rings_lawful};
 
     type RingType = LineString<'w>;
 
@@ -156,7 +157,8 @@ impl<'w> PolygonTrait for Rings<'w> {
 
 #[tactic(auto, using(crate::proofs::Pieces::piece_laws))]
 impl<'w> MultiLineStringTrait for Rings<'w> {
-    ghost use Rattle.wkb_levels.specs.RingLists.{rings_rings, rings_lawful};
+    ghost use Rattle.wkb_levels.specs.RingLists.{rings_rings};
+    ghost use Rattle.wkb_levels.specs.Lawful.{rings_lawful};
 
     type InnerLineStringType = LineString<'w>;
 
