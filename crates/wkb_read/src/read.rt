@@ -24,6 +24,9 @@ pub(crate) mod stack;
 /// The most collections that may be nested in one another; the 129th is rejected.
 pub const MAX_WKB_NESTING_DEPTH: usize = MAX_NESTING;
 
+/// What a read has cost when it begins.
+const NO_COUNTS: Counts = Counts { turns: 0, slots: 0 };
+
 /// Reads the geometry at the start of the bytes; the bytes after it are not looked at.
 ///
 /// A refusal is the first fault from left to right: `IOError` where a header or a count is cut short, `General` for a
@@ -38,7 +41,8 @@ pub const MAX_WKB_NESTING_DEPTH: usize = MAX_NESTING;
 pub fn read_wkb<'a>(alloc: Global, buf: &'a [u8]) -> WkbResult<Wkb<'a>>
     ensures { Reads buf.now result }
 {
-    read_and_count(alloc, buf, &mut Counts { turns: 0, slots: 0 })
+    let mut counts = NO_COUNTS;
+    read_and_count(alloc, buf, &mut counts)
 }
 
 /// Reads as `read_wkb` does, and counts what it cost, whatever the result.
@@ -46,7 +50,7 @@ pub fn read_wkb_counted<'a>(alloc: Global, buf: &'a [u8]) -> (WkbResult<Wkb<'a>>
     ensures reads { Reads buf.now result.0 }
     ensures costs { Costs buf.now result.0 result.1 }
 {
-    let mut counts = Counts { turns: 0, slots: 0 };
+    let mut counts = NO_COUNTS;
     let result = read_and_count(alloc, buf, &mut counts);
     (result, counts)
 }
@@ -57,7 +61,7 @@ fn read_and_count<'a>(alloc: Global, buf: &'a [u8], counts: &mut Counts) -> WkbR
     ensures reads { Reads buf.now result }
     ensures costs { Costs buf.now result counts.new }
 {
-    *counts = Counts { turns: 0, slots: 0 };
+    *counts = NO_COUNTS;
     match read_geometry(alloc, buf, counts) {
         Ok(whole) => Ok(whole),
         Err(refusal) => Err(refusal.into()),
