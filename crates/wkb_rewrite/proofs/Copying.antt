@@ -1,6 +1,9 @@
 -- A walk over pieces that stand as they are written, and what is copied behind it.
-use Rattle.std.proofs.Common.{◌≡◌, ℕ, ◌+◌, ◌-◌, ◌≤◌, List, [], ◌∷◌, ◌++◌, length, take, drop, map, is_some, None, refl}
-use Rattle.std.proofs.Common.{sym, ap, ◌∙◌, subst, arith, append_assoc, append-nil, length-append, false, true, Bool}
+use Rattle.std.proofs.Common.{◌≡◌, ℕ, zero, suc, ◌+◌, ◌-◌, ◌<◌, ◌≤◌, List, [], ◌∷◌, ◌++◌, length, take, drop, map}
+use Rattle.std.proofs.Common.{is_some, None, refl, sym, ap, ◌∙◌, subst, arith, append_assoc, append-nil, length-append}
+use Rattle.std.proofs.Common.{false, true, Bool}
+use Rattle.std.specs.Prelude.{◌&&◌, ◌==◌}
+use Rattle.wkb_laws.specs.Prelude.{number, all_nan}
 use Rattle.wkb_laws.specs.Prelude.{Endianness, Form, AreBytes, Iso, Ewkb, form_srid, inner, type_of, type_dimension}
 use Rattle.wkb_geom.specs.Reading.{type_kind}
 use Rattle.wkb_laws.proofs.Parts.{take_front}
@@ -8,8 +11,10 @@ use Rattle.wkb_geom.specs.Refusals.{srid_size}
 use Rattle.wkb_check.specs.declared.pieces.Piece.{Piece}
 use Rattle.wkb_check.specs.declared.pieces.Pieces.{Pieces}
 use Rattle.wkb_check.specs.Bounded.{HasGeometry}
-use Rattle.wkb_check.specs.Pieces.{own_end, pieces_of, Ahead, IsAhead, HasAhead, IsTaken, IsPieceAt}
-use Rattle.wkb_rewrite.specs.Shares.{share_in, share_encoding, is_empty_point}
+use Rattle.wkb_check.specs.Pieces.{own_end, pieces_of, ring_piece, Ahead, IsAhead, HasAhead, IsTaken, IsPieceAt}
+use Rattle.wkb_check.proofs.Following.{ahead_first, polygon_takes, ring_takes, none_ahead}
+use Rattle.wkb_check.proofs.Placing.{onward}
+use Rattle.wkb_rewrite.specs.Shares.{share_in, share_encoding, own_words, is_empty_point}
 use Rattle.wkb_sink.specs.Options.{header_of}
 use Rattle.wkb_sink.specs.declared.options.WriteOptions.{WriteOptions}
 use Rattle.wkb_rewrite.specs.Targets.{encoding_for}
@@ -153,3 +158,70 @@ all_stand {buf = buf} options {inside = inside} {w = w} {first = first} {bytes =
           (sym (ap (take (bytes - start)) there.is
           ∙ take_front (bytes - start) tail (drop w.at buf) (omega (arith, ends))));
     }
+
+-- ---- a polygon
+
+ring_at : Pieces → Piece
+ring_at w = ring_piece w.order w.dimension w.at (number w.order 4 (drop w.at w.bytes.now))
+
+abbrev past_ring : Pieces → Pieces
+past_ring w = record w { rings = w.rings - 1; at = own_end (ring_at w) }
+
+-- a ring in the order that is written stands as it is written
+ring_passed : {buf : List ℕ} {order : Endianness} {form : Form} (w : Pieces) → HasAhead w → 0 < w.rings
+    → w.order ≡ order → HasPassed order form buf w (past_ring w) true
+unfolding ring_at
+ring_passed w ahead some order_is =
+    let taken = ring_takes w ahead some (ring_at w) refl (own_end (ring_at w)) refl in
+    record {
+      piece = ring_at w;
+      step = record {
+        steps = taken.steps;
+        inside = taken.inside;
+        further = onward w.bytes.now w.at (own_end (ring_at w)) (ring_at w) taken.inside;
+        same = taken.same;
+      };
+      is = λ _. record { order_is = order_is; plain = refl; code = λ other. absurd (other refl); some = refl };
+    }
+
+-- all pieces behind the first one stand as they are written
+record AllStand (buf : List ℕ) (order : Endianness) (form : Form) (first : Piece) (g : HasGeometry buf) : Type 0 where
+  pub walk : Pieces
+  pub so_far : StandSoFar buf order form walk first g
+  pub none : so_far.left ≡ []
+
+rings_stand : {buf : List ℕ} {order : Endianness} (outer : Form) {first : Piece} {g : HasGeometry buf} → AreBytes buf
+    → (n : ℕ) (w : Pieces) → w.rings ≡ n → w.geometries ≡ 0 → w.order ≡ order
+    → StandSoFar buf order (inner outer) w first g
+    → AllStand buf order (inner outer) first g
+rings_stand outer b zero w rings alone order_is l =
+    record { walk = w; so_far = l; none = none_ahead l.ahead (omega (arith, rings)) (omega (arith, alone)) }
+rings_stand outer b (suc n) w rings alone order_is l =
+    rings_stand outer b n (past_ring w) (omega (arith, rings)) alone order_is
+    (one_more_stands b outer refl l (ring_passed w (still_ahead l) (omega (arith, rings)) order_is) refl)
+
+no_point : (buf : List ℕ) (p : Piece) → p.kind ≡ 3 → is_empty_point buf p ≡ false
+no_point buf p three = ap (λ k. (k == 1) && all_nan (own_words buf p)) three
+
+-- a polygon in the order that is written is its header, and the input's bytes behind its own header
+pub polygon_stands : (options : WriteOptions) (w : Pieces) {first : Piece} {bytes start : ℕ} → AreBytes w.bytes.now
+    → IsPieceAt w.bytes.now 0 first → first.kind ≡ 3 → first.order ≡ options.endianness
+    → (g : HasGeometry w.bytes.now) → bytes ≡ length g.begins.front → start ≡ 5 + srid_size (is_some first.srid)
+    → IsCopied options first bytes start g
+polygon_stands options w {first = first} b outermost three order_is g long start_is =
+    let front : Pieces = record w { at = 0; rings = 0; geometries = 1 } in
+    let ahead : IsAhead front (pieces_of 0 g.spelled g.value) = ahead_first w.bytes.now w.order w.dimension g in
+    let taken = polygon_takes front (record { pieces = _; are = ahead }) refl (omega arith) first outermost
+    (own_end first) refl three in
+    let behind : Pieces =
+    record front {
+      at = own_end first;
+      rings = first.count;
+      geometries = 0;
+      order = first.order;
+      dimension = first.dimension;
+    } in
+    let all = rings_stand options.form b first.count behind refl refl order_is
+    (first_stands behind first g (taken.steps _ ahead) refl refl) in
+    all_stand options b outermost refl long all.so_far all.none order_is (no_point w.bytes.now first three)
+    taken.inside.inside start_is

@@ -3,7 +3,8 @@
 ghost use Rattle.std.specs.Prelude.{◌≡◌, ◌≢◌, ◌+◌, ◌-◌, ◌≤◌, List, length, take, drop, IfSome, None, []};
 ghost use Rattle.std.specs.Prelude.{true, false};
 ghost use Rattle.wkb_geom.specs.declared.header.TheConstants.{MEMBER_HEADER_SIZE, MAX_HEADER_SIZE};
-ghost use Rattle.wkb_check.specs.Pieces.{own_end, IsAhead, HasAhead};
+ghost use Rattle.wkb_geom.specs.declared.code.TheConstants.{POLYGON};
+ghost use Rattle.wkb_check.specs.Pieces.{own_end, IsPieceAt, IsAhead, HasAhead};
 ghost use Rattle.wkb_check.specs.Public.{DescribesFront};
 ghost use Rattle.wkb_check.specs.declared.pieces.TheConstants.{RING};
 ghost use Rattle.wkb_rewrite.specs.Shares.{IsPut, is_empty_point};
@@ -126,6 +127,28 @@ impl<'a> Copied<'a> {
             wkb_type: of_kind(first.kind, first.dimension),
             rest: &buf[start..found.bytes],
         })
+    }
+
+    /// As `of`, of a polygon that has the order of the options: its rings stand as they are written.
+    #[inline(always)]
+    pub fn of_polygon(
+        buf: &'a [u8],
+        found: &Summary,
+        first: &Piece,
+        options: WriteOptions,
+    ) -> Copied<'a>
+        requires found { DescribesFront buf.now found.now }
+        requires first { IsPieceAt buf.now 0 first.now }
+        requires polygon { first.now.kind ≡ POLYGON }
+        requires order { first.now.order ≡ options.endianness }
+        ensures { IsFrontEncoding buf.now options (copied_encoding result) }
+    {
+        let start = MEMBER_HEADER_SIZE + size_of_srid(first.srid);
+        Copied {
+            options,
+            wkb_type: of_kind(first.kind, first.dimension),
+            rest: &buf[start..found.bytes],
+        }
     }
 
     /// Puts its header at the start of a slice that is as long as any header, and returns the index after it.

@@ -131,7 +131,7 @@ pub fn put_polygon(buf: &[u8], found: &Summary, options: WriteOptions, out: &mut
 {
     let first = Piece::polygon(buf, found);
     let form = options.form;
-    // In the first two arms both orders are constants, for which the call is compiled.
+    // In the first two arms both orders are constants, for which the call is compiled. In the last they are equal.
     match (first.order, options.endianness) {
         (Endianness::BigEndian, Endianness::LittleEndian) => {
             let endianness = Endianness::LittleEndian;
@@ -141,7 +141,9 @@ pub fn put_polygon(buf: &[u8], found: &Summary, options: WriteOptions, out: &mut
             let endianness = Endianness::BigEndian;
             put_rings(buf, &first, WriteOptions { endianness, form }, out);
         }
-        _ => put_rings(buf, &first, options, out),
+        _ => {
+            Copied::of_polygon(buf, found, &first, options).put(out);
+        }
     }
 }
 

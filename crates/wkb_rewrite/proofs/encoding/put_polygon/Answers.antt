@@ -1,4 +1,4 @@
-use Rattle.std.proofs.Common.{◌≡◌, arith}
+use Rattle.std.proofs.Common.{◌≡◌, arith, ap, length}
 use Rattle.wkb_rewrite.proofs.Measured.{here, kind_of}
 use Rattle.wkb_rewrite.proofs.encoding.put_polygon.Goals as goal
 use Rattle.wkb_rewrite.proofs.encoding.put_polygon.Goals.{After-polygon-first}
@@ -16,6 +16,10 @@ pub put_rings-requires-in-LittleEndian-BigEndian-clause-polygon :
 put_rings-requires-in-LittleEndian-BigEndian-clause-polygon c =
     polygon (goal.at.put_rings-requires-in-LittleEndian-BigEndian-clause-polygon c).After-polygon-first
 
-pub put_rings-requires-in_default-clause-polygon : goal.put_rings-requires-in_default-clause-polygon
-put_rings-requires-in_default-clause-polygon c =
-    polygon (goal.at.put_rings-requires-in_default-clause-polygon c).After-polygon-first
+pub of_polygon-requires-clause-polygon : goal.of_polygon-requires-clause-polygon
+of_polygon-requires-clause-polygon c = polygon (goal.at.of_polygon-requires-clause-polygon c).After-polygon-first
+
+pub put-requires : goal.put-requires
+put-requires c =
+    let g = here c.requires.here in
+    omega (arith, ap length (c.of_polygon.ensures g), c.requires.room g)
