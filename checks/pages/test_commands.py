@@ -186,7 +186,7 @@ def lost_runs(page):
 def printing():
     """The text of the sources that print something."""
     endings = (".py", ".c", ".cpp", ".out", ".rt", ".hex", "")
-    sources = [it for it in files() if it.suffix in endings and "pages" not in it.parts]
+    sources = [it for it in files() if it.suffix in endings and "pages" not in it.relative_to(ROOT).parts]
     return "\n".join(it.read_text(encoding="utf-8", errors="replace") for it in sources)
 
 
