@@ -1,61 +1,49 @@
-"""The tables of a page that lists calls, which tools/api makes."""
+"""How tools/api prints items and their comments: as code with the comment above it, in lines as wide as those of the
+pages."""
 import re
-import sys
 import textwrap
 
-from pages import ROOT
+WIDTH = 100
+# A space that no line is broken at: in a name in backticks, and before the end of a clause.
+GLUE = "\0"
 
 
 def paragraphs(lines):
     """The paragraphs of a comment, without its examples and their introductions."""
     text = re.sub(r"(?ms)^```.*?^```$", "", "\n".join(line.strip() for line in lines))
-    return [" ".join(it.split()) for it in re.split(r"\n\n+", text.strip()) if not it.endswith(":")]
+    return [" ".join(it.split()) for it in re.split(r"\n\n+", text.strip()) if it and not it.endswith(":")]
 
 
-def cell(text):
-    return text.replace("|", "\\|")
+def wrapped(text, first="", rest=""):
+    """The lines of a paragraph or of a piece of code, which begin so."""
+    glued = re.sub(r"`[^`]*`", lambda it: it[0].replace(" ", GLUE), " ".join(text.split()))
+    how = {"break_long_words": False, "break_on_hyphens": False}
+    lines = textwrap.wrap(glued, WIDTH, initial_indent=first, subsequent_indent=rest, **how)
+    return [it.replace(GLUE, " ") for it in lines]
 
 
-def table(head, rows):
-    return [f"| {head} | |", "|---|---|", *rows, ""] if rows else []
+def prose(texts):
+    """The lines of some paragraphs, each with an empty one after it."""
+    return [line for text in texts if text for line in [*wrapped(text), ""]]
 
 
-def row(code, *said, clauses=(), mark=""):
-    """A row: an item in code, its comment, and its clauses as the sources have them."""
-    stated = [f"`{word} {name + ' ' if name else ''}{{ {text} }}`" for word, name, text in clauses]
-    return f"| {mark}`{cell(code)}`{mark} | {cell('<br>'.join([*filter(None, said), *stated]))} |"
+def comment(texts, indent=""):
+    """The lines of a comment in code."""
+    return [line for text in texts if text for line in wrapped(text, f"{indent}/// ", f"{indent}/// ")]
+
+
+def stated(clauses, indent=""):
+    """The lines of some clauses, below the line that they belong to."""
+    for word, name, text in clauses:
+        clause = f"{word} {name + ' ' if name else ''}{{ {text}{GLUE}}}"
+        yield from wrapped(clause, f"{indent}    ", f"{indent}        ")
+
+
+def declared(signature, said=(), clauses=(), indent=""):
+    """The lines of an item in code: its comment, its signature, its clauses."""
+    return [*comment(said, indent), *wrapped(signature, indent, f"{indent}        "), *stated(clauses, indent)]
 
 
 def listed(head, names):
     """A sentence that lists names, or nothing."""
     return f"{head}: {', '.join(f'`{it}`' for it in dict.fromkeys(names))}." if names else ""
-
-
-def wrapped(text):
-    """The lines of a paragraph, as wide as those of the pages."""
-    return textwrap.wrap(" ".join(text.split()), 139, break_long_words=False, break_on_hyphens=False)
-
-
-def made(page, title, said, parts, bare):
-    """Print a page that is made of parts, or write it with --write, or print the rows that have a name. Exit with
-    status 1 if something on it has no comment."""
-    name = " ".join(sys.argv[1:]).split("/")[-1]
-    lines = [f"# {title}", "", *said, ""]
-    try:
-        for part in parts:
-            lines += part()
-    except ValueError as error:
-        sys.exit(f"{page}: {error}")
-    text = "\n".join(lines).rstrip("\n") + "\n"
-    sys.stdout.reconfigure(encoding="utf-8")
-    if name == "--write":
-        (ROOT / page).write_text(text, encoding="utf-8")
-    elif name:
-        rows = [it for it in lines if re.search(rf"^\|[^|]*\b{re.escape(name)}\b", it)]
-        text = "".join(f"{it}\n" for it in rows).replace("<br>", "\n  ")
-        sys.exit(sys.stdout.write(text) == 0)
-    else:
-        sys.stdout.write(text)
-    for it in bare:
-        print(f"{page}: {it} has no comment", file=sys.stderr)
-    sys.exit(1 if bare else 0)

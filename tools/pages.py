@@ -9,7 +9,8 @@ import sys
 ROOT = pathlib.Path(__file__).resolve().parent.parent
 PAGES = [
     str(it.relative_to(ROOT))
-    for it in [*sorted(ROOT.glob("*.md")), *sorted(ROOT.glob("docs/*.md")), ROOT / "c/package/package.md"]
+    for pattern in ("*.md", "docs/*.md", "docs/api/*.md", "c/package/package.md")
+    for it in sorted(ROOT.glob(pattern))
 ]
 # What a build makes, and what a checkout keeps beside its files.
 NOT_OURS = {".git", "out", "build", "target", "__pycache__", "wkb.so", "wkb_postgres.o"}

@@ -9,8 +9,8 @@ use `wkb_dump` are skipped if that can't be built.
 A command without `$ ` isn't run, unless it runs the program: the page then has its output in backticks. The files that
 such a command names have to exist. Code between lines ```rust, ```antt, ```c, ```cpp, ```python or ```sql and ``` has
 to be, piece by piece, in the SOURCES below, which are compiled and run elsewhere. An edit or a fault that a page shows
-has to be one of the repository. Text that a page says is printed is in some source. docs/API.md is the page that
-tools/api makes.
+has to be one of the repository. Text that a page says is printed is in some source. docs/API.md and
+the pages in docs/api are those that tools/api makes.
 """
 import functools
 import os
@@ -40,8 +40,10 @@ SOURCES = {
     "python": ["c/examples/*.py", "python/**/*.py", "examples/*.py", "docs/START_PYTHON.md", "README.md"],
     "sql": ["sqlite/queries.sql", "postgres/queries.sql", "postgres/planner.sql", "docs/START_SQL.md", "README.md"],
 }
-# The pages and pictures that scripts make.
-MADE = [("tools/api", "docs/API.md"), ("tools/bars", "docs/pictures/speed.svg")]
+# The pages and pictures that scripts make, in the order in which a script prints them.
+MADE = [("tools/api", ["docs/API.md", "docs/api/*.md"]), ("tools/bars", ["docs/pictures/speed.svg"])]
+# Where the pages of calls are, whose code tools/api makes.
+CALLS = "docs/api/"
 # Whose examples are proved nowhere.
 SKETCHED = ["crates/wkb/src/check.rt", "crates/wkb/src/lib.rt"]
 LINE = "010200000002000000" + 2 * POINT[10:]
@@ -131,7 +133,7 @@ def code_of(language):
 
 def lost_pieces(page):
     """The pieces of the code on a page, from one empty line to the next, that are in no source; and lost edits."""
-    for language in SOURCES:
+    for language in SOURCES if not page.startswith(CALLS) else []:
         blocks = text_of(page).split(f"```{language}\n")[1:]
         for piece in (piece for block in blocks for piece in block.split("```")[0].strip("\n").split("\n\n")):
             if piece not in code_of(language):
@@ -205,11 +207,11 @@ def made(tool):
 
 def lost_tables():
     """The errors in generated pages."""
-    for tool, page in MADE:
+    for tool, patterns in MADE:
         if made(tool).returncode:
             yield f"{tool} failed"
-        elif made(tool).stdout.decode() != text_of(page):
-            yield f"{page}: `{tool} --write` makes another one"
+        elif made(tool).stdout.decode() != "".join(texts(*patterns).values()):
+            yield f"{', '.join(patterns)}: `{tool} --write` makes others"
 
 
 class Shown(judge.Judge):
@@ -223,8 +225,8 @@ class Shown(judge.Judge):
         (PAGE, "", "    c/lost\n\n", "no file c/lost"),
         (PAGE, "", "    make -C c lost\n\n", "no Makefile has lost"),
         (PAGE, "", "It prints `what is lost`.\n\n", "no source prints `what is lost`"),
-        ("docs/API.md", "##", "#", "makes another one"),
-        ("docs/pictures/speed.svg", " OGR</text>", " ORG</text>", "speed.svg: `tools/bars --write` makes another one"),
+        ("docs/api/canon.md", "##", "#", "`tools/api --write` makes others"),
+        ("docs/pictures/speed.svg", " OGR</text>", " ORG</text>", "speed.svg: `tools/bars --write` makes others"),
         ("crates/wkb_cases/src/columns.rt", "let mut written", "let mut put", "no proved code has"),
     ]
 

@@ -10,7 +10,8 @@ import re
 from checks import judge
 from pages import PAGES, ROOT, text_of, texts
 
-FRONT = "docs/README.md"
+# The page of pages, and that of the pages of calls.
+FRONT, CALLS = "docs/README.md", "docs/API.md"
 LINK = re.compile(r"\[([^\]]*)\]\(([^)\s]+)\)")
 # Words that say nothing of where a link leads.
 EMPTY = {"the", "and", "for", "from", "how", "its", "not", "that", "this", "what", "which", "with"}
@@ -55,8 +56,8 @@ def lost(page):
 
 
 def lost_pages():
-    """The pages that the page of pages doesn't lead to."""
-    found = {os.path.normpath(os.path.join("docs", it)) for _, it in LINK.findall(text_of(FRONT))}
+    """The pages that neither the page of pages nor that of the pages of calls leads to."""
+    found = {os.path.normpath(os.path.join("docs", it)) for _, it in LINK.findall(text_of(FRONT) + text_of(CALLS))}
     yield from (f"{FRONT}: no link to {it}" for it in PAGES if it not in found and it != FRONT)
 
 
