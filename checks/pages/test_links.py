@@ -1,14 +1,13 @@
 """Follows every link on the pages.
 
 Its file has to exist, and its anchor has to be a heading of that page. The text of the link names the file, or shares a
-word with the heading that it leads to: else it leads to another page than it says. A path that a picture has as code
-exists, too.
+word with the heading that it leads to: else it leads to another page than it says.
 """
 import os
 import re
 
 from checks import judge
-from pages import PAGES, ROOT, text_of, texts
+from pages import PAGES, ROOT, text_of
 
 # The page of pages, and that of the pages of calls.
 FRONT, CALLS = "docs/README.md", "docs/API.md"
@@ -61,13 +60,6 @@ def lost_pages():
     yield from (f"{FRONT}: no link to {it}" for it in PAGES if it not in found and it != FRONT)
 
 
-def lost_in_pictures():
-    """The paths of files in pictures that aren't there."""
-    for picture, text in texts("docs/pictures/*.svg").items():
-        paths = [path for it in re.findall(r'class="code">([^<]+)<', text) for path in it.split(", ")]
-        yield from (f"{picture}: no file {it}" for it in paths if not any(ROOT.glob(it)))
-
-
 class Links(judge.Judge):
     """Each link leads to the place that its text names."""
 
@@ -76,9 +68,8 @@ class Links(judge.Judge):
         ("docs/API.md", "", "[lost](FORMAT.md#lost)\n\n", "no heading FORMAT.md#lost"),
         ("docs/API.md", "", "[the grammar](PROVING.md)\n\n", "leads to PROVING.md"),
         ("docs/README.md", "](SPEED.md)", "](COST.md)", "no link to docs/SPEED.md"),
-        ("docs/pictures/layers.svg", "c/proved/*.s<", "c/proved/*.o<", "no file c/proved/*.o"),
     ]
 
     def wrong(self):
         yield from (it for page in PAGES for it in lost(page))
-        yield from (*lost_pages(), *lost_in_pictures())
+        yield from lost_pages()

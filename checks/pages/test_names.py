@@ -1,4 +1,4 @@
-"""Looks up every name in backticks on every page.
+"""Looks up every name in backticks on every page, and those of files and items that a picture has as code.
 
 A path of files has to exist, from the top, from docs/ or edits/, or in a crate. A path of code, as `a::b`, has to end
 in names that a source defines one inside the other. Each other word has to be in a source that is no page and no script
@@ -11,7 +11,7 @@ import glob
 import re
 
 from checks import judge
-from pages import PAGES, ROOT, files, lines_of, rows_of, spans
+from pages import PAGES, ROOT, files, lines_of, rows_of, spans, texts
 
 # Words of other programs and of the checker, which no source of ours has to name.
 FOREIGN = set(
@@ -37,8 +37,11 @@ COMMANDS = """
     """.split()
 WORD = re.compile(r"\b(?![0-9a-f]{16}\b)[A-Za-z_]\w*")
 PATH = re.compile(r"(?<![\w:/.'])[A-Za-z_]\w*(?:::[A-Za-z_]\w*)+")
-# How a table of files and calls begins, for a control.
+# A picture, and how a table of files and calls begins, for controls.
+FLOWS = "docs/pictures/flows.svg"
 TABLE = "| file | call |\n|---|---|\n"
+# What a picture shows as code: names, with commas between them.
+CODE = re.compile(r'class="code">([^<]+)<')
 COMMENT = {".rt": r"//[^\n]*", ".rs": r"//[^\n]*", ".antt": r"--[^\n]*"}
 ITEM = re.compile(
     r"^ *(?:pub(?:\([\w: ]+\))? )?(?:const |unsafe )?(?:extern \"C\" )?(?:fn|struct|enum|trait|type|const|mod) (\w+)"
@@ -53,7 +56,7 @@ def words_of_sources():
     words = set()
     for path in files():
         name = str(path.relative_to(ROOT))
-        if path.suffix in (".md", ".cff") or re.fullmatch(r"checks/pages/\w+(\.py)?", name):
+        if path.suffix in (".md", ".cff", ".svg") or re.fullmatch(r"checks/pages/\w+(\.py)?", name):
             continue
         text = path.read_text(encoding="utf-8", errors="replace")
         code = re.sub(COMMENT.get(path.suffix, r"(?m)^\s*#[^\n]*"), "", text)
@@ -164,6 +167,14 @@ def lost_calls():
                 yield f"{page}:{number}: {file} doesn't define `{name}`"
 
 
+def lost_in_pictures(code):
+    """The names in pictures that are no files, and no items of the code."""
+    for picture, text in texts("docs/pictures/*.svg").items():
+        for name in (name for it in CODE.findall(text) for name in it.split(", ")):
+            if not (is_there(name) if "/" in name else name in code):
+                yield f"{picture}: no code and no file is {name}"
+
+
 def named():
     """(page, number of the line, name) of each name in backticks."""
     return ((page, number, span) for page in PAGES for number, line in lines_of(page) for span in spans(line))
@@ -177,11 +188,14 @@ class Names(judge.Judge):
         ("docs/API.md", "", "`crates/lost/file.rt`\n\n", "no file `crates/lost/file.rt`"),
         ("docs/API.md", "", "`grep it crates/gone/file.rt`\n\n", "no file `crates/gone/file.rt`"),
         ("docs/API.md", "", "`wkb::reader::to_vec`\n\n", "no source has `wkb::reader::to_vec`"),
+        (FLOWS, "reader::read_wkb<", "writer::read_wkb<", "no code and no file is writer::read_wkb"),
+        (FLOWS, ">put_encoding<", ">put_lost<", "no code and no file is put_lost"),
+        ("docs/pictures/layers.svg", "c/proved/*.s<", "c/proved/*.o<", "no code and no file is c/proved/*.o"),
         ("ARCHITECTURE.md", "", f"{TABLE}| `wkb_read/src/read.rt` | `to_vec` |\n\n", "doesn't define `to_vec`"),
     ]
 
     def wrong(self):
         words, code = words_of_sources() | FOREIGN, paths_of_code()
-        yield from lost_calls()
+        yield from (*lost_calls(), *lost_in_pictures(code))
         for page, number, span in named():
             yield from (f"{page}:{number}: {it}" for it in lost_in(span, words, code))

@@ -2,7 +2,7 @@
 
 - docs/PROGRAM.md: the output of each command, and each status with its line, in runs of the program `wkb_hex`.
 - ARCHITECTURE.md: its crates are those of crates.txt, each below those that use it. A path in the table of rules is one
-  of the crate that its row names last. A name in a drawing is an item of the code.
+  of the crate that its row names last.
 - c/package/package.md: each file is in the package that c/package/dist writes.
 - docs/SYSTEMS.md: the scripts that are said to have tried a system build for it.
 - CITATION.cff: the licences are those of the files LICENSE-*, and the title begins as README's does.
@@ -19,7 +19,7 @@ import subprocess
 
 from checks import judge
 from library import wkb
-from pages import ROOT, program, rows_of, shown, spans, text_of, texts
+from pages import ROOT, program, rows_of, spans, text_of, texts
 
 SPEED = "docs/SPEED.md"
 # What a script names that builds for a system or a processor.
@@ -180,14 +180,6 @@ def lost_places():
                 yield f"ARCHITECTURE.md:{number}: {crate or 'the row'} has no `{span}`"
 
 
-def lost_in_drawings():
-    """The names in ARCHITECTURE's drawings that are no items of the code."""
-    every = [it.name for it in (ROOT / "crates").iterdir()]
-    for number, line in shown("ARCHITECTURE.md"):
-        names = re.findall(r"--(\w+)-->", line) + re.findall(r"\b[A-Z]\w+", line)
-        yield from (f"ARCHITECTURE.md:{number}: no code has `{it}`" for it in names if not defines(every, it))
-
-
 def packaged():
     """The files and folders of the package, by the lines of c/package/dist that copy, make and write them."""
     text = text_of("c/package/dist").replace("\\\n", " ")
@@ -273,7 +265,6 @@ class Tables(judge.Judge):
         ("ARCHITECTURE.md", "| `wkb_geom/src/error.rt` (", "| `wkb_view/src/error.rt` (", "no `wkb_view/src/error.rt`"),
         ("ARCHITECTURE.md", "`Refusal`), `specs/Errors`", "`Refusal`), `specs/Pieces`", "has no `specs/Pieces`"),
         ("crates.txt", "wkb_geom: byteorder", "wkb_geom: wkb_read", "wkb_geom uses wkb_read"),
-        ("ARCHITECTURE.md", "--read_wkb-->", "--read_lost-->", "no code has `read_lost`"),
         ("c/package/package.md", "| `SUMS` |", "| `SUM` |", "no `SUM`"),
         ("CITATION.cff", "  - MIT", "  - BSD", "the licences are"),
         ("CITATION.cff", 'title: "Porchsorrel', 'title: "Sorrel', "README's title"),
@@ -286,7 +277,7 @@ class Tables(judge.Judge):
     is_apart = True
 
     def wrong(self):
-        yield from (*wrong_crates(), *lost_places(), *lost_in_drawings())
+        yield from (*wrong_crates(), *lost_places())
         yield from (*lost_files(), *wrong_systems(), *wrong_citation(), *wrong_changes(), *wrong_times())
 
 
