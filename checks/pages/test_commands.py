@@ -41,7 +41,11 @@ SOURCES = {
     "sql": ["sqlite/queries.sql", "postgres/queries.sql", "postgres/planner.sql", "docs/START_SQL.md", "README.md"],
 }
 # The pages and pictures that scripts make, in the order in which a script prints them.
-MADE = [("tools/api", ["docs/API.md", "docs/api/*.md"]), ("tools/bars", ["docs/pictures/speed.svg"])]
+MADE = [
+    ("tools/api", ["docs/API.md", "docs/api/*.md"]),
+    ("tools/bars", ["docs/pictures/speed.svg"]),
+    ("tools/bytes", ["docs/pictures/bytes.svg"]),
+]
 # Where the pages of calls are, whose code tools/api makes.
 CALLS = "docs/api/"
 # Whose examples are proved nowhere.
@@ -227,6 +231,7 @@ class Shown(judge.Judge):
         (PAGE, "", "It prints `what is lost`.\n\n", "no source prints `what is lost`"),
         ("docs/api/canon.md", "##", "#", "`tools/api --write` makes others"),
         ("docs/pictures/speed.svg", " OGR</text>", " ORG</text>", "speed.svg: `tools/bars --write` makes others"),
+        ("docs/pictures/bytes.svg", ">24</text>", ">25</text>", "bytes.svg: `tools/bytes --write` makes others"),
         ("crates/wkb_cases/src/columns.rt", "let mut written", "let mut put", "no proved code has"),
     ]
 
