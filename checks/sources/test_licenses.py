@@ -30,11 +30,20 @@ class Lines(judge.Judge):
 
 
 class Texts(judge.Judge):
-    """The licences that packages have, which hold no files above their own folders."""
+    """The licences that packages have, which hold no files above their own folders, and those in LICENSES, where REUSE
+    looks for the text of each that REUSE.toml names."""
 
-    controls = [("python/LICENSE-MIT", "2024", "2023", "python/L"), ("LICENSE-APACHE", "2.0", "2.1", "rust/geo/L")]
+    controls = [
+        ("python/LICENSE-MIT", "2024", "2023", "python/L"),
+        ("LICENSE-APACHE", "2.0", "2.1", "rust/geo/L"),
+        ("REUSE.toml", "LicenseRef-Rattle-kit", "LicenseRef-lost", "LICENSES has"),
+    ]
 
     def wrong(self):
+        named = set(re.findall(r"[\w.-]+", " ".join(re.findall(r'License-Identifier = "(.*)"', text_of("REUSE.toml")))))
+        texts = {it.stem for it in (ROOT / "LICENSES").glob("*.txt") if it.is_file()}
+        if texts != named - {"OR", "AND"}:
+            yield f"LICENSES has {texts}, and REUSE.toml names {named}"
         for name in "LICENSE-APACHE", "LICENSE-MIT":
             for folder in "python", "rust/geo":
                 if text_of(f"{folder}/{name}") != text_of(name):
