@@ -489,6 +489,10 @@ typedef struct wkb_levels {
  * point is a coordinate of NaNs. All words are written as they are, so an empty point is as wkb_column_write() has it
  * only if each is 0x7ff8000000000000. WKB_FORM_EWKB_OWN_SRID writes no SRID.
  *
+ * Clear the validity bits of rejected rows and of collections. Otherwise a rejected row, which has no singles, comes
+ * back as an empty multi geometry, or is WKB_STATUS_BAD_LEVELS if the kind is no multi geometry (tested). A collection
+ * comes back as the geometry of this kind that its singles make, if they make one (tested).
+ *
  * The encoding of row i starts at ends[i - 1], or at 0 if i is 0, and ends at ends[i]. A row without an encoding ends
  * where it starts.
  *

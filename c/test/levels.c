@@ -162,6 +162,37 @@ static void options_are_kept(void) {
   expect(memcmp(out, wanted, end) == 0, "the bytes without an SRID", "levels");
 }
 
+/* The levels of a rejected row, and of collections of a point and of an empty line string, given on as if they were rows
+ * of a kind. */
+static void other_rows_come_back(wkb_kind kind, const char *const encodings[3], const wkb_status wanted[3]) {
+  static const char COLUMN[] =
+      "05 01 07000000 01000000 01 01000000 WX 01 07000000 01000000 01 02000000 00000000";
+  uint8_t data[64], out[64], expected[64], statuses[3];
+  const int64_t offsets[4] = {0, 1, 31, (int64_t)spelled(COLUMN, data)};
+  double words[2];
+  uint64_t rings[2], singles[2], rows[3], ends[4] = {0};
+  const wkb_column column = {data, (size_t)offsets[3], offsets, 8, NULL, 0, 3};
+  wkb_coordinates found = {words, 2, rings, 2, singles, 2, rows, 0, 0, 0};
+  wkb_column_coordinates(&column, WKB_DIM_XY, &found, statuses);
+  const wkb_levels levels = {words, 2, rings, 2, singles, 2, rows, 3, NULL, 0};
+  wkb_column_from_coordinates(&levels, kind, WKB_DIM_XY, &LITTLE_ISO, out, 64, ends + 1, statuses);
+  for (size_t i = 0; i < 3; i++) {
+    const char *what = i == 0 ? "a rejected row" : "a collection";
+    size_t size = encodings[i] ? spelled(encodings[i], expected) : 0;
+    expect(statuses[i] == wanted[i] && ends[i + 1] - ends[i] == size, what, "levels");
+    expect(memcmp(out + ends[i], expected, size) == 0, what, "the bytes of levels");
+  }
+}
+
+static void rows_without_levels_come_back(void) {
+  other_rows_come_back(WKB_KIND_MULTI_POINT,
+                       (const char *[]){"01 04000000 00000000", "01 04000000 01000000 01 01000000 WX", NULL},
+                       (const wkb_status[]){OK, OK, BAD});
+  other_rows_come_back(WKB_KIND_LINE_STRING,
+                       (const char *[]){NULL, "01 02000000 01000000 WX", "01 02000000 00000000"},
+                       (const wkb_status[]){BAD, OK, OK});
+}
+
 /* Without rows there is nothing, and all pointers may be null. */
 static void no_rows_are_written(void) {
   const wkb_levels none = {NULL, 0, NULL, 0, NULL, 0, NULL, 0, NULL, 0};
@@ -178,5 +209,6 @@ void levels_are_right(void) {
   null_rows_are_passed();
   no_meaning_is_reported();
   options_are_kept();
+  rows_without_levels_come_back();
   no_rows_are_written();
 }
