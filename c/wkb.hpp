@@ -469,7 +469,8 @@ struct levels {
   std::size_t validity_offset = 0;
 };
 
-// Returns the encodings of rows of one kind and one dimension.
+// Returns the encodings of rows of one kind and one dimension. Clear the validity bits of rejected rows and of
+// collections, for which wkb_column_from_coordinates() says what it writes otherwise.
 [[nodiscard]] inline row_encodings rows_from_coordinates(const levels &from, wkb_kind kind, wkb_dim dimension,
                                                          const wkb_options &options) {
   const auto items = [](const auto &ends, std::size_t below) { return ends ? ends->size() : below; };
