@@ -465,7 +465,9 @@ void wkb_column_coordinates(const wkb_column *column, wkb_dim dimension, wkb_coo
  * If the ends of a level are null, item i has item i of the next level, as the points of GeoArrow have no ends. If
  * offsets[0] is 0, GeoArrow's offsets from offsets[1] on are these ends: of line strings those of rings; of polygons
  * those of singles, and of rings; of multi points those of rows; of multi line strings those of rows, and of rings; of
- * multi polygons those of rows, singles and rings (tested). */
+ * multi polygons those of rows, singles and rings (tested).
+ *
+ * Items after those of the last row are ignored, and words after the last whole coordinate (tested). */
 typedef struct wkb_levels {
   const double   *words;            /**< one coordinate after another, in the machine's byte order; may be null if
                                          word_count is 0 */

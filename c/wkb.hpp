@@ -470,16 +470,21 @@ struct levels {
 };
 
 // Returns the encodings of rows of one kind and one dimension. Clear the validity bits of rejected rows and of
-// collections, for which wkb_column_from_coordinates() says what it writes otherwise.
+// collections, for which wkb_column_from_coordinates() says what it writes otherwise. If the words are no whole number
+// of coordinates, each row that isn't null is WKB_STATUS_BAD_LEVELS; a level without ends has an item for the rest of
+// them as well.
 [[nodiscard]] inline row_encodings rows_from_coordinates(const levels &from, wkb_kind kind, wkb_dim dimension,
                                                          const wkb_options &options) {
   const auto items = [](const auto &ends, std::size_t below) { return ends ? ends->size() : below; };
   const auto data = [](const auto &ends) { return ends ? ends->data() : nullptr; };
-  const std::size_t rings = items(from.ring_ends, from.words.size() / width_of(dimension));
+  const std::size_t width = width_of(dimension), rest = from.words.size() % width;
+  const std::size_t rings = items(from.ring_ends, from.words.size() / width + (rest != 0));
   const std::size_t singles = items(from.single_ends, rings), rows = items(from.row_ends, singles);
-  const wkb_levels raw{from.words.data(),      from.words.size(), data(from.ring_ends), rings,
-                       data(from.single_ends), singles,           data(from.row_ends),  rows,
-                       from.validity,          from.validity_offset};
+  wkb_levels raw{from.words.data(),      from.words.size(), data(from.ring_ends), rings,
+                 data(from.single_ends), singles,           data(from.row_ends),  rows,
+                 from.validity,          from.validity_offset};
+  // Without singles no row fits.
+  if (rest != 0) raw.singles = 0, raw.row_ends = nullptr;
   row_encodings it{statuses(rows), std::vector<std::uint64_t>(rows), {}};
   const auto write = [&] {
     return wkb_column_from_coordinates(&raw, kind, dimension, &options, it.data.data(), it.data.size(), it.ends.data(),

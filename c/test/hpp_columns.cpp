@@ -212,6 +212,24 @@ void rows_of_ones_own(const shape &it, wkb_dim dimension) {
   }
 }
 
+// Words that are no whole number of coordinates: no row is written, whichever levels have ends.
+void words_without_a_whole_coordinate(wkb_dim dimension) {
+  const std::vector<double> words(3 * WIDTHS[dimension]);
+  const ends one{1};
+  const std::uint8_t validity = 0xfe;
+  for (std::size_t count = 1; count < words.size(); count++) {
+    if (count % WIDTHS[dimension] == 0) continue;
+    wkb::levels levels{.words = std::span(words).first(count), .validity = &validity};
+    const auto points = wkb::rows_from_coordinates(levels, WKB_KIND_POINT, dimension, BIG_EWKB);
+    wkb::statuses expected(count / WIDTHS[dimension] + 1, WKB_STATUS_BAD_LEVELS);
+    expected[0] = WKB_STATUS_NULL_ROW;
+    expect(points.statuses == expected && points.data.empty(), "points of words that are no whole coordinates");
+    levels.ring_ends = one, levels.validity = nullptr;
+    const auto line = wkb::rows_from_coordinates(levels, WKB_KIND_LINE_STRING, dimension, BIG_EWKB);
+    expect(line.statuses == wkb::statuses{WKB_STATUS_BAD_LEVELS} && line.data.empty(), "a line string of such words");
+  }
+}
+
 }  // namespace
 
 int main() {
@@ -223,5 +241,6 @@ int main() {
     }
     for (const shape &it : SHAPES)
       if (it.parts[0].kind != WKB_KIND_GEOMETRY_COLLECTION) rows_of_ones_own(it, dimension);
+    words_without_a_whole_coordinate(dimension);
   }
 }

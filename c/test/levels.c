@@ -55,6 +55,16 @@ static const worked WORKED[] = {
      {NULL, NULL, NULL, NULL}, {BAD, BAD, BAD, BAD}},
     /* Row 0 ends past the rings, and row 1, which has no single, begins there. */
     {"WX YZ", WKB_KIND_MULTI_POLYGON, WKB_DIM_XY, 2, 1, 2, ENDS(1, 2), ENDS(5), ENDS(1, 1), {NULL, NULL}, {BAD, BAD}},
+    /* More items than the rows have, at each level: those after them are as if they were not there. */
+    {"WX YZ ZY", WKB_KIND_POLYGON, WKB_DIM_XY, 3, 2, 1, ENDS(1, 3, 9), ENDS(1, 7), NULL,
+     {"01 03000000 01000000 01000000 WX"}, {OK}},
+    {"WX YZ ZY", WKB_KIND_MULTI_POINT, WKB_DIM_XY, 3, 3, 1, NULL, NULL, ENDS(2),
+     {"01 04000000 02000000 01 01000000 WX 01 01000000 YZ"}, {OK}},
+    /* A word more than a coordinate: it is ignored, and no row has it. */
+    {"WX Y", WKB_KIND_POINT, WKB_DIM_XY, 1, 1, 1, NULL, NULL, NULL, {"01 01000000 WX"}, {OK}},
+    {"WX Y", WKB_KIND_POINT, WKB_DIM_XY, 2, 2, 2, NULL, NULL, NULL, {"01 01000000 WX", NULL}, {OK, BAD}},
+    {"WXYZ ZYX", WKB_KIND_LINE_STRING, WKB_DIM_XYZM, 2, 2, 2, ENDS(1, 2), NULL, NULL,
+     {"01 ba0b0000 01000000 WXYZ", NULL}, {OK, BAD}},
 };
 static const size_t WIDTHS[4] = {2, 3, 3, 4};
 

@@ -37,7 +37,8 @@ fn pointer(ends: Option<&[u64]>) -> *const u64 {
 
 impl Levels<'_> {
     /// The encoding of each row. A row whose levels don't fit its kind or each other is [`Status::BAD_LEVELS`]; no row
-    /// stops the others.
+    /// stops the others. If the words are no whole number of coordinates, all rows are that; a level without ends has an
+    /// item for the rest of them as well.
     ///
     /// # Panics
     ///
@@ -45,10 +46,11 @@ impl Levels<'_> {
     #[must_use]
     pub fn encode(&self, kind: Kind, dimension: Dimension, options: &Options) -> Encodings {
         assert!(!matches!(kind, Kind::Ring | Kind::GeometryCollection), "rows of a {kind:?}");
-        let rings = self.ring_ends.map_or(self.words.len() / dimension.width(), <[u64]>::len);
+        let (whole, rest) = (self.words.len() / dimension.width(), self.words.len() % dimension.width());
+        let rings = self.ring_ends.map_or(whole + usize::from(rest != 0), <[u64]>::len);
         let singles = self.single_ends.map_or(rings, <[u64]>::len);
         let rows = self.row_ends.map_or(singles, <[u64]>::len);
-        let levels = raw::Levels {
+        let mut levels = raw::Levels {
             words: self.words.as_ptr(),
             word_count: self.words.len(),
             ring_ends: pointer(self.ring_ends),
@@ -60,6 +62,10 @@ impl Levels<'_> {
             validity: ptr::null(),
             validity_offset: 0,
         };
+        if rest != 0 {
+            // Without singles no row fits.
+            (levels.singles, levels.row_ends) = (0, ptr::null());
+        }
         let (mut ends, mut statuses) = (vec![0; rows], vec![0; rows]);
         let mut call = |out: *mut u8, room| {
             let (ends, statuses) = (ends.as_mut_ptr(), statuses.as_mut_ptr());

@@ -207,6 +207,24 @@ fn points_without_ends() {
     }
 }
 
+/// Words that are no whole number of coordinates: no row is written, whichever levels have ends.
+#[test]
+fn words_without_a_whole_coordinate() {
+    for dimension in DIMENSIONS {
+        let (width, options) = (width(dimension) as usize, Options::default());
+        let words = vec![1.0; 3 * width];
+        for count in (1..words.len()).filter(|it| it % width != 0) {
+            let levels = Levels { words: &words[..count], ..Levels::default() };
+            let points = levels.encode(Kind::Point, dimension, &options);
+            assert_eq!((points.statuses, points.data), (vec![Status::BAD_LEVELS; count / width + 1], vec![]));
+            let line = Levels { ring_ends: Some(&[1]), ..levels }.encode(Kind::LineString, dimension, &options);
+            assert_eq!((line.statuses, line.data), (vec![Status::BAD_LEVELS], vec![]), "{count} words");
+            let ends = Levels { row_ends: Some(&[0, 1]), ..levels }.encode(Kind::MultiPoint, dimension, &options);
+            assert_eq!((ends.statuses, ends.data), (vec![Status::BAD_LEVELS; 2], vec![]), "{count} words");
+        }
+    }
+}
+
 #[test]
 fn collected() {
     for case in cases().into_iter().filter(|it| number_of(it.kind) >= number_of(Kind::MultiPoint)) {
