@@ -38,10 +38,7 @@ fn main() {
         let (mut reader, mut out) = (Reader::default(), Vec::new());
         let checked = time(&inputs, |input| check(input).expect("a geometry").size as f64);
         let bounded = time(&inputs, |input| bounds(input).expect("a geometry").x.greatest);
-        let summed = time(&inputs, |input| {
-            let geometry = reader.read(input).expect("a geometry");
-            geometry.words(&geometry.parts()[0]).sum()
-        });
+        let summed = time(&inputs, |input| reader.read(input).expect("a geometry").whole().words().sum());
         let written = time(&inputs, |input| {
             write_into(input, &options, &mut out).expect("a geometry");
             out.len() as f64

@@ -98,8 +98,7 @@ impl Part {
 /// let line = [0, 0, 0, 0, 2, 0, 0, 0, 1, 0x3f, 0xf0, 0, 0, 0, 0, 0, 0, 0x40, 0, 0, 0, 0, 0, 0, 0];
 /// let mut reader = Reader::default();
 /// let geometry = reader.read(&line)?;
-/// let whole = &geometry.parts()[0];
-/// assert_eq!(geometry.words(whole).collect::<Vec<_>>(), [1.0, 2.0]);
+/// assert_eq!(geometry.whole().words().collect::<Vec<_>>(), [1.0, 2.0]);
 /// # Ok::<(), porchsorrel_wkb::Refused>(())
 /// ```
 #[derive(Clone, Debug, Default)]
@@ -170,18 +169,15 @@ impl<'t, 'b> Geometry<'t, 'b> {
         (0..self.parts.len()).map(move |index| View { geometry, index })
     }
 
-    /// The words of the coordinates of a ring, a point or a line string, one coordinate after another. Other parts have
-    /// none of their own.
-    ///
-    /// # Panics
-    ///
-    /// If the part is of another geometry, and this one has no bytes at its place.
+    /// What [`View::words`] has of a part, which is looked for in the table. A part of another geometry, which isn't
+    /// there, has no words here.
     #[must_use]
     pub fn words(&self, part: &Part) -> Words<'b> {
-        let count = if part.kind().has_coordinates() { part.count() * part.dimension().width() } else { 0 };
-        let begin = part.offset as usize;
-        let bytes = &self.bytes[begin..begin + 8 * count];
-        Words { bytes: bytes.chunks_exact(8), is_big: part.order() == Order::BigEndian }
+        // In preorder, each part begins after the one before it.
+        match self.parts.binary_search_by_key(&part.begin, |it| it.begin) {
+            Ok(index) if self.parts[index] == *part => View { geometry: *self, index }.words(),
+            _ => Words { bytes: [].chunks_exact(8), is_big: false },
+        }
     }
 }
 
@@ -217,10 +213,14 @@ impl<'t, 'b> View<'t, 'b> {
         &self.geometry.parts[self.index]
     }
 
-    /// The words of its coordinates, as [`Geometry::words`] has them.
+    /// The words of the coordinates of a ring, a point or a line string, one coordinate after another. Other parts have
+    /// none of their own.
     #[must_use]
     pub fn words(&self) -> Words<'b> {
-        self.geometry.words(self.part())
+        let part = self.part();
+        let count = if part.kind().has_coordinates() { part.count() * part.dimension().width() } else { 0 };
+        let bytes = &self.geometry.bytes[part.offset()..part.offset() + 8 * count];
+        Words { bytes: bytes.chunks_exact(8), is_big: part.order() == Order::BigEndian }
     }
 
     /// Its rings or members. A point and a line string have none.

@@ -66,6 +66,36 @@ fn words() {
     }
 }
 
+/// Words of a part that is no part of the geometry: by its place, or by what is there, or in the other order. A copy of
+/// a part is as good as the part.
+#[test]
+fn parts_of_another_geometry_have_no_words() {
+    let line = |first: f64, many: u64, order| {
+        let words: Vec<f64> = (0..2 * many).map(|it| first + it as f64).collect();
+        let ends = [many];
+        let levels = Levels { words: &words, ring_ends: Some(&ends), ..Levels::default() };
+        levels.encode(Kind::LineString, Dimension::Xy, &Options { order, form: Form::Iso }).data
+    };
+    let inputs = [collection(), line(1.0, 2, Order::BigEndian), line(1.0, 3, Order::BigEndian)]
+        .into_iter()
+        .chain([line(1.0, 2, Order::LittleEndian), point(&[1.0, 2.0], Dimension::Xy)])
+        .collect::<Vec<_>>();
+    let mut readers = vec![Reader::default(); inputs.len()];
+    let read: Vec<Geometry> = readers.iter_mut().zip(&inputs).map(|(it, input)| it.read(input).unwrap()).collect();
+    for (i, geometry) in read.iter().enumerate() {
+        for (k, other) in read.iter().enumerate() {
+            for view in other.views() {
+                let (copied, expected) = (*view.part(), if i == k { view.words().len() } else { 0 });
+                assert_eq!(geometry.words(&copied).len(), expected, "part {copied:?} of {k} in {i}");
+            }
+        }
+    }
+    // An equal part is where it is, with the words that this geometry has there.
+    let (other, mut reader) = (line(5.0, 2, Order::BigEndian), Reader::default());
+    let part = *reader.read(&other).unwrap().whole().part();
+    assert_eq!(read[1].words(&part).collect::<Vec<_>>(), [1.0, 2.0, 3.0, 4.0]);
+}
+
 /// Words that are kept after the reader has read another input, and after it is gone.
 #[test]
 fn words_live_as_long_as_the_input() {

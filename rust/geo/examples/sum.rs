@@ -64,7 +64,7 @@ fn main() {
     let mut sum = || match &words[1][..] {
         "words" => {
             let geometry = parts.read(&input).expect("a geometry");
-            geometry.parts().iter().map(|it| geometry.words(it).sum::<f64>()).sum::<f64>()
+            geometry.views().map(|it| it.words().sum::<f64>()).sum::<f64>()
         }
         "traits" => by_traits(&geometries.read(&input).expect("a geometry")),
         "owned" => by_traits(&read_wkb(&input).expect("a geometry")),
