@@ -15,7 +15,7 @@ pub enum NotCollected {
     NullRow(usize),
     /// The row's offsets are bad, as [`Column::check`] finds them.
     BadOffsets(usize),
-    /// The row is no geometry, or another one than the whole takes; counted from the row's own front.
+    /// The row is no geometry, or another one than the whole takes. Part and offset count from the row's own start.
     Refused(usize, Refused),
 }
 

@@ -101,19 +101,38 @@ impl fmt::Display for Status {
     }
 }
 
-/// The first fault of an input, and where it is.
+/// The first fault of an input, and where it is. The text says all of it.
+///
+/// ```
+/// use porchsorrel_wkb::{check, Status};
+///
+/// // A collection of two points, the second of which is cut off after its x: 13 bytes of 21.
+/// let mut input = b"\x01\x07\0\0\0\x02\0\0\0".to_vec();
+/// input.extend(b"\x01\x01\0\0\0\0\0\0\0\0\0\xf0\x3f\0\0\0\0\0\0\0\x40");
+/// input.extend(b"\x01\x01\0\0\0\0\0\0\0\0\0\x08\x40");
+/// let why = check(&input).unwrap_err();
+/// assert_eq!((why.status, why.part, why.offset), (Status::SHORT_POINT, 2, 30));
+/// assert_eq!((why.ends, why.code), (Some((21, 13)), None));
+/// assert_eq!(why.to_string(), "the input ends inside a point, at byte 30 (part 2): it needs 21 bytes and has 13");
+///
+/// // The second point has the code of a circular string.
+/// input[31] = 8;
+/// let why = check(&input).unwrap_err();
+/// assert_eq!((why.status, why.part, why.offset), (Status::CODE_OUT_OF_RANGE, 2, 30));
+/// assert_eq!((why.ends, why.code), (None, Some(8)));
+/// ```
 #[derive(Clone, Copy, Debug, Eq, PartialEq)]
 pub struct Refused {
-    /// What is wrong.
+    /// What is wrong. Match its class, such as [`Status::is_short`], since later versions may add statuses.
     pub status: Status,
     /// How many parts come before the rejected one, in preorder: 0 is the whole geometry.
     pub part: u64,
-    /// Where the rejected part begins, in bytes from the start of the input.
+    /// Where the rejected part begins, in bytes from the start of the input, whatever the status is.
     pub offset: usize,
     /// Where the input ends before the part does: how many bytes the part needs, and how many there are from its first
-    /// one on. Of an input that ends in a header or before a count there is no such number.
+    /// one on. Of an input that ends inside a header or before a count there are no such numbers.
     pub ends: Option<(u64, u64)>,
-    /// Of `CODE_OUT_OF_RANGE`: all bits of the code.
+    /// Of [`Status::CODE_OUT_OF_RANGE`]: all bits of the type code, with the flags of EWKB.
     pub code: Option<u32>,
 }
 
