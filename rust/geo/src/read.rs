@@ -161,11 +161,24 @@ impl<'b, T: AsRef<Reader>> Geometry<'b, T> {
     }
 }
 
+/// A trait of a geometry, and the same of a reference to one, which `geo-traits` leaves to who implements them.
+macro_rules! also_by_reference {
+    ($trait:ident for $name:ident { $($items:tt)* }) => {
+        impl<'b, T: AsRef<Reader>> $trait for $name<'b, T> {
+            $($items)*
+        }
+
+        impl<'b, T: AsRef<Reader>> $trait for &$name<'b, T> {
+            $($items)*
+        }
+    };
+}
+
 /// The trait that each geometry has: its dimension, and which geometry it is.
 #[rustfmt::skip]
 macro_rules! geometry_trait {
     ($name:ident, $it:ident => $node:expr, $kind:expr) => {
-        impl<'b, T: AsRef<Reader>> GeometryTrait for $name<'b, T> {
+        also_by_reference!(GeometryTrait for $name {
             type T = f64;
             type PointType<'a> = Point<'b, T> where Self: 'a;
             type LineStringType<'a> = LineString<'b, T> where Self: 'a;
@@ -191,7 +204,7 @@ macro_rules! geometry_trait {
                 let $it = self;
                 $kind
             }
-        }
+        });
     };
 }
 
@@ -221,11 +234,8 @@ macro_rules! kind_of_members {
     ($name:ident, $says:literal, $trait:ident, $inner:ident, $count:ident, $get:ident, $member:ident) => {
         kind!($name, $says);
 
-        impl<'b, T: AsRef<Reader>> $trait for $name<'b, T> {
-            type $inner<'a>
-                = $member<'b, &'a Reader>
-            where
-                Self: 'a;
+        also_by_reference!($trait for $name {
+            type $inner<'a> = $member<'b, &'a Reader> where Self: 'a;
 
             fn $count(&self) -> usize {
                 self.0.part().count()
@@ -234,7 +244,7 @@ macro_rules! kind_of_members {
             unsafe fn $get(&self, i: usize) -> $member<'b, &Reader> {
                 $member(self.0.member(i))
             }
-        }
+        });
     };
 }
 
@@ -270,11 +280,8 @@ kind_of_members!(
     Polygon
 );
 
-impl<'b, T: AsRef<Reader>> PointTrait for Point<'b, T> {
-    type CoordType<'a>
-        = Coord<'b>
-    where
-        Self: 'a;
+also_by_reference!(PointTrait for Point {
+    type CoordType<'a> = Coord<'b> where Self: 'a;
 
     /// None for the empty point, whose words are all NaNs.
     fn coord(&self) -> Option<Coord<'b>> {
@@ -282,13 +289,10 @@ impl<'b, T: AsRef<Reader>> PointTrait for Point<'b, T> {
         let width = self.0.part().dimension().width();
         (0..width).any(|n| !coord.nth_or_panic(n).is_nan()).then_some(coord)
     }
-}
+});
 
-impl<'b, T: AsRef<Reader>> LineStringTrait for LineString<'b, T> {
-    type CoordType<'a>
-        = Coord<'b>
-    where
-        Self: 'a;
+also_by_reference!(LineStringTrait for LineString {
+    type CoordType<'a> = Coord<'b> where Self: 'a;
 
     fn coords(&self) -> impl DoubleEndedIterator + ExactSizeIterator<Item = Coord<'b>> {
         let part = self.0.part();
@@ -304,7 +308,7 @@ impl<'b, T: AsRef<Reader>> LineStringTrait for LineString<'b, T> {
     unsafe fn coord_unchecked(&self, i: usize) -> Coord<'b> {
         self.0.coordinate(i)
     }
-}
+});
 
 impl<'b, T: AsRef<Reader>> LineString<'b, T> {
     /// The words of all coordinates, as they are in the input.
@@ -314,11 +318,8 @@ impl<'b, T: AsRef<Reader>> LineString<'b, T> {
     }
 }
 
-impl<'b, T: AsRef<Reader>> PolygonTrait for Polygon<'b, T> {
-    type RingType<'a>
-        = LineString<'b, &'a Reader>
-    where
-        Self: 'a;
+also_by_reference!(PolygonTrait for Polygon {
+    type RingType<'a> = LineString<'b, &'a Reader> where Self: 'a;
 
     fn num_interiors(&self) -> usize {
         self.0.part().count().saturating_sub(1)
@@ -331,13 +332,10 @@ impl<'b, T: AsRef<Reader>> PolygonTrait for Polygon<'b, T> {
     unsafe fn interior_unchecked(&self, i: usize) -> LineString<'b, &Reader> {
         LineString(self.0.member(i + 1))
     }
-}
+});
 
-impl<'b, T: AsRef<Reader>> GeometryCollectionTrait for GeometryCollection<'b, T> {
-    type GeometryType<'a>
-        = View<'a, 'b>
-    where
-        Self: 'a;
+also_by_reference!(GeometryCollectionTrait for GeometryCollection {
+    type GeometryType<'a> = View<'a, 'b> where Self: 'a;
 
     fn num_geometries(&self) -> usize {
         self.0.part().count()
@@ -347,4 +345,4 @@ impl<'b, T: AsRef<Reader>> GeometryCollectionTrait for GeometryCollection<'b, T>
         let Node { bytes, table, index } = self.0.member(i);
         View::of(bytes, table, index)
     }
-}
+});

@@ -70,6 +70,36 @@ fn each_kind_and_dimension() {
     }
 }
 
+/// What a reference to a geometry has by the traits: of the geometry, and of its kind.
+#[test]
+fn references() {
+    let inputs = inputs();
+    let rows = Rows::of(inputs.iter().map(|it| Some(&it.bytes)));
+    let all = rows.column().collect(Kind::GeometryCollection, Dimension::Xy, &Options::default()).unwrap();
+    let wkb = read_wkb(&all).unwrap();
+    let GeometryType::GeometryCollection(collection) = wkb.as_type() else { panic!("no collection") };
+    assert_eq!((of(&&wkb), of(&collection)), (of(&wkb), of(&wkb)));
+    assert_eq!(write_geometry(&&wkb, &Options::default()).as_deref(), Ok(&all[..]));
+    for (member, input) in GeometryCollectionTrait::geometries(&collection).zip(&inputs) {
+        let words = match member.as_type() {
+            GeometryType::Point(it) => (of(&it).1, of_point(&it)),
+            GeometryType::LineString(it) => (of(&it).1, of_line(&it)),
+            GeometryType::Polygon(it) => (of(&it).1, of_polygon(&it)),
+            GeometryType::MultiPoint(it) => {
+                (of(&it).1, MultiPointTrait::points(&it).flat_map(|it| of_point(&&it)).collect())
+            }
+            GeometryType::MultiLineString(it) => {
+                (of(&it).1, MultiLineStringTrait::line_strings(&it).flat_map(|it| of_line(&&it)).collect())
+            }
+            GeometryType::MultiPolygon(it) => {
+                (of(&it).1, MultiPolygonTrait::polygons(&it).flat_map(|it| of_polygon(&&it)).collect())
+            }
+            _ => panic!("a kind that no input has"),
+        };
+        assert_eq!(words, (input.words.clone(), input.words.clone()), "{}", input.kind);
+    }
+}
+
 #[test]
 fn a_collection_of_all() {
     let inputs = inputs();

@@ -1,0 +1,1 @@
+rd_("Acporchsorrel_wkb_geo")
