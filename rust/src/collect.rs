@@ -4,7 +4,6 @@ use crate::{raw, Column, Dimension, Kind, Options, Refused, Status};
 use alloc::vec;
 use alloc::vec::Vec;
 use core::fmt;
-use core::ptr;
 
 /// Why the rows could not be collected: the first row that can't be a member, counted from 0.
 #[derive(Clone, Copy, Debug, Eq, PartialEq)]
@@ -70,27 +69,22 @@ impl Column<'_> {
     /// If the kind has no geometries as members.
     pub fn collect(&self, kind: Kind, dimension: Dimension, options: &Options) -> Result<Vec<u8>, NotCollected> {
         assert!(kind as u32 >= Kind::MultiPoint as u32, "members of a {kind:?}");
-        let (column, options) = (self.raw(), options.raw());
-        let (mut size, mut row, mut fault) = (0, 0, raw::Fault::default());
-        let mut call = |out: *mut u8, room| {
-            let (kind, dimension, out) = (kind as u32, dimension as u32, out.cast());
-            // SAFETY: the column has its slices' lengths, and `out` has so much room.
-            let status = unsafe {
-                raw::wkb_collect(&column, kind, dimension, &options, out, room, &mut size, &mut fault, &mut row)
-            };
-            (Status::of(status), size)
+        let (column, options, mut told) = (self.raw(), options.raw(), raw::Collected::default());
+        let mut call = |out: &mut [u8]| {
+            let status = raw::collect(&column, kind, dimension, &options, out, &mut told);
+            (Status::of(status), told.size)
         };
-        let (mut status, needed) = call(ptr::null_mut(), 0);
+        let (mut status, needed) = call(&mut []);
         let mut data = vec![0; needed];
         if status == Status::NO_ROOM {
-            (status, _) = call(data.as_mut_ptr(), needed);
+            (status, _) = call(&mut data);
         }
         match status {
             Status::OK => Ok(data),
             Status::TOO_MANY_ROWS => Err(NotCollected::TooManyRows),
-            Status::NULL_ROW => Err(NotCollected::NullRow(row)),
-            Status::BAD_OFFSETS => Err(NotCollected::BadOffsets(row)),
-            _ => Err(NotCollected::Refused(row, Refused::of(fault))),
+            Status::NULL_ROW => Err(NotCollected::NullRow(told.row)),
+            Status::BAD_OFFSETS => Err(NotCollected::BadOffsets(told.row)),
+            _ => Err(NotCollected::Refused(told.row, Refused::of(told.fault))),
         }
     }
 }

@@ -4,13 +4,26 @@ use crate::{raw, Bounds, Dimension, Options, Status};
 use alloc::vec;
 use alloc::vec::Vec;
 use core::ops::Range;
-use core::ptr;
 
 /// The offsets of a column: one more than there are rows, of 32 bits (binary) or 64 (large binary).
 #[derive(Clone, Copy, Debug)]
-enum Offsets<'a> {
+pub enum Offsets<'a> {
     Small(&'a [i32]),
     Large(&'a [i64]),
+}
+
+impl Offsets<'_> {
+    pub fn rows(&self) -> usize {
+        match self {
+            Offsets::Small(offsets) => offsets.len().saturating_sub(1),
+            Offsets::Large(offsets) => offsets.len().saturating_sub(1),
+        }
+    }
+}
+
+/// Whether there are so many bits from the first one on.
+pub(crate) fn has_bits(bits: &[u8], first: usize, many: usize) -> bool {
+    first.checked_add(many).map_or(false, |needed| needed <= bits.len().saturating_mul(8))
 }
 
 /// A column as Arrow has it: row i has the bytes of the data from offset i up to offset i + 1. Offsets and validity may
@@ -34,6 +47,11 @@ pub struct Encodings {
 }
 
 impl Encodings {
+    /// Results of so many rows, and no data yet.
+    pub(crate) fn of(rows: usize) -> Encodings {
+        Encodings { data: vec![], ends: vec![0; rows], statuses: vec![Status::OK; rows] }
+    }
+
     /// The encoding of a row, where it has one.
     ///
     /// # Panics
@@ -117,17 +135,13 @@ impl<'a> Column<'a> {
     /// `first`. None if there are fewer bits than rows.
     #[must_use]
     pub fn with_validity(self, bits: &'a [u8], first: usize) -> Option<Self> {
-        let needed = first.checked_add(self.rows())?;
-        (needed <= bits.len().saturating_mul(8)).then_some(Column { validity: Some((bits, first)), ..self })
+        has_bits(bits, first, self.rows()).then_some(Column { validity: Some((bits, first)), ..self })
     }
 
     /// How many rows there are.
     #[must_use]
     pub fn rows(&self) -> usize {
-        match self.offsets {
-            Offsets::Small(offsets) => offsets.len().saturating_sub(1),
-            Offsets::Large(offsets) => offsets.len().saturating_sub(1),
-        }
+        self.offsets.rows()
     }
 
     /// The rows of a range as a column. A row that begins before the end of an earlier one has bad offsets in columns
@@ -181,86 +195,44 @@ impl<'a> Column<'a> {
         }
     }
 
-    pub(crate) fn raw(&self) -> raw::Column {
-        let (offsets, offset_size) = match self.offsets {
-            Offsets::Small(offsets) => (offsets.as_ptr().cast(), 4),
-            Offsets::Large(offsets) => (offsets.as_ptr().cast(), 8),
-        };
-        let (validity, validity_offset) =
-            self.validity.map_or((ptr::null(), 0), |(bits, first)| (bits.as_ptr(), first));
-        raw::Column {
-            data: self.data.as_ptr().cast(),
-            size: self.data.len(),
-            offsets,
-            offset_size,
-            validity: validity.cast(),
-            validity_offset,
-            rows: self.rows(),
-        }
+    pub(crate) fn raw(&self) -> raw::Column<'a> {
+        raw::Column::of(self.data, self.offsets, self.validity)
     }
 
     /// What [`check`](crate::check) finds of each row.
     #[must_use]
     pub fn check(&self) -> Vec<Status> {
-        let mut statuses = vec![0; self.rows()];
-        // SAFETY: the column has its slices' lengths, and there is a status for each row.
-        unsafe { raw::wkb_column_check(&self.raw(), statuses.as_mut_ptr()) };
-        Status::all(statuses)
+        raw::column_check(&self.raw())
     }
 
     /// What [`bounds`](crate::bounds) finds of each row: those of no coordinate where it has none.
     #[must_use]
     pub fn bounds(&self) -> (Vec<Bounds>, Vec<Status>) {
-        let (mut bounds, mut statuses) = (vec![Bounds::EMPTY; self.rows()], vec![0; self.rows()]);
-        // SAFETY: the column has its slices' lengths, and there are bounds and a status for each row.
-        unsafe { raw::wkb_column_bounds(&self.raw(), bounds.as_mut_ptr(), statuses.as_mut_ptr()) };
-        (bounds, Status::all(statuses))
+        raw::column_bounds(&self.raw())
     }
 
     /// What [`write`](crate::write) makes of each row.
     #[must_use]
     pub fn write(&self, options: &Options) -> Encodings {
+        let mut made = Encodings::of(self.rows());
         // Rows that are read don't overlap, and an encoding is at most four bytes longer than its row.
-        let mut data = vec![0; self.data.len() + 4 * self.rows()];
-        let (mut ends, mut statuses) = (vec![0; self.rows()], vec![0; self.rows()]);
-        let (out, room) = (data.as_mut_ptr().cast(), data.len());
-        let (column, options) = (self.raw(), options.raw());
-        // SAFETY: the column has its slices' lengths, and there are an end and a status for each row.
-        let end =
-            unsafe { raw::wkb_column_write(&column, &options, out, room, ends.as_mut_ptr(), statuses.as_mut_ptr()) };
-        data.truncate(end);
-        Encodings { data, ends, statuses: Status::all(statuses) }
+        made.data = vec![0; self.data.len() + 4 * self.rows()];
+        let end = raw::column_write(&self.raw(), &options.raw(), &mut made);
+        made.data.truncate(end);
+        made
     }
 
     /// The coordinates of each row. Words that the dimension doesn't name are left out, and a word that a geometry
     /// doesn't have is a NaN.
     #[must_use]
     pub fn coordinates(&self, dimension: Dimension) -> Coordinates {
-        let (mut row_ends, mut statuses) = (vec![0; self.rows()], vec![0; self.rows()]);
-        let column = self.raw();
-        let mut out = raw::Coordinates {
-            words: ptr::null_mut(),
-            words_room: 0,
-            ring_ends: ptr::null_mut(),
-            ring_room: 0,
-            single_ends: ptr::null_mut(),
-            single_room: 0,
-            row_ends: row_ends.as_mut_ptr(),
-            coordinates: 0,
-            rings: 0,
-            singles: 0,
-        };
-        // SAFETY: the column has its slices' lengths, there are an end and a status for each row, and no room else.
-        unsafe { raw::wkb_column_coordinates(&column, dimension as u32, &mut out, statuses.as_mut_ptr()) };
-        let mut words = vec![0.0; dimension.width() * out.coordinates as usize];
-        let mut ring_ends = vec![0; out.rings as usize];
-        let mut single_ends = vec![0; out.singles as usize];
-        (out.words, out.words_room) = (words.as_mut_ptr(), words.len());
-        (out.ring_ends, out.ring_room) = (ring_ends.as_mut_ptr(), ring_ends.len());
-        (out.single_ends, out.single_room) = (single_ends.as_mut_ptr(), single_ends.len());
-        // SAFETY: the same, and each list has the room that is said.
-        unsafe { raw::wkb_column_coordinates(&column, dimension as u32, &mut out, statuses.as_mut_ptr()) };
-        Coordinates { words, ring_ends, single_ends, row_ends, statuses: Status::all(statuses) }
+        let (row_ends, statuses) = (vec![0; self.rows()], vec![Status::OK; self.rows()]);
+        let mut made = Coordinates { row_ends, statuses, ..Coordinates::default() };
+        let [coordinates, rings, singles] = raw::column_coordinates(&self.raw(), dimension, &mut made);
+        made.words = vec![0.0; dimension.width() * coordinates];
+        (made.ring_ends, made.single_ends) = (vec![0; rings], vec![0; singles]);
+        raw::column_coordinates(&self.raw(), dimension, &mut made);
+        made
     }
 }
 

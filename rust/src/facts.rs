@@ -2,7 +2,6 @@
 //! What occurs in the rows of a column.
 use crate::{raw, Bounds, Column, Dimension, Found, Kind, Status};
 use alloc::collections::{BTreeMap, BTreeSet};
-use alloc::vec;
 use alloc::vec::Vec;
 
 /// What is found of each row.
@@ -106,10 +105,8 @@ impl Column<'_> {
     /// What [`check`](crate::check) finds of each row.
     #[must_use]
     pub fn found(&self) -> FoundRows {
-        let (mut found, mut statuses) = (vec![raw::Found::default(); self.rows()], vec![0; self.rows()]);
-        // SAFETY: the column has its slices' lengths, and there are a record and a status for each row.
-        unsafe { raw::wkb_column_found(&self.raw(), found.as_mut_ptr(), statuses.as_mut_ptr()) };
-        FoundRows { found, statuses: Status::all(statuses) }
+        let (found, statuses) = raw::column_found(&self.raw());
+        FoundRows { found, statuses }
     }
 
     /// What occurs in the rows. On the way it takes memory for a thousand rows, or where offsets decrease for all.

@@ -131,13 +131,8 @@ impl Reader {
 
     fn fill(&mut self, bytes: &[u8], many: usize) {
         self.table.reserve(many);
-        let (mut count, mut fault) = (0, raw::Fault::default());
-        let (room, table) = (self.table.capacity(), self.table.as_mut_ptr());
-        // SAFETY: the table has room for so many parts, and the input is `bytes`.
-        let status = unsafe { raw::wkb_parts(bytes.as_ptr().cast(), bytes.len(), table, room, &mut count, &mut fault) };
-        assert_eq!((status, count), (0, many), "an accepted input has as many parts as the check says");
-        // SAFETY: the call has written so many.
-        unsafe { self.table.set_len(count) };
+        let status = raw::parts(bytes, &mut self.table, &mut raw::Fault::default());
+        assert_eq!((status, self.table.len()), (0, many), "an accepted input has as many parts as the check says");
     }
 }
 

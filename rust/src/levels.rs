@@ -1,9 +1,9 @@
 // SPDX-License-Identifier: MIT OR Apache-2.0
 //! Encodings of one's own coordinates.
-use crate::{raw, Dimension, Encodings, Kind, Options, Status};
+use crate::raw::{column_from_coordinates, Level};
+use crate::{Dimension, Encodings, Kind, Options};
 use alloc::vec;
 use alloc::vec::Vec;
-use core::ptr;
 
 /// Rows of one kind and dimension, as [`Coordinates`](crate::Coordinates) has them. Where the ends of a level are left
 /// out, item i has item i of the next level: points need no ends, line strings `ring_ends`, polygons `single_ends` too,
@@ -31,14 +31,15 @@ pub struct Levels<'a> {
     pub row_ends: Option<&'a [u64]>,
 }
 
-fn pointer(ends: Option<&[u64]>) -> *const u64 {
-    ends.map_or(ptr::null(), <[u64]>::as_ptr)
+/// A level over one with so many items.
+fn level(ends: Option<&[u64]>, below: usize) -> Level<'_> {
+    ends.map_or(Level::Items(below), Level::Ends)
 }
 
 impl Levels<'_> {
-    /// The encoding of each row. A row whose levels don't fit its kind or each other is [`Status::BAD_LEVELS`]; no row
-    /// stops the others. If the words are no whole number of coordinates, all rows are that; a level without ends has an
-    /// item for the rest of them as well.
+    /// The encoding of each row. A row whose levels don't fit its kind or each other is
+    /// [`Status::BAD_LEVELS`](crate::Status::BAD_LEVELS); no row stops the others. If the words are no whole number of
+    /// coordinates, all rows are that; a level without ends has an item for the rest of them as well.
     ///
     /// # Panics
     ///
@@ -47,38 +48,19 @@ impl Levels<'_> {
     pub fn encode(&self, kind: Kind, dimension: Dimension, options: &Options) -> Encodings {
         assert!(!matches!(kind, Kind::Ring | Kind::GeometryCollection), "rows of a {kind:?}");
         let (whole, rest) = (self.words.len() / dimension.width(), self.words.len() % dimension.width());
-        let rings = self.ring_ends.map_or(whole + usize::from(rest != 0), <[u64]>::len);
-        let singles = self.single_ends.map_or(rings, <[u64]>::len);
-        let rows = self.row_ends.map_or(singles, <[u64]>::len);
-        let mut levels = raw::Levels {
-            words: self.words.as_ptr(),
-            word_count: self.words.len(),
-            ring_ends: pointer(self.ring_ends),
-            rings,
-            single_ends: pointer(self.single_ends),
-            singles,
-            row_ends: pointer(self.row_ends),
-            rows,
-            validity: ptr::null(),
-            validity_offset: 0,
-        };
-        if rest != 0 {
+        let rings = level(self.ring_ends, whole + usize::from(rest != 0));
+        let singles = level(self.single_ends, rings.items());
+        let rows = level(self.row_ends, singles.items());
+        let levels = match rest {
+            0 => [rings, singles, rows],
             // Without singles no row fits.
-            (levels.singles, levels.row_ends) = (0, ptr::null());
-        }
-        let (mut ends, mut statuses) = (vec![0; rows], vec![0; rows]);
-        let mut call = |out: *mut u8, room| {
-            let (ends, statuses) = (ends.as_mut_ptr(), statuses.as_mut_ptr());
-            let (kind, dimension, options) = (kind as u32, dimension as u32, options.raw());
-            // SAFETY: the levels have their slices' lengths, there are an end and a status for each row, and `out` has
-            // so much room.
-            unsafe {
-                raw::wkb_column_from_coordinates(&levels, kind, dimension, &options, out.cast(), room, ends, statuses)
-            }
+            _ => [rings, Level::Items(0), Level::Items(rows.items())],
         };
-        let mut data = vec![0; call(ptr::null_mut(), 0)];
-        call(data.as_mut_ptr(), data.len());
-        Encodings { data, ends, statuses: Status::all(statuses) }
+        let (mut made, options) = (Encodings::of(rows.items()), options.raw());
+        let size = column_from_coordinates(self.words, levels, kind, dimension, &options, &mut made);
+        made.data = vec![0; size];
+        column_from_coordinates(self.words, levels, kind, dimension, &options, &mut made);
+        made
     }
 }
 

@@ -1,7 +1,7 @@
 // SPDX-License-Identifier: MIT OR Apache-2.0
 #![doc = include_str!("../README.md")]
 #![no_std]
-#![deny(missing_docs, unsafe_op_in_unsafe_fn)]
+#![deny(missing_docs, unsafe_code, unsafe_op_in_unsafe_fn)]
 
 extern crate alloc;
 #[cfg(feature = "std")]
@@ -69,8 +69,7 @@ impl Found {
 /// The version of the C library: a million times the major one, a thousand times the minor one, and the patch.
 #[must_use]
 pub fn version() -> u32 {
-    // SAFETY: the call takes nothing.
-    unsafe { raw::wkb_version() }
+    raw::version()
 }
 
 /// Whether a geometry of the grammar is at the start of the input, with at most 128 collections inside one another.
@@ -81,9 +80,7 @@ pub fn version() -> u32 {
 /// The first fault of the input.
 pub fn check(bytes: &[u8]) -> Result<Found, Refused> {
     let (mut found, mut fault) = (raw::Found::default(), raw::Fault::default());
-    // SAFETY: the input is `bytes`.
-    let status = unsafe { raw::wkb_check(bytes.as_ptr().cast(), bytes.len(), &mut found, &mut fault) };
-    if status == 0 {
+    if raw::check(bytes, &mut found, &mut fault) == 0 {
         Ok(Found::of(&found))
     } else {
         Err(Refused::of(fault))
@@ -97,9 +94,7 @@ pub fn check(bytes: &[u8]) -> Result<Found, Refused> {
 /// As [`check`] rejects the input.
 pub fn bounds(bytes: &[u8]) -> Result<Bounds, Refused> {
     let (mut bounds, mut fault) = (Bounds::EMPTY, raw::Fault::default());
-    // SAFETY: the input is `bytes`.
-    let status = unsafe { raw::wkb_bounds(bytes.as_ptr().cast(), bytes.len(), &mut bounds, &mut fault) };
-    if status == 0 {
+    if raw::bounds(bytes, &mut bounds, &mut fault) == 0 {
         Ok(bounds)
     } else {
         Err(Refused::of(fault))
@@ -126,16 +121,9 @@ pub fn write_into(bytes: &[u8], options: &Options, out: &mut Vec<u8>) -> Result<
     out.clear();
     // An encoding is at most four bytes longer than its input.
     out.reserve(bytes.len() + 4);
-    let (mut size, mut fault) = (0, raw::Fault::default());
-    let (room, memory) = (out.capacity(), out.as_mut_ptr().cast());
-    let (input, options) = (bytes.as_ptr().cast(), options.raw());
-    // SAFETY: the input is `bytes`, and the vector has room for so many bytes.
-    match unsafe { raw::wkb_write(input, bytes.len(), &options, memory, room, &mut size, &mut fault) } {
-        0 => {
-            // SAFETY: the call has written so many.
-            unsafe { out.set_len(size) };
-            Ok(())
-        }
+    let mut fault = raw::Fault::default();
+    match raw::write(bytes, &options.raw(), out, &mut fault) {
+        0 => Ok(()),
         status => {
             assert!(Status::of(status).is_refusal(), "there is room, and the options mean something");
             Err(Refused::of(fault))
@@ -172,10 +160,7 @@ impl std::error::Error for RefusedInput {}
 /// As [`check`] rejects the first input, or else the second.
 pub fn same(a: &[u8], b: &[u8]) -> Result<bool, RefusedInput> {
     let (mut equal, mut which, mut fault) = (0, 0, raw::Fault::default());
-    let (first, second) = (a.as_ptr().cast(), b.as_ptr().cast());
-    // SAFETY: the inputs are `a` and `b`.
-    let status = unsafe { raw::wkb_same(first, a.len(), second, b.len(), &mut equal, &mut fault, &mut which) };
-    match (status, which) {
+    match (raw::same(a, b, &mut equal, &mut fault, &mut which), which) {
         (0, _) => Ok(equal == 1),
         (_, 1) => Err(RefusedInput::First(Refused::of(fault))),
         _ => Err(RefusedInput::Second(Refused::of(fault))),

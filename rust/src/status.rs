@@ -1,7 +1,6 @@
 // SPDX-License-Identifier: MIT OR Apache-2.0
 //! Why an input is rejected, and what became of the rows of a column.
 use crate::raw;
-use alloc::vec::Vec;
 use core::fmt;
 
 /// What became of an input or of a row. The constants are those of this version; later ones add more inside the
@@ -48,10 +47,6 @@ impl Status {
         Status(number as u8)
     }
 
-    pub(crate) fn all(numbers: Vec<u8>) -> Vec<Status> {
-        numbers.into_iter().map(Status).collect()
-    }
-
     /// The number of `wkb_status` in `c/wkb.h`.
     #[must_use]
     pub fn number(self) -> u8 {
@@ -84,8 +79,7 @@ impl Status {
     /// The text of the status, in one line.
     #[must_use]
     pub fn text(self) -> &'static str {
-        // SAFETY: the library returns a static string in ASCII for every number.
-        unsafe { raw::text(raw::wkb_status_text(self.0.into())) }
+        raw::status_text(self.0.into())
     }
 }
 
@@ -158,8 +152,7 @@ impl Refused {
 impl fmt::Display for Refused {
     fn fmt(&self, f: &mut fmt::Formatter<'_>) -> fmt::Result {
         let mut out = [0u8; raw::FAULT_TEXT_ROOM];
-        // SAFETY: `out` has so much room.
-        let len = unsafe { raw::wkb_fault_text(&self.fault(), out.as_mut_ptr(), out.len()) };
+        let len = raw::fault_text(&self.fault(), &mut out);
         f.write_str(out.get(..len).and_then(|text| core::str::from_utf8(text).ok()).unwrap_or_default())
     }
 }

@@ -51,8 +51,7 @@ impl Kind {
     /// The name in lower case, such as `linestring`.
     #[must_use]
     pub fn text(self) -> &'static str {
-        // SAFETY: the library returns a static string in ASCII for every number.
-        unsafe { raw::text(raw::wkb_kind_text(self as u32)) }
+        raw::kind_text(self as u32)
     }
 }
 
