@@ -1,2 +1,0 @@
-window.ALL_CRATES = ["porchsorrel_wkb_geo"];
-//{"start":21,"fragment_lengths":[21]}

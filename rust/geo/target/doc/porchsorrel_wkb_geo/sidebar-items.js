@@ -1,1 +1,0 @@
-window.SIDEBAR_ITEMS = {"enum":["Form","Geometry","NotWritten","Order"],"fn":["geometry_size","read_wkb","write_geometry"],"struct":["Coord","GeometryCollection","LineString","MultiLineString","MultiPoint","MultiPolygon","Options","Point","Polygon","Reader","Refused","Status"],"type":["View","Wkb"]};

@@ -1,1 +1,0 @@
-rd_("Acporchsorrel_wkb_geo")

@@ -1,9 +1,0 @@
-(function() {
-    const implementors = Object.fromEntries([["porchsorrel_wkb_geo",[["impl <a class=\"trait\" href=\"https://doc.rust-lang.org/1.95.0/core/fmt/trait.Display.html\" title=\"trait core::fmt::Display\">Display</a> for <a class=\"enum\" href=\"porchsorrel_wkb_geo/enum.NotWritten.html\" title=\"enum porchsorrel_wkb_geo::NotWritten\">NotWritten</a>",0]]]]);
-    if (window.register_implementors) {
-        window.register_implementors(implementors);
-    } else {
-        window.pending_implementors = implementors;
-    }
-})()
-//{"start":59,"fragment_lengths":[306]}
