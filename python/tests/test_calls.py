@@ -31,6 +31,18 @@ class Calls(unittest.TestCase):
         for index in (2, -3):
             self.assertRaises(IndexError, lambda: table[index])
 
+    def test_each_number_of_parts(self):
+        """The members of multi points, one after another, by their number."""
+        for count in (0, 1, 62, 63, 64, 5000):
+            whole, *members = wkb.parts(struct.pack("<BII", 1, 4, count) + count * POINT)
+            ends = 9 + 21 * count, 9, count, count + 1
+            self.assertEqual(whole, Part(0, *ends, None, Kind.MULTI_POINT, Dimension.XY, Order.LITTLE))
+            self.assertEqual(len(members), count)
+            for i, it in enumerate(members):
+                begin = 9 + 21 * i
+                place = begin, begin + 21, begin + 5, 1, i + 2
+                self.assertEqual(it, Part(*place, None, Kind.POINT, Dimension.XY, Order.LITTLE))
+
     def test_coordinates(self):
         whole, ring = wkb.parts(POLYGON)
         self.assertEqual(wkb.coordinates(POLYGON, ring), [(1.0, 2.0)])

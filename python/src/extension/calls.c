@@ -4,8 +4,9 @@
 
 #include "extension.h"
 
-/* What is no longer is written first into memory of the call's own, and is copied from there into an object. */
-enum { SMALL = 4096 };
+/* What is no longer is written first into memory of the call's own, and is copied from there into an object: so many
+ * bytes of an encoding, or parts. */
+enum { SMALL = 4096, FEW = 64 };
 
 /* The second pass over an input found something else than the first. */
 static PyObject *changed(PyObject *made) {
@@ -120,31 +121,42 @@ static PyObject *same(PyObject *module, PyObject *const *args, Py_ssize_t count)
   return result;
 }
 
+/* Parts that are more than FEW, whose number is known. */
+static PyObject *parts_of_many(const holds *h, span in, size_t count) {
+  wkb_fault fault;
+  size_t again = 0;
+  PyObject *memory = PyByteArray_FromStringAndSize(NULL, (Py_ssize_t)(count * sizeof(wkb_part)));
+  if (memory == NULL) return NULL;
+  void *to = PyByteArray_AsString(memory);
+  PyThreadState *unlocked = unlock(h, in.size);
+  uint32_t status = wkb_parts(in.at, in.size, to, count, &again, &fault);
+  lock(unlocked);
+  return status == WKB_STATUS_OK && again == count ? memory : changed(memory);
+}
+
 /* The table of the parts, in memory of its own. */
 static PyObject *parts(PyObject *module, PyObject *data) {
+  state *s = state_of(module);
+  wkb_part few[FEW];
   holds h;
   span in;
-  wkb_found found = {.parts = 0};
   wkb_fault fault;
   size_t count = 0;
-  PyObject *table = NULL;
+  PyObject *memory = NULL;
   h.count = h.may_change = 0;
   if (hold_input(&h, data, &in) < 0) return NULL;
   PyThreadState *unlocked = unlock(&h, in.size);
-  uint32_t status = wkb_check(in.at, in.size, &found, &fault);
+  uint32_t status = wkb_parts(in.at, in.size, few, FEW, &count, &fault);
   lock(unlocked);
   if (status == WKB_STATUS_OK)
-    table = PyByteArray_FromStringAndSize(NULL, (Py_ssize_t)(found.parts * sizeof(wkb_part)));
+    memory = PyByteArray_FromStringAndSize((const char *)few, (Py_ssize_t)(count * sizeof *few));
+  else if (status == WKB_STATUS_NO_ROOM)
+    memory = parts_of_many(&h, in, count);
   else
-    refuse(state_of(module), status, &fault, 1, in);
-  if (table != NULL) {
-    void *to = PyByteArray_AsString(table);
-    unlocked = unlock(&h, in.size);
-    status = wkb_parts(in.at, in.size, to, (size_t)found.parts, &count, &fault);
-    lock(unlocked);
-    if (status != WKB_STATUS_OK || count != found.parts) table = changed(table);
-  }
+    refuse(s, status, &fault, 1, in);
   let(&h);
+  PyObject *table = memory == NULL ? NULL : table_of(s, PART, memory);
+  Py_XDECREF(memory);
   return table;
 }
 

@@ -15,7 +15,7 @@
 _Static_assert(sizeof(size_t) == 8, "sizes and offsets are 64-bit integers");
 
 /* What `give` gets of the package: types, tuples of members, and a function. Then what is made here once. */
-enum { FOUND, FAULT, PART, RANGE, BOX, REFUSED, STATUSES, TEXTS, KINDS, DIMENSIONS, ORDERS, OPTIONS, GIVEN };
+enum { FOUND, FAULT, PART, RANGE, BOX, TABLE, REFUSED, STATUSES, TEXTS, KINDS, DIMENSIONS, ORDERS, OPTIONS, GIVEN };
 enum { EMPTY_RANGE = GIVEN, HELD };
 typedef struct {
   PyObject *it[HELD];
@@ -48,6 +48,7 @@ void lock(PyThreadState *unlocked);
 int add_records(PyObject *module);
 PyObject *geometry_of(state *s, int which, const void *from);
 PyObject *box_of(state *s, const wkb_box *box);
+PyObject *table_of(state *s, int which, PyObject *memory);
 PyObject *refuse(state *s, uint32_t status, const wkb_fault *fault, uint32_t which, span input);
 int read_part(state *s, PyObject *given, wkb_part *out);
 PyObject *read_record(PyObject *module, PyObject *args);

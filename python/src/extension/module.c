@@ -2,7 +2,7 @@
 /* The module `porchsorrel_wkb._wkb`: its calls, and what it gets of the package. */
 #include "extension.h"
 
-/* give(Found, Fault, Part, Range, Box, Refused, statuses, texts, kinds, dimensions, orders, make_options) */
+/* give(Found, Fault, Part, Range, Box, Table, Refused, statuses, texts, kinds, dimensions, orders, make_options) */
 static PyObject *give(PyObject *module, PyObject *args) {
   state *s = state_of(module);
   for (int i = 0; i < GIVEN; i++) {

@@ -1,6 +1,6 @@
 /* SPDX-License-Identifier: MIT OR Apache-2.0 */
-/* Records: objects with a few values at fixed places, which the package's frozen dataclasses inherit. They hold
- * numbers, members of enums and other such records, so the collector of cycles doesn't look at them. */
+/* Records: objects with a few values at fixed places, which the package's frozen dataclasses and its tables inherit.
+ * They hold numbers, members of enums, memory and other such records: the collector of cycles doesn't look at them. */
 #include "extension.h"
 
 #include <string.h>
@@ -21,6 +21,7 @@ static const struct {
     [PART] = {PACKAGE "PartValues", {"begin", "end", "offset", "count", "next", "srid", "kind", "dimension", "order"}},
     [RANGE] = {PACKAGE "RangeValues", {"least", "greatest", "count"}},
     [BOX] = {PACKAGE "BoxValues", {"x", "y", "z", "m"}},
+    [TABLE] = {PACKAGE "TableValues", {"_record", "_memory"}},
 };
 
 static void dealloc_record(PyObject *self) {
@@ -32,7 +33,7 @@ static void dealloc_record(PyObject *self) {
 
 /* Adds the types with the values of records. Members are copied, but for their names. */
 int add_records(PyObject *module) {
-  for (int which = FOUND; which <= BOX; which++) {
+  for (int which = FOUND; which <= TABLE; which++) {
     PyMemberDef members[MOST_VALUES + 1] = {{NULL, 0, 0, 0, NULL}};
     for (int i = 0; RECORD[which].fields[i] != NULL; i++) {
       Py_ssize_t place = (Py_ssize_t)(offsetof(record, value) + (size_t)i * sizeof(PyObject *));
@@ -109,6 +110,15 @@ PyObject *box_of(state *s, const wkb_box *box) {
   it->value[2] = range_of(s, &box->z);
   it->value[3] = range_of(s, &box->m);
   return whole(it, 4);
+}
+
+/* The table of such records in this memory. */
+PyObject *table_of(state *s, int which, PyObject *memory) {
+  record *it = new_record(s, TABLE);
+  if (it == NULL) return NULL;
+  it->value[0] = Py_NewRef(s->it[which]);
+  it->value[1] = PyMemoryView_FromObject(memory);
+  return whole(it, 2);
 }
 
 static PyObject *fault_of(state *s, const wkb_fault *f) {

@@ -81,7 +81,7 @@ def make_options(order: Order, form: Optional[Form], srid: Optional[int]) -> Tup
 # The statuses that fit a byte, and what they say.
 STATUSES = range(256)
 _wkb.give(
-    Found, Fault, Part, Range, Box, Refused,
+    Found, Fault, Part, Range, Box, Table, Refused,
     tuple(map(Status, STATUSES)), tuple(map(_wkb.status_text, STATUSES)),
     tuple(Kind), tuple(Dimension), tuple(Order), make_options,
 )
@@ -106,7 +106,7 @@ def same(first: Buffer, second: Buffer) -> bool:
 
 def parts(data: Buffer) -> Table[Part]:
     """Return the parts of the geometry at the start of the bytes, in preorder: itself, and its rings and members."""
-    return Table(Part, _wkb.parts(data))
+    return _wkb.parts(data)
 
 
 def _no_such(part: Union[Part, Found]) -> ValueError:

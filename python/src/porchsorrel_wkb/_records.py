@@ -190,18 +190,21 @@ def _shown(value: Any) -> str:
 Record = TypeVar("Record", Found, Part, Box)
 
 
-class Table(Sequence[Record]):
+class Table(_wkb.TableValues, Sequence[Record]):
     """Records as the library has written them: each becomes a Python object when it is asked for.
 
     `numpy.asarray(table)` is a structured array of them without a copy. Its fields have the names that they have in
     wkb.h.
     """
 
-    __slots__ = "_record", "_memory"
+    __slots__ = ()
+
+    _record: Any
+    _memory: memoryview
 
     def __init__(self, record: Type[Record], memory: Buffer):
         buffer: Any = memory
-        self._record: Any = record
+        self._record = record
         self._memory = memoryview(buffer)
 
     def __len__(self) -> int:
