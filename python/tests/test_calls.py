@@ -31,6 +31,16 @@ class Calls(unittest.TestCase):
         for index in (2, -3):
             self.assertRaises(IndexError, lambda: table[index])
 
+    def test_well_formed(self):
+        """One geometry and nothing after it: what lacks a byte, or has one more, is none, and raises nothing."""
+        for data in (POINT, BIG_POINT, EMPTY_POINT, LINE, POINTS, POLYGON, ISO_POLYGON):
+            self.assertIs(wkb.well_formed(data), True)
+            self.assertIs(wkb.well_formed(bytearray(data)), True)
+            for other in (b"", data[:-1], data + b"\0", b"GP\0\1" + bytes(4) + data, data.hex().encode()):
+                self.assertIs(wkb.well_formed(other), False)
+        for other in (None, POINT.hex(), 1):
+            self.assertRaises(TypeError, wkb.well_formed, other)
+
     def test_each_number_of_parts(self):
         """The members of multi points, one after another, by their number."""
         for count in (0, 1, 62, 63, 64, 5000):

@@ -67,6 +67,7 @@ CALLS = {
     "check of text": lambda: wkb.check(POINT.hex()),
     "check of hexadecimal text": lambda: wkb.check(POINT.hex().encode()),
     "a refusal": lambda: wkb.check(POLYGON[:-1]),
+    "well formed": lambda: wkb.well_formed(LONG),
     "bounds": lambda: wkb.bounds(LINE),
     "write": lambda: wkb.write(POLYGON),
     "write with an SRID": lambda: wkb.write(POLYGON, srid=7),
@@ -193,7 +194,8 @@ class Memory(unittest.TestCase):
         self.assertEqual(ran.returncode, 0, ran.stdout[-300:] + ran.stderr[-3000:])
         counts = {name: int(count) for count, name in (line.split(" ", 1) for line in ran.stdout.splitlines())}
         self.assertEqual([*counts], [*REFUSED])
-        self.assertEqual([name for name, count in counts.items() if not count], ["same"], "which allocates nothing")
+        without = [name for name, count in counts.items() if not count]
+        self.assertEqual(without, ["well formed", "same"], "which allocate nothing")
         self.assertGreater(sum(counts.values()), 1000)
 
 

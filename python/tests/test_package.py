@@ -74,7 +74,7 @@ class Names(unittest.TestCase):
             self.assertRegex(wkb.__doc__, rf"\.{name}\b{call}")
 
     def test_names(self):
-        self.assertEqual(len(self.PUBLIC), 35)
+        self.assertEqual(len(self.PUBLIC), 36)
         for name in self.PUBLIC:
             self.assertTrue(getattr(wkb, name).__doc__, name)
         everything = {}

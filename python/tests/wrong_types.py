@@ -33,6 +33,7 @@ def wrong(part: wkb.Part, column: wkb.Column) -> None:
     wkb.check(5)  # type: ignore[arg-type]
     wkb.check(None)  # type: ignore[arg-type]
     wkb.bounds([1, 2])  # type: ignore[arg-type]
+    wkb.well_formed("text")  # type: ignore[arg-type]
     wkb.write(b"", 0)  # type: ignore[arg-type]
     wkb.write(b"", srid="4326")  # type: ignore[arg-type]
     wkb.same(b"", "text")  # type: ignore[arg-type]
@@ -68,4 +69,5 @@ def right(data: bytes, mapped: mmap.mmap, rows: List[Optional[bytes]]) -> List[w
     wkb.Column.from_arrow(written)
     wkb.check(wkb.collect(wkb.Column.of(rows), wkb.Kind.MULTI_POINT, wkb.Dimension.XYZ, srid=4326))
     wkb.write(data, srid=4326)
+    print(wkb.well_formed(data))
     return [wkb.check(data), wkb.check(mapped)]

@@ -37,6 +37,21 @@ static PyObject *check(PyObject *module, PyObject *data) { return read_one(state
 
 static PyObject *bounds(PyObject *module, PyObject *data) { return read_one(state_of(module), data, 1); }
 
+/* Whether the bytes are one geometry, and nothing after it. */
+static PyObject *well_formed(PyObject *module, PyObject *data) {
+  (void)module;
+  holds h;
+  span in;
+  wkb_found found;
+  h.count = h.may_change = 0;
+  if (hold_input(&h, data, &in) < 0) return NULL;
+  PyThreadState *unlocked = unlock(&h, in.size);
+  int is_whole = wkb_check(in.at, in.size, &found, NULL) == WKB_STATUS_OK && found.size == in.size;
+  lock(unlocked);
+  let(&h);
+  return PyBool_FromLong(is_whole);
+}
+
 /* An encoding that is longer than SMALL, whose size is known. */
 static PyObject *write_long(const holds *h, span in, const wkb_options *options, size_t size) {
   wkb_fault fault;
@@ -238,6 +253,7 @@ static PyObject *fault_text(PyObject *module, PyObject *args) {
 #define FAST(CALL) (PyCFunction)(void (*)(void))(CALL), METH_FASTCALL
 PyMethodDef CALLS[] = {
     {"check", check, METH_O, NULL},
+    {"well_formed", well_formed, METH_O, NULL},
     {"bounds", bounds, METH_O, NULL},
     {"write", FAST(write_one), NULL},
     {"same", FAST(same), NULL},

@@ -6,6 +6,7 @@ The package itself is tested, and not proved. It needs CPython 3.11 or later.
 One geometry, at the start of a blob::
 
     check(blob)                     Found: its kind, dimension, SRID, size; raises Refused if it isn't a geometry
+    well_formed(blob)               whether it is one geometry and nothing after it, as SQL's wkb_well_formed
     bounds(blob)                    Box: x, y, z and m, each with least, greatest and count
     write(blob[, order, form, srid])  its one encoding; by default a key: geometries of one value have the same
     same(blob, other)               whether both have one value, whatever their byte orders and SRIDs are
@@ -64,6 +65,7 @@ from ._calls import coordinates as coordinates
 from ._calls import parts as parts
 from ._calls import same as same
 from ._calls import view as view
+from ._calls import well_formed as well_formed
 from ._calls import write as write
 from ._columns import Column as Column
 from ._columns import collect as collect

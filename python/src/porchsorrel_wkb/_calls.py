@@ -61,6 +61,14 @@ def check(data: Buffer) -> Found:
     return _wkb.check(data)
 
 
+def well_formed(data: Buffer) -> bool:
+    """Return whether the bytes are one geometry, and nothing after it, as `wkb_well_formed` of SQL has it.
+
+    No bytes raise an error. Those of a GeoPackage or of SpatiaLite, and hexadecimal text, are no geometry.
+    """
+    return _wkb.well_formed(data)
+
+
 def bounds(data: Buffer) -> Box:
     """Return the bounds of the geometry at the start of the bytes."""
     return _wkb.bounds(data)
