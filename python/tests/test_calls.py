@@ -41,6 +41,20 @@ class Calls(unittest.TestCase):
         for other in (None, POINT.hex(), 1):
             self.assertRaises(TypeError, wkb.well_formed, other)
 
+    def test_other_formats(self):
+        """A blob of a GeoPackage or of SpatiaLite is rejected by an error that says what to read in its place."""
+        for code, size in enumerate((0, 32, 48, 48, 64)):
+            data = b"GP\0" + bytes([2 * code + 1]) + b"\xe6\x10\0\0" + bytes(size) + POINT
+            self.assertEqual(data[8 + size :], POINT)
+            self.assertRaisesRegex(Refused, rf"GeoPackage, whose geometry is data\[{8 + size}:\]", wkb.check, data)
+        bounds = struct.pack("<4d", 1, 2, 1, 2)
+        blob = b"\0\1\xe6\x10\0\0" + bounds + b"\x7c" + POINT[1:] + b"\xfe"
+        self.assertRaisesRegex(Refused, r"SpatiaLite, whose AsBinary\(blob\)", wkb.bounds, blob)
+        for other in (b"GP", b"GP\0\1", b"GP\0\x0b" + bytes(60), blob[:-1], blob[:38], b"\0\1" + bytes(60)):
+            with self.assertRaises(Refused) as raised:
+                wkb.check(other)
+            self.assertRegex(str(raised.exception), r"\(part 0\)$")
+
     def test_each_number_of_parts(self):
         """The members of multi points, one after another, by their number."""
         for count in (0, 1, 62, 63, 64, 5000):

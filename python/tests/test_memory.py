@@ -67,6 +67,7 @@ CALLS = {
     "check of text": lambda: wkb.check(POINT.hex()),
     "check of hexadecimal text": lambda: wkb.check(POINT.hex().encode()),
     "a refusal": lambda: wkb.check(POLYGON[:-1]),
+    "a blob of a GeoPackage": lambda: wkb.check(b"GP\0\1" + bytes(4) + POINT),
     "well formed": lambda: wkb.well_formed(LONG),
     "bounds": lambda: wkb.bounds(LINE),
     "write": lambda: wkb.write(POLYGON),

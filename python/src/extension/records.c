@@ -138,6 +138,31 @@ static int is_hexadecimal(span input) {
   return 1;
 }
 
+/* The bytes before the geometry in a blob of a GeoPackage: its header, and an envelope of one of five sizes. Else 0. */
+static int front_of_geopackage(span input) {
+  static const int FRONTS[8] = {8, 40, 56, 56, 72, 0, 0, 0};
+  return input.size >= 8 && memcmp(input.at, "GP", 2) == 0 ? FRONTS[input.at[3] >> 1 & 7] : 0;
+}
+
+/* Whether bytes are a blob of SpatiaLite: a mark before its header, after the bounds, and at the end. */
+static int is_spatialite(span input) {
+  enum { END_OF_BOUNDS = 38 };
+  return input.size > END_OF_BOUNDS + 5 && input.at[0] == 0 && input.at[1] <= 1 && input.at[END_OF_BOUNDS] == 0x7c &&
+         input.at[input.size - 1] == 0xfe;
+}
+
+/* What to call where the bytes are rejected at the first one or in the first code, but are a geometry otherwise. */
+static PyObject *hint_for(const wkb_fault *fault, span input) {
+  int is_start = fault->part == 0, front = front_of_geopackage(input);
+  if (is_start && fault->status == WKB_STATUS_INVALID_BYTE_ORDER && is_hexadecimal(input))
+    return PyUnicode_FromString("; bytes.fromhex(data.decode()) are the bytes of this hexadecimal text");
+  if (is_start && fault->status == WKB_STATUS_INVALID_BYTE_ORDER && front > 0)
+    return PyUnicode_FromFormat("; this is the blob of a GeoPackage, whose geometry is data[%d:]", front);
+  if (is_start && fault->status == WKB_STATUS_CODE_OUT_OF_RANGE && is_spatialite(input))
+    return PyUnicode_FromString("; this is a blob of SpatiaLite, whose AsBinary(blob) is WKB");
+  return PyUnicode_FromString("");
+}
+
 /* Raises what a status reports of an input, the first or the second one. */
 PyObject *refuse(state *s, uint32_t status, const wkb_fault *fault, uint32_t which, span input) {
   const char *text = wkb_status_text(status);
@@ -145,10 +170,10 @@ PyObject *refuse(state *s, uint32_t status, const wkb_fault *fault, uint32_t whi
     PyErr_SetString(PyExc_ValueError, text);
     return NULL;
   }
-  int is_text = status == WKB_STATUS_INVALID_BYTE_ORDER && fault->offset == 0 && is_hexadecimal(input);
-  const char *hint = is_text ? "; bytes.fromhex(data.decode()) are the bytes of this hexadecimal text" : "";
   PyObject *it = fault_of(s, fault), *held = it == NULL ? NULL : PyTuple_GetItem(s->it[TEXTS], status);
-  PyObject *error = held == NULL ? NULL : PyObject_CallFunction(s->it[REFUSED], "OIOs", it, which, held, hint);
+  PyObject *hint = held == NULL ? NULL : hint_for(fault, input);
+  PyObject *error = hint == NULL ? NULL : PyObject_CallFunction(s->it[REFUSED], "OIOO", it, which, held, hint);
+  Py_XDECREF(hint);
   Py_XDECREF(it);
   if (error != NULL) PyErr_SetObject(s->it[REFUSED], error);
   Py_XDECREF(error);
