@@ -8,7 +8,7 @@ import unittest
 
 from capsules import Arrow
 from samples import BIG_POINT, EMPTY_POINT, ISO_POLYGON, LINE, POINT, POINTS, POLYGON, STATUSES, flat, rows_of
-from porchsorrel_wkb import Column, Dimension, Form, Kind, Order, Range, Status
+from porchsorrel_wkb import Column, Dimension, Fault, Form, Kind, Order, Range, Status
 
 try:
     import numpy
@@ -37,6 +37,21 @@ class Split(unittest.TestCase):
                 self.assertLess(max(map(len, columns)) - min(map(len, columns)), 2)
         for count in (0, -1):
             self.assertRaises(ValueError, column.split, count)
+
+    def test_fault(self):
+        """Why a row is rejected, also in a slice: its bytes are counted from its own first one."""
+        header, order = Fault(0, 0, 0, 0, 0, Status.SHORT_HEADER), Fault(0, 0, 0, 0, 0, Status.INVALID_BYTE_ORDER)
+        point, ring = Fault(0, 0, 21, 20, 0, Status.SHORT_POINT), Fault(1, 13, 20, 19, 0, Status.SHORT_LINEAR_RING)
+        rows = [POINT, None, b"", POLYGON, b"\2", POINT[:-1], POLYGON[:-1], POINT + b"\0"]
+        faults = [None, None, header, None, order, point, ring, None]
+        self.assertEqual([Column.of(rows).fault(i) for i in range(8)], faults)
+        self.assertEqual([Column.of(rows).fault(i) for i in range(-8, 0)], faults)
+        self.assertEqual([Column.of([None, *rows]).split(9)[i + 1].fault(0) for i in range(8)], faults)
+        self.assertEqual([Column.from_arrow(Arrow(rows=rows)).fault(i) for i in range(8)], faults)
+        self.assertEqual(str(point), "the input ends inside a point, at byte 0 (part 0): it needs 21 bytes and has 20")
+        self.assertIsNone(Column(POINT, array.array("q", [0, 99])).fault(0))
+        for row in (8, -9):
+            self.assertRaises(IndexError, Column.of(rows).fault, row)
 
     def test_memory(self):
         """The columns share the memory of an array of Arrow, which lives as long as one of them."""

@@ -123,7 +123,8 @@ class GeoParquet(unittest.TestCase):
     def test_refused(self):
         inside = struct.pack("<BII", 1, 1007, 1) + geometry(1, 1, form=0)
         for row, text in (
-            (b"\2", "row 1 is refused: "), (POLYGON, "row 1 has SRID 4326"), (geometry(1, 2), "a POINT is XYM"),
+            (b"\2", r"row 1 is rejected: a byte order is neither 0 nor 1, at byte 0 \(part 0\)"),
+            (POLYGON, "row 1 has SRID 4326"), (geometry(1, 2), "a POINT is XYM"),
             (geometry(7, 3), "a GEOMETRY_COLLECTION is XYZM"), (geometry(1, 1, form=0), "row 1 is EWKB"),
             (geometry(5, 1, ">", form=0), "row 1 is EWKB"), (inside, "row 1 is EWKB"),
             (BIG_POINT + b"\0", "row 1 .*bytes"),
@@ -141,4 +142,4 @@ class GeoParquet(unittest.TestCase):
         source = Arrow(rows=[POINT, POINT])
         column = Column.from_arrow(source)
         column._offsets = memoryview(struct.pack("=3i", 0, 42, 21)).cast("i")
-        self.assertRaisesRegex(ValueError, "row 1 is refused", wkb.geoparquet, column)
+        self.assertRaisesRegex(ValueError, "row 1 is rejected: the row's offsets", wkb.geoparquet, column)

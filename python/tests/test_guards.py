@@ -45,6 +45,11 @@ class Results(unittest.TestCase):
                     results[i] = bytes(size)
                     self.assertRaises(BufferError, column, call, *results)
 
+    def test_fault(self):
+        """A column without its row."""
+        for offsets, validity, rows in ((OFFSETS, None, 0), (OFFSETS[:1], None, 1), (OFFSETS, b"", 1)):
+            self.assertRaises(ValueError, _wkb.fault, (POINT, offsets, validity, 8, 0, rows))
+
     def test_coordinates(self):
         sizes = 32, 24, 24, 24, 2
         self.assertEqual(_wkb.column_coordinates(TWO, 0, (*map(room, sizes),)), (2, 2, 2))

@@ -129,6 +129,35 @@ static PyObject *column_call(PyObject *module, PyObject *args) {
   return size;
 }
 
+/* Whether the only row of a column is rejected, and why. */
+static int is_rejected(const wkb_column *column, wkb_fault *fault) {
+  wkb_found found;
+  uint8_t status;
+  wkb_column_check(column, &status);
+  int64_t begin = offset_at(column, 0), end = offset_at(column, 1);
+  if (!wkb_status_is_refusal(status) || begin < 0 || end < begin || (uint64_t)end > column->size) return 0;
+  const uint8_t *row = (const uint8_t *)column->data + begin;
+  return wkb_check(row, (size_t)(end - begin), &found, fault) != WKB_STATUS_OK;
+}
+
+/* fault(column): why its only row is rejected; None if it isn't. */
+static PyObject *fault_of_row(PyObject *module, PyObject *args) {
+  PyObject *given, *result = NULL;
+  holds h;
+  wkb_column column;
+  wkb_fault fault;
+  h.count = h.may_change = 0;
+  if (!PyArg_ParseTuple(args, "O!", &PyTuple_Type, &given)) return NULL;
+  if (hold_column(&h, given, &column) == 0 && expect("rows", column.rows, 1, 1) == 0) {
+    PyThreadState *unlocked = unlock(&h, SIZE_MAX);
+    int is_there = is_rejected(&column, &fault);
+    lock(unlocked);
+    result = is_there ? fault_of(state_of(module), &fault) : Py_NewRef(Py_None);
+  }
+  let(&h);
+  return result;
+}
+
 /* The ends of a level, behind offset 0, and how many there is room for. */
 static uint64_t *ends_in(span offsets, size_t *room) {
   *room = offsets.size < 16 ? 0 : offsets.size / 8 - 1;
@@ -228,6 +257,7 @@ static PyObject *column_from_coordinates(PyObject *module, PyObject *args) {
 
 PyMethodDef COLUMN_CALLS[] = {
     {"column", column_call, METH_VARARGS, NULL},
+    {"fault", fault_of_row, METH_VARARGS, NULL},
     {"column_coordinates", column_coordinates, METH_VARARGS, NULL},
     {"column_from_coordinates", column_from_coordinates, METH_VARARGS, NULL},
     {NULL, NULL, 0, NULL},

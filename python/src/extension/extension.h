@@ -48,6 +48,7 @@ void lock(PyThreadState *unlocked);
 int add_records(PyObject *module);
 PyObject *geometry_of(state *s, int which, const void *from);
 PyObject *box_of(state *s, const wkb_box *box);
+PyObject *fault_of(state *s, const wkb_fault *fault);
 PyObject *table_of(state *s, int which, PyObject *memory);
 PyObject *refuse(state *s, uint32_t status, const wkb_fault *fault, uint32_t which, span input);
 int read_part(state *s, PyObject *given, wkb_part *out);

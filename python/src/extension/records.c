@@ -121,7 +121,7 @@ PyObject *table_of(state *s, int which, PyObject *memory) {
   return whole(it, 2);
 }
 
-static PyObject *fault_of(state *s, const wkb_fault *f) {
+PyObject *fault_of(state *s, const wkb_fault *f) {
   const uint64_t numbers[] = {f->part, f->offset, f->end, f->len, f->code};
   record *it = new_record(s, FAULT);
   if (it == NULL) return NULL;

@@ -51,9 +51,8 @@ class Refused(ValueError):
         return self.fault.status
 
     def __str__(self) -> str:
-        it = self.fault
         which = "the second input: " if self.which == 2 else "" if self.row is None else f"row {self.row}: "
-        return f"{which}{_wkb.fault_text(it.part, it.offset, it.end, it.len, it.code, it.status)}{self._hint}"
+        return f"{which}{self.fault}{self._hint}"
 
 
 def check(data: Buffer) -> Found:

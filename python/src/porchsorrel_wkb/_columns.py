@@ -201,6 +201,11 @@ class Column:
         _wkb.column(CHECK, self._arguments(), NO_OPTIONS, (None, None, statuses))
         return statuses
 
+    def fault(self, row: int) -> Optional[Fault]:
+        """Return why a row is rejected, bytes counted from its first; None if it is OK, null, or has bad offsets."""
+        data, offsets, validity, size, first, rows = self._arguments()
+        return _wkb.fault((data, offsets, validity, size, first + range(rows)[row], 1))
+
     def bounds(self) -> ColumnBounds:
         """Return the bounds of each row."""
         statuses, boxes = new_numbers("u1", self._rows), new_numbers("u1", self._rows * Box.LAYOUT.size)

@@ -85,7 +85,7 @@ class Found(_wkb.FoundValues, _Values):
 
 @dataclass(frozen=True)
 class Fault(_wkb.FaultValues, _Values):
-    """The part that is rejected, and why.
+    """The part that is rejected, and why. `str` of it says this in one line.
 
     :ivar part: how many parts come before it, in preorder: 0 is the whole geometry
     :ivar offset: the byte where it begins, counted from the start of the input
@@ -103,6 +103,9 @@ class Fault(_wkb.FaultValues, _Values):
     len: int
     code: int
     status: Status
+
+    def __str__(self) -> str:
+        return _wkb.fault_text(self.part, self.offset, self.end, self.len, self.code, self.status)
 
     FIELDS: ClassVar[Fields] = fields("i8", "part offset end len") + fields("u4", "code status")
     LAYOUT: ClassVar[Struct] = layout(FIELDS)

@@ -3,7 +3,7 @@
 from typing import Any, List, Optional, Set, Tuple, Union
 
 from ._buffers import Buffer
-from ._records import Box, Found, Part, Table
+from ._records import Box, Fault, Found, Part, Table
 
 VERSION: int
 
@@ -38,6 +38,7 @@ def split(data: Buffer, offsets: Buffer, statuses: Buffer, first: int, end: int,
 def column(
     call: int, column: _Column, options: _Options, results: _Results, kind: int = ..., dimension: int = ..., /
 ) -> int: ...
+def fault(column: _Column, /) -> Optional[Fault]: ...
 def facts(statuses: Buffer, found: Buffer, boxes: Buffer, /) -> Tuple[int, Box, Set[Optional[int]]]: ...
 def first_not_iso(column: _Column, statuses: Buffer, offsets: Buffer, parts: Buffer, /) -> int: ...
 def column_coordinates(column: _Column, dimension: int, results: _Results, /) -> Tuple[int, int, int]: ...
