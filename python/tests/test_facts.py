@@ -143,3 +143,10 @@ class GeoParquet(unittest.TestCase):
         column = Column.from_arrow(source)
         column._offsets = memoryview(struct.pack("=3i", 0, 42, 21)).cast("i")
         self.assertRaisesRegex(ValueError, "row 1 is rejected: the row's offsets", wkb.geoparquet, column)
+
+    def test_metadata_of_others(self):
+        """Arrow's metadata is not looked at before."""
+        for text in (b"", b"EPSG:4326", b"[]", b"\xff"):
+            column = Column.of([POINT])
+            column._metadata = text
+            self.assertRaisesRegex(ValueError, "column.metadata is", wkb.geoparquet, column)

@@ -82,6 +82,16 @@ class Metadata(unittest.TestCase):
         column.metadata = None
         self.assertEqual(metadata_of(column.write()), ("geoarrow.wkb", b"{}"))
 
+    def test_set_wrong(self):
+        """What is no JSON object is an error when it is set, and changes nothing."""
+        column = Column.of([POINT])
+        column.metadata = CRS.decode()
+        for wrong, error in (({"crs": 1}, TypeError), (CRS, TypeError), ("EPSG:4326", ValueError), ("", ValueError),
+                             ("[]", ValueError), ("null", ValueError)):
+            with self.subTest(wrong), self.assertRaisesRegex(error, "metadata is"):
+                column.metadata = wrong
+        self.assertEqual(column.metadata, CRS.decode())
+
     def test_crs(self):
         """A column of geopandas has a CRS of pyproj."""
         frame = type("Series", (list,), {"crs": types.SimpleNamespace(to_json_dict=lambda: {"id": 7})})([POINT])

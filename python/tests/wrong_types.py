@@ -34,6 +34,7 @@ def wrong(part: wkb.Part, column: wkb.Column) -> None:
     wkb.check(None)  # type: ignore[arg-type]
     wkb.bounds([1, 2])  # type: ignore[arg-type]
     wkb.well_formed("text")  # type: ignore[arg-type]
+    column.metadata = {"crs": 1}  # type: ignore[assignment]
     wkb.write(b"", 0)  # type: ignore[arg-type]
     wkb.write(b"", srid="4326")  # type: ignore[arg-type]
     wkb.same(b"", "text")  # type: ignore[arg-type]

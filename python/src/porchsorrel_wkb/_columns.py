@@ -11,7 +11,7 @@ from ._calls import Refused, make_options
 from ._enums import Dimension, Form, Kind, Order, Status
 from ._records import Box, Fault, Found, Part, Table
 from ._results import ColumnBounds, ColumnCoordinates, ColumnEncodings, ColumnFound, ColumnParts, Facts
-from ._rows import Pieces, pieces_of
+from ._rows import Pieces, object_of, pieces_of
 
 # The calls of `_wkb.column`.
 CHECK, BOUNDS, PARTS, WRITE, ROOM, KINDS, COLLECT, FIND = range(8)
@@ -185,6 +185,10 @@ class Column:
 
     @metadata.setter
     def metadata(self, text: Optional[str]) -> None:
+        if not isinstance(text, (str, type(None))):
+            raise TypeError(f"metadata is JSON text, as json.dumps makes it, and not a {type(text).__name__}")
+        if text is not None:
+            object_of(text)
         self._metadata = None if text is None else text.encode()
 
     def _arguments(self) -> Tuple[Buffer, Buffer, Optional[Buffer], int, int, int]:

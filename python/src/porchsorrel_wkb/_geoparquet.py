@@ -1,12 +1,12 @@
 # SPDX-License-Identifier: MIT OR Apache-2.0
 """What GeoParquet says of a column of geometries."""
-import json
 from typing import Any, Dict, List, NamedTuple, Optional
 
 from . import _wkb
 from ._columns import Column
 from ._enums import Dimension, Kind, Status
 from ._results import ColumnBounds, Facts
+from ._rows import object_of
 
 VERSION = "1.1.0"
 WAY_OUT = "Column.from_arrow(column.write()) is a column of ISO WKB alone"
@@ -75,7 +75,7 @@ def _expect_rows(column: Column, facts: Facts) -> None:
 
 def _crs_of(text: Optional[str]) -> Dict[str, Any]:
     """Return what GeoParquet says of a CRS and of edges that GeoArrow's metadata has."""
-    held = {} if text is None else json.loads(text)
+    held = {} if text is None else object_of(text)
     crs, edges = held.get("crs"), held.get("edges")
     if crs is not None and not isinstance(crs, dict):
         raise ValueError(f"the CRS is {crs!r}, and GeoParquet takes PROJJSON alone: set column.metadata")

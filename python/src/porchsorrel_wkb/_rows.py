@@ -1,7 +1,7 @@
 # SPDX-License-Identifier: MIT OR Apache-2.0
 """Columns of rows that aren't in one piece."""
 import json
-from typing import Any, Iterable, List, NamedTuple, Optional
+from typing import Any, Dict, Iterable, List, NamedTuple, Optional
 
 from . import _wkb
 from ._buffers import Buffer, view_of
@@ -59,6 +59,17 @@ def pieces_of(rows: Iterable[Optional[Buffer]]) -> Pieces:
         joined = _wkb.join([row if row is None else _bytes_of_row(i, row) for i, row in enumerate(items)])
     assert joined is not None  # each row is bytes or None
     return Pieces(*joined, rows=len(items), metadata=metadata)
+
+
+def object_of(metadata: str) -> Dict[str, Any]:
+    """Return the JSON object that the metadata is."""
+    try:
+        found = json.loads(metadata)
+    except ValueError as error:
+        raise ValueError(f"column.metadata is not JSON: {error}") from None
+    if not isinstance(found, dict):
+        raise ValueError(f'column.metadata is a JSON object such as {{"crs": ..}}, and not {metadata}')
+    return found
 
 
 def _metadata_of(crs: Any) -> Optional[bytes]:
