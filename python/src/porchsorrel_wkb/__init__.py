@@ -26,6 +26,7 @@ A column of geometries, in one piece of memory as Arrow has it::
     column.facts(), .metadata       the types, SRIDs and bounds of all rows; the CRS, as GeoArrow has it
     column.fault(row)               why a row is rejected, and at which byte
     column.split(count)             columns over the same memory, for a thread each
+    Facts.joined(several)           the facts of several columns together
     geoparquet(column[, name, covering])  what a file of GeoParquet says of it
     collect(column, kind[, dimension, order, form, srid])
                                     the multi geometry or the collection whose members are the rows

@@ -3,7 +3,10 @@
 import array
 import functools
 import itertools
-from typing import Any, Iterator, List, NamedTuple, Optional, Sequence, Set, Tuple, Type, TypeVar, Union, overload
+import math
+from typing import (
+    Any, Iterable, Iterator, List, NamedTuple, Optional, Sequence, Set, Tuple, Type, TypeVar, Union, overload,
+)
 
 from . import _wkb
 from ._buffers import Numbers, has_numpy, new_numbers, view_of
@@ -12,7 +15,7 @@ from ._export import (
     LISTS, NARROW, NULLABLE, boxes_of, coordinates_of, exported, metadata_of, narrow, records, through, validity_of,
     wanted, wanted_inside,
 )
-from ._records import Box, Found, Part, Table
+from ._records import Box, Found, Part, Range, Table
 
 # Rows become bytes so many at a time.
 SOME = 4096
@@ -108,6 +111,23 @@ class Facts(NamedTuple):
     types: List[Tuple[Kind, Dimension]]
     srids: Set[Optional[int]]
     box: Box
+
+    @classmethod
+    def joined(cls, several: Iterable["Facts"]) -> "Facts":
+        """Return the facts of all rows of several columns, from those of each: of threads, files or chunks."""
+        held = list(several)
+        types = sorted({it for facts in held for it in facts.types}, key=lambda it: (it[1], it[0]))
+        srids = {it for facts in held for it in facts.srids}
+        ranges = (_joined([getattr(facts.box, axis) for facts in held]) for axis in "xyzm")
+        rows, nulls, refused = (sum(getattr(it, name) for it in held) for name in ("rows", "nulls", "refused"))
+        return cls(rows, nulls, refused, types, srids, Box(*ranges))
+
+
+def _joined(ranges: List[Range]) -> Range:
+    """Return the range of all numbers that are in these ranges."""
+    least = min((it.least for it in ranges), default=math.inf)
+    greatest = max((it.greatest for it in ranges), default=-math.inf)
+    return Range(least, greatest, sum(it.count for it in ranges))
 
 
 class _Parts(NamedTuple):
