@@ -21,7 +21,7 @@ FOREIGN = set(
     Given View Lts Tie Proof Gone respects_eq map_err phi ret rattle app RT_ALLOW_C xxd holes UPGRADING st oantt Variant
     bc lemma HasNo Is LET DIR cite lifetimes prelude split_last Short COMMAND Hash MutBor METHOD ARCHIVE FORMAT
     CHANGELOG CITATION cff connection core emit fix imports plant start_io callgrind encode logic Xclang lay_ put_ model
-    lifetime assert_eq sqlite3_interrupt wkb_raw_ geom::bytea gpkg_contents df
+    lifetime assert_eq sqlite3_interrupt wkb_raw_ geom::bytea wkb::geometry gpkg_contents df
     """.split()
 )
 # What a path of code begins with that is std's or stands for a name of the reader's.
