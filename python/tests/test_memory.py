@@ -147,6 +147,13 @@ class References(unittest.TestCase):
                 found = [*self.growths(*of)]
                 self.assertLess(len(found), TRIES, found)
 
+    def test_no_cycles(self):
+        """The collector of cycles tracks no record that a call makes, so that long lists of them take no longer."""
+        box, table, column = wkb.bounds(POINT), wkb.parts(POINT), Column.of([POINT, b""])
+        made = wkb.check(POINT), box, box.x, box.z, table, table[0], column.bounds().boxes[0], column.fault(1)
+        self.assertEqual([it for it in made if gc.is_tracked(it)], [])
+        self.assertTrue(gc.is_tracked([]))
+
     def test_losses_are_seen(self):
         """What keeps an object, a reference or some memory at each call."""
         kept = []

@@ -1,6 +1,6 @@
 /* SPDX-License-Identifier: MIT OR Apache-2.0 */
 /* Records: objects with a few values at fixed places, which the package's frozen dataclasses and its tables inherit.
- * They hold numbers, members of enums, memory and other such records: the collector of cycles doesn't look at them. */
+ * They hold numbers, members of enums, memory and other such records: the collector of cycles doesn't track them. */
 #include "extension.h"
 
 #include <string.h>
@@ -49,11 +49,12 @@ int add_records(PyObject *module) {
   return 0;
 }
 
+/* CPython's collector of cycles tracks each object of a class that is written in Python, and so would track these. */
 static record *new_record(state *s, int which) {
-  PyObject *type = s->it[which];
-  if (type != NULL) return (record *)PyType_GenericAlloc((PyTypeObject *)type, 0);
-  PyErr_SetString(PyExc_RuntimeError, "the package has not given its types");
-  return NULL;
+  PyObject *type = s->it[which], *it = type == NULL ? NULL : PyType_GenericAlloc((PyTypeObject *)type, 0);
+  if (type == NULL) PyErr_SetString(PyExc_RuntimeError, "the package has not given its types");
+  if (it != NULL && PyObject_GC_IsTracked(it)) PyObject_GC_UnTrack(it);
+  return (record *)it;
 }
 
 /* The record if it has its values, of which there are so many; else null, with the error of one that it lacks. */
