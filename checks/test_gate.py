@@ -10,12 +10,16 @@ import unittest
 from checks.judge import need, pages
 
 # What a stub does: it says which step it is, and exits with status 1 if it is the one that has to fail, or if nothing
-# forbids its tests to be skipped.
+# forbids its tests to be skipped. The judge also keeps the log.
 STUB = """#!/bin/sh
 it="{name}${{*:+ $*}}"
 echo "$it" >>"$SAID"
+echo "it is $it"
+[ {name} != checks/sources/left_out ] || cat "$1" >"$SAID.log"
 [ "$it" != "$FAILS" ] && [ "$STRICT" = 1 ]
 """
+# What CI needs besides the compiler, make and objcopy.
+PROGRAMS = "awk bash cat dirname git mktemp nproc rm sed sh tail tee touch".split()
 # What CI calls besides its steps.
 OTHERS = {"rt version", "tools/kit.py take"}
 JUDGE = "checks/sources/left_out"
@@ -57,14 +61,18 @@ class Gate(unittest.TestCase):
         cls.git("add", "-A")
         cls.git("commit", "-qm", "as it is", "--allow-empty")
 
-    def gate(self, fails="none"):
-        """The status of CI, and its calls, if one step fails."""
+    def gate(self, fails="none", path=os.environ["PATH"], **own):
+        """The status of CI, its calls and its output, if one step fails. It is started in another folder."""
         said = pathlib.Path(self.room.name, "said")
         said.write_text("")
-        path = f"{self.top}/bin:{os.environ['PATH']}"
-        ran = subprocess.run([self.top / ".ci/run"], env={**os.environ, "PATH": path, "SAID": said, "FAILS": fails},
-                             stdout=subprocess.PIPE, stderr=subprocess.STDOUT, text=True)
+        env = {**os.environ, "PATH": f"{self.top}/bin:{path}", "SAID": said, "FAILS": fails, **own}
+        ran = subprocess.run([self.top / ".ci/run"], env=env, cwd=self.room.name, stdout=subprocess.PIPE,
+                             stderr=subprocess.STDOUT, text=True)
         return ran.returncode, said.read_text().splitlines(), ran.stdout
+
+    def log(self):
+        """The log that the judge was given last."""
+        return pathlib.Path(self.room.name, "said.log").read_text()
 
     def passed(self):
         """The commit that git's folder names as passed."""
@@ -86,6 +94,29 @@ class Gate(unittest.TestCase):
                 status, called, printed = self.gate(step)
                 self.assertEqual((status, step in called), (1, True))
                 self.assertRegex(printed, rf"(?m)^{re.escape(step)} .*FAILED$")
+
+    def test_the_judge_has_the_output_of_each_step(self):
+        self.gate()
+        for step in listed():
+            self.assertIn(f"== step: {step}\nit is {step}\n", self.log())
+
+    def test_without_the_build_the_other_steps_run(self):
+        _, called, printed = self.gate("rt ci")
+        self.assertEqual([it for it in called if not it.startswith(JUDGE)], ["rt version", "rt ci", "checks/run"])
+        self.assertRegex(printed, r"\nin all .*\nnot run, since rt ci failed: ")
+
+    def test_a_step_without_its_programs_is_left_out(self):
+        bare = pathlib.Path(self.room.name, "bare")
+        bare.mkdir()
+        for name in [*PROGRAMS, "make"]:
+            (bare / name).symlink_to(shutil.which(name))
+        for own in {"CC": "no-such-compiler"}, {"CC": "sh", "path": bare}:
+            with self.subTest(own):
+                _, called, printed = self.gate(**own)
+                left = re.findall(r"(?m)^left out: (.*), since there is no ", printed)
+                self.assertEqual(re.findall(r"(?m)^left out: (.*), since ", self.log()), left)
+                started = [it for it in called if it in listed()]
+                self.assertEqual((sorted([*started, *left]), "bench/peers --compare" in left), (listed(), True))
 
     def test_it_fails_where_something_was_left_out_wrongly(self):
         whole = (self.top / JUDGE).read_text()
