@@ -43,6 +43,11 @@ def need_program():
         raise unittest.SkipTest("crates/wkb_hex/out/wkb_hex isn't there or is old: `rt ci` builds it")
 
 
+def on_each(paths, new, said):
+    """Controls: in each file `new` is planted at its start, and what is wrong then begins with its path and `said`."""
+    return [(path, "", new, f"{path}{said}") for path in paths]
+
+
 class Judge(unittest.TestCase):
     """A judge: `wrong` yields what is wrong, in words. In the repository that is nothing.
 

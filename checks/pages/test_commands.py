@@ -137,6 +137,8 @@ def code_of(language):
 
 def lost_pieces(page):
     """The pieces of the code on a page, from one empty line to the next, that are in no source; and lost edits."""
+    languages = re.findall(r"(?m)^```(\w+)$", text_of(page))
+    yield from (f"{page}: nothing is known of {it}" for it in languages if it not in {*SOURCES, "console", "text"})
     for language in SOURCES if not page.startswith(CALLS) else []:
         blocks = text_of(page).split(f"```{language}\n")[1:]
         for piece in (piece for block in blocks for piece in block.split("```")[0].strip("\n").split("\n\n")):
@@ -222,9 +224,10 @@ class Shown(judge.Judge):
     """Code on the pages is in the sources, or prints the output on the page."""
 
     controls = [
-        (PAGE, "", "    $ echo one\n    two\n\n", "printed  'one"),
+        *judge.on_each(PAGES, "    $ echo one\n    two\n\n", ":1: echo one"),
         (PAGE, "", "    $ echo one; exit 1\n    one\n\n", "and 1"),
-        (PAGE, "", "```c\nint lost;\n```\n\n", "no source has\nint lost;"),
+        *judge.on_each(PAGES, "```c\nint lost;\n```\n\n", ": no source has\nint lost;"),
+        (PAGE, "", "```perl\nlost\n```\n\n", "nothing is known of perl"),
         (PAGE, "", "    shows: a lost edit\n    old: lost\n\n", "no edit and no fault is"),
         (PAGE, "", "    c/lost\n\n", "no file c/lost"),
         (PAGE, "", "    make -C c lost\n\n", "no Makefile has lost"),

@@ -172,10 +172,11 @@ class Contracts(judge.Judge):
     controls = [
         (PROMISES, "", f"{TABLE}| `to_vec` | `refused` |\n\n", "no clause `refused`"),
         (PROMISES, "", f"{TABLE}| a sink | the trait `Sink`: `lost` |\n\n", "no clause `lost`"),
+        (PROMISES, "## Only tested\n", f"{TABLE}| `to_vec` | `none` |\n\n## Only tested\n", "no clause `none`"),
         (PROMISES, "| `front`; ", "| `lost`; ", "of `Reads` the table"),
         (PROMISES, "", "(`wkb_write_cases`: `each_call`)\n\n", "wkb_write_cases has no test `each_call`"),
         (PROMISES, "", "test `each_kind` of `wkb_read_cases`\n\n", "wkb_read_cases has no test `each_kind`"),
-        ("SECURITY.md", "`fit` of `rows_follow`", "`fits` of `rows_follow`", "`rows_follow` has no clause `fits`"),
+        *judge.on_each([it for it in PAGES if it != PROMISES], "`fits` of `rows_follow`\n\n", ": `rows_follow` has no"),
         ("crates/wkb_c/src/lib.rt", "", 'pub extern "C" fn wkb_raw_lost() {}\n', "no row begins with `wkb_raw_lost`"),
         (README, "; reports the first", "; is fast; reports the first", "`is fast` has no clause"),
         (PROMISES, "| `turns_bounded` |", "| `lost` |", "`Costs` of wkb_read has no such clause"),

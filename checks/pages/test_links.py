@@ -64,9 +64,10 @@ class Links(judge.Judge):
     """Each link leads to the place that its text names."""
 
     controls = [
-        ("README.md", "", "[lost](docs/LOST.md)\n\n", "no file docs/LOST.md"),
+        *judge.on_each(PAGES, "[lost](LOST.md)\n\n", ": no file LOST.md"),
         ("docs/API.md", "", "[lost](FORMAT.md#lost)\n\n", "no heading FORMAT.md#lost"),
         ("docs/API.md", "", "[the grammar](PROVING.md)\n\n", "leads to PROVING.md"),
+        ("docs/MODEL.md", "", "[of an md](FORMAT.md)\n\n", "leads to FORMAT.md"),
         ("docs/README.md", "](SPEED.md)", "](COST.md)", "no link to docs/SPEED.md"),
     ]
 

@@ -16,12 +16,9 @@ from pages import PAGES, ROOT, files, lines_of, rows_of, spans, texts
 # Words of other programs and of the checker, which no source of ours has to name.
 FOREIGN = set(
     """
-    Cow TryFromIntError nth_or_panic coord_unchecked to_geo geo_types Unimplemented coords points line_strings polygons
-    interiors non_exhaustive num_enum linestring ST_IsValid ST_AsBinary ST_AsEWKB WKB_ISO WKB_POINT ExportToIsoWkb Goals
-    Given View Lts Tie Proof Gone respects_eq map_err phi ret rattle app RT_ALLOW_C xxd holes UPGRADING st oantt Variant
-    bc lemma HasNo Is LET DIR cite lifetimes prelude split_last Short COMMAND Hash MutBor METHOD ARCHIVE FORMAT
-    CHANGELOG CITATION cff connection core emit fix imports plant start_io callgrind encode logic Xclang lay_ put_ model
-    lifetime assert_eq sqlite3_interrupt wkb_raw_ geom::bytea wkb::geometry gpkg_contents df
+    Cow TryFromIntError to_geo geo_types Unimplemented non_exhaustive num_enum Tie Gone respects_eq UPGRADING HasNo
+    Is LET DIR lifetimes prelude Short MutBor METHOD fix start_io lay_ put_ lifetime sqlite3_interrupt geom::bytea
+    wkb::geometry df
     """.split()
 )
 # What a path of code begins with that is std's or stands for a name of the reader's.
@@ -184,7 +181,7 @@ class Names(judge.Judge):
     """Each name in backticks is that of something."""
 
     controls = [
-        ("README.md", "", "`lost_name`\n\n", "no source has `lost_name`"),
+        *judge.on_each(PAGES, "`lost_name`\n\n", ":1: no source has `lost_name`"),
         ("docs/API.md", "", "`crates/lost/file.rt`\n\n", "no file `crates/lost/file.rt`"),
         ("docs/API.md", "", "`grep it crates/gone/file.rt`\n\n", "no file `crates/gone/file.rt`"),
         ("docs/API.md", "", "`wkb::reader::to_vec`\n\n", "no source has `wkb::reader::to_vec`"),
@@ -196,6 +193,7 @@ class Names(judge.Judge):
 
     def wrong(self):
         words, code = words_of_sources() | FOREIGN, paths_of_code()
+        yield from (f"{it} is among the FOREIGN words, and a source has it" for it in FOREIGN & words_of_sources())
         yield from (*lost_calls(), *lost_in_pictures(code))
         for page, number, span in named():
             yield from (f"{page}:{number}: {it}" for it in lost_in(span, words, code))
