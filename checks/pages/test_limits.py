@@ -107,12 +107,13 @@ def numbers_of(match):
 
 def wrong_facts():
     """The numbers in phrases that the sources have otherwise; and phrases that nothing says any more."""
+    pages = {page: bare(page) for page in TEXTS}
     for phrase, path, source in FACTS:
         meant = re.search(source, text_of(path))
         if not meant:
             yield f"{path}: no text fits `{source}`"
             continue
-        said = [(page, it) for page in TEXTS for it in re.finditer(phrase, bare(page))]
+        said = [(page, it) for page, text in pages.items() for it in re.finditer(phrase, text)]
         if not said:
             yield f"no page says `{phrase}`"
         for page, it in said:
@@ -133,23 +134,27 @@ class Limits(judge.Judge):
     """The numbers of phrases, and sums."""
 
     controls = [
-        ("docs/MODEL.md", "", "At most 127 nested collections are read.\n\n", "`127 nested collections`"),
+        *judge.on_each(TEXTS, "At most 127 nested collections are read.\n\n", ": `127 nested collections`"),
         ("docs/PROMISES.md", "the program allows:", "the program takes:", "no page says `the program allows"),
-        (DEPTH[0], "MAX_NESTING: usize", "MAX_LOST: usize", "no text fits"),
-        ("docs/BYTES.md", "", "The ring begins at 113 - 16 = 98.\n\n", "is 97"),
+        (COSTS, "slots_bounded :", "slots_lost :", "no text fits"),
+        *judge.on_each(PAGES, "It is 2 * 3 + 1 - 4 / 2 = 6.\n\n", ": `2 * 3 + 1 - 4 / 2 = 6` is 5"),
     ]
-    is_apart = True
 
     def wrong(self):
         yield from wrong_facts()
         yield from wrong_sums()
 
 
-class Logic(judge.unittest.TestCase):
-    """The logic of the kit."""
+class Logic(judge.Judge):
+    """The logic that README names is the kit's."""
 
-    def test_readme_names_it(self):
+    controls = [("README.md", "", f"`logic {'0' * 16}`\n\n", f"README.md names the logic {'0' * 16}")]
+
+    @classmethod
+    def setUpClass(cls):
         judge.need("rt")
+
+    def wrong(self):
         said = subprocess.run(["rt", "version"], stdout=subprocess.PIPE, text=True).stdout
-        logics = re.findall(r"logic ([0-9a-f]{16})`", text_of("README.md"))
-        self.assertEqual({*logics}, {said.strip().rpartition("logic ")[2]})
+        named = re.findall(r"logic ([0-9a-f]{16})`", text_of("README.md"))
+        yield from (f"README.md names the logic {it}" for it in named or ["not at all"] if not said.endswith(f"{it}\n"))

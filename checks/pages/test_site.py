@@ -80,9 +80,11 @@ class Site(unittest.TestCase):
     def test_a_lost_link_is_found(self):
         folder = self.around / "lost"
         folder.mkdir()
-        text = '<a id="here" href="#here">1</a><a href="#there">2</a><a href="a.txt">3</a><img src="http://b/c.png">'
+        text = '<a id="here" href="#here">1</a><a href="#there">2</a><a href="a.txt">3</a>'
+        text += "".join(f'<{tag} {key}="http://b/{tag}">' for tag, key in sorted(FETCHED))
         (folder / "it.html").write_text(text, encoding="utf-8")
-        lost = ["it.html fetches http://b/c.png", "it.html: no place #there", "it.html: no file a.txt"]
+        lost = [f"it.html fetches http://b/{it}" for it in ("iframe", "img", "link", "script")]
+        lost += ["it.html: no place #there", "it.html: no file a.txt"]
         self.assertEqual([*lost_links(folder)], lost)
 
     def test_a_folder_with_files_is_left(self):

@@ -80,7 +80,8 @@ class Cases(judge.Judge):
     """The worked cases have their rows and tests."""
 
     controls = [
-        ("docs/TESTING.md", "", f"{TABLE}| `rows` | `lost` | lost |\n\n", "lost is not shown by"),
+        ("docs/TESTING.md", "", f"{TABLE}| `wkb_read_cases`, `rows` | `kept_parts`, `lost` | lost |\n\n",
+         "lost is not shown by rows: lost"),
         ("crates/rows/stdin", "", "lost: 01\n  lost: x\n", "lists no question `lost`"),
         ("crates/rows/stdin", "", "lost: 01\n", "has no row"),
         ("crates/rows/stdin", "", "Lost\n", "neither an input nor a row"),

@@ -156,6 +156,7 @@ class Layouts(judge.Judge):
         (RAW, "wkb_status wkb_raw_check(", "void wkb_raw_check(", "wkb_raw_check returns void, and u32"),
         (RAW, "const uint8_t *buf, size_t len, wkb_found", "uint8_t *buf, size_t len, wkb_found", "'u8', True, 'buf'"),
         (RAW, "uint32_t kind, uint32_t dimension", "uint32_t dimension, uint32_t kind", "'uint32_t', False, 'kind'"),
+        (RAW, "uint32_t kind, uint32_t dimension", "uint64_t kind, uint32_t dimension", "'uint64_t', False, 'kind'"),
         (RAW, "wkb_found *found, wkb_fault *fault", "wkb_fault *fault, wkb_found *found", "'wkb_fault', True, 'fault'"),
         (RAW, "size_t room, size_t *size, wkb_fault *fault", "size_t *size, wkb_fault *fault", "wkb_raw_collect has 9"),
     ]

@@ -18,14 +18,20 @@ NAMED = re.compile(
 )
 
 
+def named():
+    """The files that name their licence."""
+    paths = (str(it.relative_to(ROOT)) for it in files())
+    return [it for it in paths if NAMED.fullmatch(it) and "stand_in" not in it]
+
+
 class Lines(judge.Judge):
     """The first line of each such file."""
 
     controls = [("c/wkb.hpp", f"// {LINE}", "//", "c/wkb.hpp"), ("c/wkb.h", "MIT OR", "MIT AND", "c/wkb.h")]
 
     def wrong(self):
-        for path in (str(it.relative_to(ROOT)) for it in files()):
-            if NAMED.fullmatch(path) and "stand_in" not in path and LINE not in text_of(path).split("\n", 1)[0]:
+        for path in named():
+            if LINE not in text_of(path).split("\n", 1)[0]:
                 yield f"{path} doesn't begin with {LINE}"
 
 
@@ -34,8 +40,10 @@ class Texts(judge.Judge):
     looks for the text of each that REUSE.toml names."""
 
     controls = [
-        ("python/LICENSE-MIT", "2024", "2023", "python/L"),
-        ("LICENSE-APACHE", "2.0", "2.1", "rust/geo/L"),
+        *(
+            (f"{folder}/LICENSE-{name}", "2.0" if name == "APACHE" else "2024", "2.1", f"{folder}/LICENSE-{name} is not")
+            for folder in ("python", "rust/geo") for name in ("APACHE", "MIT")
+        ),
         ("REUSE.toml", "LicenseRef-Rattle-kit", "LicenseRef-lost", "LICENSES has"),
     ]
 

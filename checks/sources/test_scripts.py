@@ -24,7 +24,7 @@ def sources_in(*languages):
 class Widths(judge.Judge):
     """The widths of the scripts' lines."""
 
-    controls = [("tools/crates", "", "#" * (COLUMNS + 1) + "\n", "tools/crates:1")]
+    controls = [("tools/crates", "", "#" * 121 + "\n", "tools/crates:1 has 121")]
 
     def wrong(self):
         for path in sources_in("bash", "sh", "python"):
