@@ -1,11 +1,17 @@
 """No count falls below its floor in checks/floors: whoever removes something lowers the floor with it."""
+import re
 import unittest
 
 from checks import judge
-from checks.sources import test_cases, test_interface, test_sentences
+from checks.pages import test_limits
+from checks.sources import (
+    test_cases, test_dialect, test_interface, test_licenses, test_scripts, test_sentences, test_versions)
+from checks.test_runners import module
 from pages import PAGES, ROOT, text_of
 
-FLOORS = "checks/floors"
+FLOORS, EDITS = "checks/floors", "checks/edits/wkb*/*.edit"
+# The floor of mutants, for a control.
+FLOOR = re.search(r"\nmutants: \d+\n", text_of(FLOORS))[0]
 
 
 def tests_in(suite):
@@ -20,7 +26,7 @@ def counts():
     judges = {type(it) for it in tests if isinstance(it, judge.Judge)}
     rows = test_cases.rows()[0]
     files = {
-        "mutants": "checks/edits/wkb*/*.edit",
+        "mutants": EDITS,
         "mutants that rt ci tries": "crates/*/must-fail/*.edit",
         "equivalent mutants": "checks/edits/equivalent/*/*.edit",
         "faults": "checks/faults/*.fault",
@@ -29,6 +35,12 @@ def counts():
         "pages": len(PAGES),
         "tests of pages and sources": len(tests),
         "controls of these": sum(len(it.controls) for it in judges),
+        "limits of pages": len(test_limits.FACTS),
+        "versions and licences of files": len([*test_versions.NAMED, *test_versions.LICENSED]),
+        "files that name their licence": len(test_licenses.named()),
+        "phrases of our own": len(test_dialect.DIALECT),
+        "scripts for shellcheck": len(test_scripts.scripts()),
+        "parts of steps": sum(map(len, module("checks/sources/left_out").PARTS.values())),
         "wrong interfaces": len(test_interface.WRONG.splitlines()),
         "names and signatures of the interface": len([*test_interface.rows(text_of(test_interface.LIST))]),
         "sentences of wkb.h": len(test_sentences.rows()),
@@ -43,7 +55,7 @@ class Floors(judge.Judge):
     """Each count, and its floor."""
 
     controls = [
-        (FLOORS, "\nmutants: ", "\nmutants: 9", "mutants: there are "),
+        (FLOORS, FLOOR, f"\nmutants: {len([*ROOT.glob(EDITS)]) + 1}\n", "mutants: there are "),
         (FLOORS, "faults: ", "lost faults: ", "there is no floor of faults"),
         (FLOORS, "faults: ", "lost faults: ", "nothing counts lost faults"),
     ]

@@ -36,6 +36,18 @@ def blind(*given):
     return Blind
 
 
+def saying(says, given, is_alone=False):
+    """A judge with these controls, which finds what a function says of the texts of two pages."""
+
+    class Saying(judge.Judge):
+        controls, is_apart = given, is_alone
+
+        def wrong(self):
+            return says(text_of("README.md"), text_of("SECURITY.md"))
+
+    return Saying
+
+
 def failures_of(case):
     """The names of the tests of a judge that fail."""
     result = unittest.TestResult()
@@ -56,6 +68,29 @@ class Judges(unittest.TestCase):
         for controls in ([CONTROL], [], [("README.md", "a text that no page has", "", "")]):
             with self.subTest(controls=controls):
                 self.assertEqual(failures_of(blind(*controls)), {"test_controls"})
+
+
+    def test_each_control_has_to_be_found_by_its_own_words(self):
+        second = ("README.md", "", "gone", "it begins with gone")
+        lost = ["it begins with lost"]
+        for name, says, controls in [
+            ("of another error", lambda readme, _: ["another"] * readme.startswith("lost"), [CONTROL]),
+            ("of an error without it", lambda *_: lost, [CONTROL]),
+            ("the second", lambda readme, _: lost * readme.startswith("lost"), [CONTROL, second]),
+        ]:
+            with self.subTest(name):
+                self.assertIn("test_controls", failures_of(saying(says, controls)))
+
+    def test_one_control_may_hide_another(self):
+        controls = [CONTROL, ("SECURITY.md", "", "gone", "it begins with gone")]
+
+        def says(readme, security):
+            is_lost, is_gone = readme.startswith("lost"), security.startswith("gone")
+            return ["it begins with lost"] * is_lost + ["it begins with gone"] * (is_gone and not is_lost)
+
+        self.assertEqual(failures_of(saying(says, controls, is_alone=True)), set())
+        self.assertEqual(failures_of(saying(says, controls)), {"test_controls"})
+        self.assertFalse(judge.pages.PLANTED)
 
 
 class Run(unittest.TestCase):
@@ -82,6 +117,7 @@ class Run(unittest.TestCase):
             ("self.skipTest('it is old')", "", 0),
             ("self.skipTest('it is old')", "1", 1),
             ("judge.need('no-such-program')", "1", 0),
+            ("judge.need('sh'), self.fail()", "1", 1),
         ]:
             with self.subTest(body=body, strict=strict):
                 self.assertEqual(self.status_of(body, STRICT=strict)[0], status)

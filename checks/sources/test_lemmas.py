@@ -95,7 +95,7 @@ class Lemmas(judge.Judge):
     """Something cites each lemma."""
 
     controls = [
-        ("crates/wkb_laws/proofs/Complete.antt", "", "lost : Unit\nlost = unit\n\n", "nothing cites lost"),
+        ("crates/wkb_laws/proofs/Complete.antt", "", "w_lost : Unit\nw_lost = unit\n\n", "nothing cites w_lost"),
     ]
 
     def wrong(self):

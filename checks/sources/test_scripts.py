@@ -21,6 +21,11 @@ def sources_in(*languages):
             yield str(path.relative_to(ROOT))
 
 
+def scripts():
+    """The scripts of bash and sh."""
+    return [*sources_in("bash", "sh")]
+
+
 class Widths(judge.Judge):
     """The widths of the scripts' lines."""
 
@@ -44,7 +49,7 @@ class Bash(judge.unittest.TestCase):
         judge.need("shellcheck")
 
     def test_the_scripts(self):
-        self.assertEqual(self.checked(*sources_in("bash", "sh")), "")
+        self.assertEqual(self.checked(*scripts()), "")
 
     def test_a_wrong_script(self):
         with tempfile.TemporaryDirectory() as folder:

@@ -32,6 +32,7 @@ HEADER, LIST = "c/wkb.h", "checks/sources/sentences.txt"
 TESTED = re.compile(
     r"wkb_(version|words?|whole|one_point|(?:little|big)_word|\w+_text|status_is_\w+)$|WKB_VERSION\w*$"
 )
+TEST = re.compile("test ")
 UNPROVED = {"meaning", "caller", "later"}
 # Functions that only state facts, of constants, layouts and rows: their clauses are about every call.
 FACTS = {"numbers", "layouts", "rows_follow"}
@@ -207,6 +208,10 @@ def wrong(clauses):
         else:
             found = wrong_row(clauses, sentence, carriers)
             yield from (f"{LIST}:{number}: {it}: {sentence}" for it in found if it)
+    alone = {it.partition(":")[0] for _, it, carriers in listed if carriers and all(map(TEST.match, carriers))}
+    others = {it.partition(":")[0] for it in named} - alone
+    yield from (f"{it} is among the names in TESTED, and no sentence of it has tests alone" for it in sorted(others)
+                if TESTED.match(it))
     if sorted(said) == sorted(named) and said != named:
         yield f"{LIST} has the sentences in another order than {HEADER}, or one twice"
 

@@ -121,6 +121,8 @@ class Words(judge.Judge):
         ("checks/sources/twins", "", "lost: it stands once\n", "lost: listed"),
         ("crates/wkb_geom/src/common.rt", "result ≡ width self", "result ≡ 2", "width: NOT LISTED"),
         ("crates/wkb/specs/Terms.antt", "-- A ring of a polygon", "-- So is a ring", "by itself: -- So is"),
+        ("crates/wkb_geom/specs/Numbers.antt", "", "-- So is this.\n\n", "Numbers.antt: a comment that means nothing"),
+        ("crates/wkb_c/src/lib.rt", "", "// They are the same.\n\n", "lib.rt: a comment that means nothing"),
         ("crates/wkb/src/canon.rt", "", "/// The same.\npub fn same_again() {}\n", "by itself: /// The same"),
     ]
 
