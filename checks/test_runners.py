@@ -154,31 +154,49 @@ class Edits(Copy):
     """checks/edits/run over a stand-in for the prover, whose output a file has."""
 
     OPEN = "note: src/it.rt:1:1: a goal (`returns`){}\nfn it::f: not proved\nonly=1"
+    NEW = OPEN.format("").replace("`returns`", "`loop-returns`")
     FALSE = OPEN.format(" values allow values at which this goal is false")
     PROVED = "fn it::f: proved\nonly=1"
+    # The goal of the function that a stored answer proves.
+    answered = ""
 
-    def run_edits(self, says, wrong="false by values", right="proved", more=""):
-        """The status over two edits of one function, of which the prover says what `says` has, and what it prints."""
-        folder = self.top / "edits"
-        shutil.rmtree(folder, ignore_errors=True)
+    def write_edits(self, wrong="false by values", right="proved", more="", must_fail="", shows="it"):
+        """Two edits of one function, or three."""
+        for folder in "edits", "crates":
+            shutil.rmtree(self.top / folder, ignore_errors=True)
         self.write("crates/it/src/it.rt", "one\n")
+        self.write("crates/it/proofs/f/Answers.antt", f"pub {self.answered} : goal.it\n" if self.answered else "")
         change = "file: src/it.rt\nold: one\n"
-        self.write("edits/it/wrong.edit", f"shows: it\nrefused: f\nexpected: {wrong}\n{change}new: wrong\n")
+        for path, new in ("edits/it/wrong", "wrong"), ("edits/it/more", more), ("crates/it/must-fail/it", must_fail):
+            if new:
+                self.write(f"{path}.edit", f"shows: {shows}\nrefused: f\nexpected: {wrong}\n{change}new: {new}\n")
         if right is not None:
             self.write("edits/equivalent/it/right.edit", f"rewritten: f\nexpected: {right}\n{change}new: right\n")
-        if more:
-            self.write("edits/it/more.edit", f"shows: it\nrefused: f\nexpected: {wrong}\n{change}new: {more}\n")
+
+    def kit(self, says):
+        """A stand-in for the kit, with the function's one goal."""
         crate = types.SimpleNamespace(name="it", folder=str(self.top / "crates/it"))
-        stopped = mock.Mock(side_effect=SystemExit(2))
-        kit = types.SimpleNamespace(
-            ROOT=self.top, __file__=str(ROOT / "tools/kit.py"), stop=stopped, begin=lambda: None, crate=lambda _: crate,
-            sum_of=lambda _: "sum", prove_below=lambda _: True, processors=lambda: 1, is_unread=lambda *_: False,
+
+        def prove(verb, of, flags, at):
+            if "--generated" not in flags:
+                return types.SimpleNamespace(stdout=says[pathlib.Path(at, "src/it.rt").read_text().strip()])
+            folder = pathlib.Path(flags[flags.index("--generated") + 1], "Rattle-it-proofs/f")
+            folder.mkdir(parents=True)
+            (folder / "AnswersOffered.antt").write_text("pub returns : goal\n")
+            return types.SimpleNamespace(stdout="")
+
+        return dict(
+            ROOT=self.top, __file__=str(ROOT / "tools/kit.py"), stop=mock.Mock(side_effect=SystemExit(2)),
+            begin=lambda: None, crate=lambda _: crate, prove=prove, sum_of=lambda _: "sum", processors=lambda: 1,
+            prove_below=lambda _: True, is_unread=lambda *_: False,
             copy_sources=lambda of, to: shutil.copytree(of.folder, to),
             edited=lambda text, at: ({"src/it.rt": text.rpartition("new: ")[2]}, None),
-            prove=lambda verb, of, flags, at: types.SimpleNamespace(
-                stdout=says[pathlib.Path(at, "src/it.rt").read_text().strip()]),
         )
-        printed = io.StringIO()
+
+    def run_edits(self, says, words=(), own={}, **edits):
+        """The status over edits, of which the prover says what `says` has, and what is printed."""
+        self.write_edits(**edits)
+        kit, folder, printed = types.SimpleNamespace(**{**self.kit(says), **own}), self.top / "edits", io.StringIO()
         path, home = [str(ROOT / "checks/edits"), *sys.path], {"XDG_CACHE_HOME": str(self.top / "cache")}
         with contextlib.ExitStack() as stack:
             stack.enter_context(mock.patch.dict(sys.modules, kit=kit))
@@ -188,7 +206,7 @@ class Edits(Copy):
             edits = module("checks/edits/run")
             edits.HERE, edits.EQUIVALENT = folder, folder / "equivalent"
             try:
-                status = edits.main([])
+                status = edits.main(words)
             except SystemExit as ended:
                 status = ended.code
         return status, printed.getvalue()
@@ -197,6 +215,32 @@ class Edits(Copy):
         says = {"wrong": self.FALSE, "right": self.PROVED}
         self.assertEqual(self.run_edits(says)[0], 0)
         self.assertEqual(self.run_edits({})[1].count("(kept)"), 2, "the verdicts of the first run")
+
+    def test_which_verdicts_are_kept(self):
+        good = {"wrong": self.FALSE, "right": self.PROVED}
+        bad = {**good, "wrong": self.PROVED}
+        self.assertEqual(self.run_edits({**good, "wrong": "rattle: error: killed"})[0], 1)
+        self.assertEqual((self.run_edits(good)[0], self.run_edits(bad)[0]), (0, 0), "one that was not tried is not kept")
+        for name, how in [
+            ("of other sources", {"own": {"sum_of": lambda _: "another"}}),
+            ("of another script", {"own": {"__file__": str(ROOT / "tools/crates")}}),
+            ("of another edit", {"shows": "another"}),
+            ("anew", {"words": ["--anew"]}),
+        ]:
+            with self.subTest(name):
+                self.assertEqual(self.run_edits(bad, **how)[0], 1)
+
+    def test_a_goal_is_known_or_new(self):
+        self.answered = "other"
+        for name, says, reason, status in [
+            ("known", self.OPEN.format(""), "no proof found", 0),
+            ("new", self.NEW, "new goals alone", 0),
+            ("known, not new", self.OPEN.format(""), "new goals alone", 1),
+            ("new, not known", self.NEW, "no proof found", 1),
+        ]:
+            with self.subTest(name):
+                shutil.rmtree(self.top / "cache", ignore_errors=True)
+                self.assertEqual(self.run_edits({"wrong": says, "right": self.PROVED}, wrong=reason)[0], status)
 
     def test_what_must_not_pass(self):
         good = {"wrong": self.FALSE, "right": self.PROVED}
@@ -211,6 +255,10 @@ class Edits(Copy):
             ("a mutant names no reason", good, {"wrong": ""}),
             ("no equivalent mutant is proved", good, {"right": None}),
             ("two are equal", good, {"more": "wrong"}),
+            ("one of `rt ci` is proved", {**good, "other": self.PROVED}, {"must_fail": "other"}),
+            ("another function is proved", {**good, "right": "fn it::g: proved\nonly=1"}, {}),
+            ("one can't be applied", good, {"own": {"edited": lambda *_: (None, "it is gone")}}),
+            ("nothing is proved below", good, {"own": {"prove_below": lambda _: False}}),
         ]:
             with self.subTest(name):
                 shutil.rmtree(self.top / "cache", ignore_errors=True)
