@@ -24,7 +24,7 @@ def counts():
     """The current number of each thing that is counted."""
     tests = [*tests_in(unittest.TestLoader().discover(str(ROOT / "checks"), top_level_dir=str(ROOT)))]
     judges = {type(it) for it in tests if isinstance(it, judge.Judge)}
-    rows = test_cases.rows()[0]
+    rows, left_out = test_cases.rows()[0], module("checks/sources/left_out")
     files = {
         "mutants": EDITS,
         "mutants that rt ci tries": "crates/*/must-fail/*.edit",
@@ -40,7 +40,7 @@ def counts():
         "files that name their licence": len(test_licenses.named()),
         "phrases of our own": len(test_dialect.DIALECT),
         "scripts for shellcheck": len(test_scripts.scripts()),
-        "parts of steps": sum(map(len, module("checks/sources/left_out").PARTS.values())),
+        "parts of steps": len([it for step in left_out.PARTS.values() for it in step.values() if it != "false"]),
         "wrong interfaces": len(test_interface.WRONG.splitlines()),
         "names and signatures of the interface": len([*test_interface.rows(text_of(test_interface.LIST))]),
         "sentences of wkb.h": len(test_sentences.rows()),

@@ -30,6 +30,8 @@ int main(int count, char **words) {
   return say("test result: ok\\n");
 }
 """
+# How checks/library/try calls make.
+TRY = "make -s -C c CC=cc CXX=c++ WARNINGS=-Wextra -Wpedantic -Werror CXX_WARNINGS=-Wconversion -Wold-style-cast"
 
 
 def module(path):
@@ -91,6 +93,83 @@ class Faults(Copy):
                 ended, printed = self.ran("checks/faults/run", name)
                 self.assertEqual(ended, status, printed)
                 self.assertIn(said, printed)
+
+
+class Library(Copy):
+    """checks/library/run, with the scripts that it starts, over stubs of the others and of the programs."""
+
+    STUB = """#!/bin/sh
+it=$(echo "{name}${{*:+ $*}}" | sed "s|$TOP/||g")
+echo "$it" >>"$TOP/said"
+[ "$it" != "$FAILS" ]
+"""
+    REAL = "checks/library/run", "checks/library/link", "checks/library/try", "checks/hosts/run"
+    CALLS = [
+        "tools/sums compare", "c/proved/prove c/out/proved", "tools/sums same c/out/proved",
+        "checks/faults/proved_test", "checks/library/lasting", "checks/library/lasting others",
+        "make -s -B -C c CC=cc WARNINGS=-Wextra -Wpedantic -Wconversion -Wmissing-prototypes -Werror all check-symbols",
+        *(f"{TRY} {goal}" for goal in ("check-c", "check-dump", "check-c++")), "c/out/ogr_test 100000",
+        "checks/faults/weaken 4", "checks/systems/second_compiler", "checks/systems/cross_test",
+        "checks/systems/pads_test", "checks/systems/windows_test", "checks/systems/unrun_test",
+        "checks/systems/cmake_test", "checks/systems/install_test", "checks/systems/dist_test",
+        "checks/pages/pages_test", "checks/systems/wheels_test", "make -s -C c CC=cc all", "c/out/hostile_cost",
+        "checks/hosts/sanitize", "checks/hosts/fuzz", "python/run", "sqlite/run", "postgres/run",
+    ]
+
+    def status(self, fails="none"):
+        """The status if one call fails, and the calls."""
+        (self.top / "said").write_text("")
+        own = {"PATH": f"{self.top}/bin:{os.environ['PATH']}", "TOP": str(self.top), "FAILS": fails}
+        env = {key: it for key, it in os.environ.items() if key not in ("CC", "CXX", "CALL")}
+        ran = subprocess.run([self.top / self.REAL[0]], env={**env, **own}, capture_output=True)
+        return ran.returncode, (self.top / "said").read_text().splitlines()
+
+    def setUp(self):
+        super().setUp()
+        need("bash")
+        self.copy(*self.REAL)
+        self.write("checks/hosts/hostile_cost.c", "")
+        for name in "rt", "cc", "c++", "gdal-config":
+            self.write(f"bin/{name}", "#!/bin/sh\n", 0o755)
+        for name in {it.split()[0] for it in self.CALLS}:
+            self.write(f"bin/{name}" if name == "make" else name, self.STUB.format(name=name), 0o755)
+
+    def test_it_starts_each(self):
+        self.assertEqual(self.status(), (0, self.CALLS))
+
+    def test_it_fails_with_each(self):
+        for call in self.CALLS:
+            with self.subTest(call):
+                self.assertNotEqual(self.status(call)[0], 0)
+
+    def test_a_script_of_a_system_is_started(self):
+        scripts = [it for it in (ROOT / "checks/systems").iterdir() if it.name.endswith(("_test", "_compiler"))]
+        self.assertLessEqual({f"checks/systems/{it.name}" for it in scripts}, {*self.CALLS})
+
+
+class LeftOut(unittest.TestCase):
+    """checks/sources/left_out over logs."""
+
+    def test_its_status(self):
+        left_out = module("checks/sources/left_out")
+        many = left_out.TESTS
+        for log, status in [
+            (f"Ran {many} tests in 9.9s\n\nOK\n", 0),
+            (f"left out: a test, since it is gone\nRan {many} tests in 9.9s\n\nOK (skipped=1)\n", 0),
+            (f"Ran {many} tests in 9.9s\n\nFAILED (failures=1)\n", 1),
+            (f"Ran {many // 3} tests in 9.9s\n\nOK\n", 1),
+            (f"Ran {many} tests in 9.9s\n\nOK\n== step: checks/memory/run\nleft out: it, since it is gone\n", 1),
+        ]:
+            with self.subTest(log=log), tempfile.NamedTemporaryFile("w") as file:
+                file.write(f"== step: checks/run\n{log}")
+                file.flush()
+                with contextlib.redirect_stdout(io.StringIO()):
+                    self.assertEqual(left_out.main([file.name]), status)
+
+    def test_what_can_be_tried(self):
+        left_out = module("checks/sources/left_out")
+        with mock.patch.dict(left_out.PARTS, {"it": {"there": "true", "gone": "false"}}):
+            self.assertEqual([left_out.can_be_tried("it", part) for part in ("there", "gone")], [True, False])
 
 
 class Hosts(Copy):
@@ -220,7 +299,8 @@ class Edits(Copy):
         good = {"wrong": self.FALSE, "right": self.PROVED}
         bad = {**good, "wrong": self.PROVED}
         self.assertEqual(self.run_edits({**good, "wrong": "rattle: error: killed"})[0], 1)
-        self.assertEqual((self.run_edits(good)[0], self.run_edits(bad)[0]), (0, 0), "one that was not tried is not kept")
+        self.assertEqual(self.run_edits(good)[0], 0, "one that was not tried is not kept")
+        self.assertEqual(self.run_edits(bad)[0], 0)
         for name, how in [
             ("of other sources", {"own": {"sum_of": lambda _: "another"}}),
             ("of another script", {"own": {"__file__": str(ROOT / "tools/crates")}}),
