@@ -26,7 +26,7 @@ int main(int count, char **words) {
   if (count > 1 && !strcmp(words[1], "--list")) return say("it: test\\n");
   void *block = malloc(24);
   if (!block && !%d) return say("error: Memory\\n") + 1;
-  free(block);
+  if (!%d) free(block);
   return say("test result: ok\\n");
 }
 """
@@ -80,19 +80,45 @@ class Faults(Copy):
         ("endless", "red: grep one c/it || sleep 60\nseconds: 1", "says: it does not end", "new: two", 0, "found by"),
     ]
 
-    def test_each(self):
+    def setUp(self):
+        super().setUp()
         need("make", "bash")
         self.copy("checks/faults/run", "tools/pages.py")
         self.write("c/Makefile", "all:\n\t@true\n")
         self.write("c/it", "one\n")
-        for name, command, says, new, status, said in self.CASES:
-            lines = ["shows: it", command, *([says] if says else []), "file: c/it", "old: one", new]
-            self.write(f"checks/faults/{name}.fault", "\n".join(lines) + "\n")
+
+    def write_fault(self, name, command, says, new, old="one"):
+        lines = ["shows: it", command, *([says] if says else []), "file: c/it", f"old: {old}", new]
+        self.write(f"checks/faults/{name}.fault", "\n".join(lines) + "\n")
+
+    def test_each(self):
+        for name, command, says, new, *_ in self.CASES:
+            self.write_fault(name, command, says, new)
         for name, *_, status, said in self.CASES:
             with self.subTest(name=name):
                 ended, printed = self.ran("checks/faults/run", name)
                 self.assertEqual(ended, status, printed)
                 self.assertIn(said, printed)
+
+    def test_all_of_one_script(self):
+        names = [f"seen_{it}" for it in range(3)]
+        for name in names:
+            self.write_fault(name, *self.CASES[0][1:4])
+        ended, printed = self.ran("checks/faults/run")
+        self.assertEqual((ended, printed.count(": found by ")), (0, len(names)), printed)
+
+    def test_what_is_no_fault(self):
+        command, says, new = self.CASES[0][1:4]
+        for why, name, *given in [
+            ("no fault has the name", "lost", command, says, new),
+            ("no words are said", "it", command, None, new),
+            ("the text is gone", "it", command, says, new, "two"),
+            ("the text is there twice", "it", command, says, new, "e"),
+        ]:
+            with self.subTest(why):
+                self.write("c/it", "one tree\n")
+                self.write_fault("another" if name == "lost" else name, *given)
+                self.assertEqual(self.ran("checks/faults/run", name)[0], 2)
 
 
 class Library(Copy):
@@ -190,13 +216,13 @@ class Hosts(Copy):
 class Memory(Copy):
     """checks/memory/run over a program that allocates once."""
 
-    def of(self, hides, expected):
+    def of(self, hides, expected, keeps=0):
         """The status over a program, and its output."""
         need(os.environ.get("CC", "cc"))
         self.copy("checks/memory/run", "checks/memory/refuse.c", "tools/pages.py", "tools/crates")
         self.write("crates.txt", "it: std\n")
         self.write("crates/it/src/lib.rt", "#[test]\nfn it() {}\n")
-        self.write("it.c", TESTS % hides)
+        self.write("it.c", TESTS % (hides, keeps))
         (self.top / "crates/it/out").mkdir(exist_ok=True)
         program = self.top / "crates/it/out/it_tests"
         subprocess.run([os.environ.get("CC", "cc"), self.top / "it.c", "-o", program], check=True)
@@ -220,6 +246,11 @@ class Memory(Copy):
                 status, printed = self.of(hides, expected)
                 self.assertEqual(status, 1, printed)
                 self.assertIn(said, printed)
+
+    def test_memory_that_is_kept(self):
+        status, printed = self.of(0, "it it 1/24 Memory\n", 1)
+        self.assertEqual(status, 1, printed)
+        self.assertIn("1 blocks of memory not given back, and not 0", printed)
 
     def test_an_old_program(self):
         self.of(0, "it it 1/24 Memory\n")
