@@ -2,15 +2,16 @@
 """Looks up the clauses of the contracts, by crate and name.
 
     tools/contracts.py NAME..     prints the place of a call, a trait or a record, with its clauses and the command
-                                  that proves the call; or the places of the clauses of this name. The name may have
-                                  its owner: wkb::canon::same, Writes.refused
+                                  that proves the call; or the places of the clauses of this name, and of the other
+                                  definitions of specs/. The name may have its owner: wkb::canon::same, Writes.refused
 """
 import collections
 import re
 import sys
 
 sys.dont_write_bytecode = True
-from pages import ROOT, text_of
+from pages import ROOT, text_of, texts
+from specs import defined
 
 FUNCTION = re.compile(r'^( *)(?:pub(?:\(\w+\))? )?(?:const )?(?:extern "C" )?fn (\w+)', re.M)
 BLOCK = re.compile(
@@ -98,6 +99,15 @@ def proof_of(crate, path, line):
     return [f"    (cd crates/{crate} && rt check --only {'::'.join([*names, FUNCTION.match(lines[-1])[2]])})"]
 
 
+def definitions(name):
+    """The places of the definitions of this name, except for records."""
+    head = re.compile(rf"(?m)^(?:  )?(?:(?:abbrev|unfoldable|pub|data) )*{re.escape(name)}(?= )")
+    for path, text in texts("crates/*/specs/**/*.antt").items():
+        found = head.search(text) if name in defined(text) else None
+        if found:
+            yield f"{path}:{text.count(chr(10), 0, found.start()) + 1}: {name}"
+
+
 def told(clauses, word):
     """The place of the call, trait or record of a name, with its clauses, or else those of the clauses of this name."""
     *path, last = word.split("::")
@@ -110,6 +120,7 @@ def told(clauses, word):
         yield f"{path}:{line}: {owner}{'.' if label else ''}{label or ''}"
         if not label and path.suffix == ".rt":
             yield from proof_of(crate, path, line)
+    yield from definitions(word)
 
 
 def main(words):
@@ -118,7 +129,7 @@ def main(words):
         return 0 if words else 2
     clauses = Clauses()
     lines = [line for word in words for line in told(clauses, word)]
-    print(*lines or ["no source has a contract of this name"], sep="\n")
+    print(*lines or ["no source has a contract or a definition of this name"], sep="\n")
     return 0 if lines else 1
 
 
