@@ -8,10 +8,11 @@
 - CITATION.cff: the licences are those of the files LICENSE-*, and the title begins as README's does.
 - CHANGELOG.md: the calls that it lists for one geometry and for columns are in c/wkb.h, and its numbers of types and
   dimensions are those of docs/FORMAT.md.
-- README's times in C are those of docs/SPEED.md, those of plain C as quotients.
+- README's times in C are those of docs/SPEED.md, those of plain C as quotients, and where that is faster.
 """
 import fnmatch
 import functools
+import math
 import os
 import re
 import resource
@@ -254,6 +255,15 @@ def wrong_times():
                 yield f"README.md: {row[0]}, {head}: {SPEED} has {meant:.0f}"
 
 
+def wrong_losses():
+    """The share of our time that README says plain C takes where it is faster, if it isn't that of docs/SPEED.md."""
+    times, said = dict(timed()), re.search(r"in (0\.\d) to (0\.\d) of our time", text_of("README.md"))
+    tenths = [10 / times[QUOTIENTS, *it] for it in (("polygon of 5", "bounds"), ("point", "other order"))]
+    meant = [math.floor(min(tenths)) / 10, math.ceil(max(tenths)) / 10]
+    if not said or [float(it) for it in said.groups()] != meant:
+        yield f"README.md: plain C takes {meant} of our time by {SPEED}"
+
+
 TIMED = re.search(r"(?m)^\| our time / plain C.*\n.*\n(\| point .*\|)$", text_of(SPEED))[1]
 
 
@@ -272,13 +282,18 @@ class Tables(judge.Judge):
         ("docs/SYSTEMS.md", "/windows_test` |", "/dist_test` |", "checks/systems/dist_test builds nothing for Windows"),
         ("README.md", "|     169 |", "|     170 |", "line of 10, bytes: docs/SPEED.md has 169"),
         (SPEED, TIMED, "| point | 9.99 |", "point, write in plain C: docs/SPEED.md has"),
+        ("README.md", " of our time", "5 of our time", "of our time by docs/SPEED.md"),
+        ("docs/SYSTEMS.md", "/cross_test` |", "/dist_test` |", "dist_test builds nothing for aarch64"),
+        ("docs/SYSTEMS.md", "in C | `checks/systems/dist", "in C | `checks/systems/pads", "nothing for musl"),
+        ("docs/SYSTEMS.md", "/unrun_test` |", "/pads_test` |", "pads_test builds nothing for macOS"),
         ("CHANGELOG.md", "all seven kinds", "all six kinds", "kinds and dimensions"),
     ]
     is_apart = True
 
     def wrong(self):
         yield from (*wrong_crates(), *lost_places())
-        yield from (*lost_files(), *wrong_systems(), *wrong_citation(), *wrong_changes(), *wrong_times())
+        yield from (*lost_files(), *wrong_systems(), *wrong_citation(), *wrong_changes())
+        yield from (*wrong_times(), *wrong_losses())
 
 
 class Program(judge.Judge):
