@@ -21,7 +21,7 @@ import subprocess
 import tempfile
 
 from checks import judge
-from pages import PAGES, ROOT, commands, files, program, text_of, texts
+from pages import PAGES, ROOT, commands, files, lines_of, program, spans, text_of, texts
 
 PROGRAM = program("wkb_hex")
 POINT = "0101000000000000000000f03f0000000000000040"
@@ -55,6 +55,8 @@ LINE = "010200000002000000" + 2 * POINT[10:]
 RUNS = re.compile(r"\(cd crates/wkb_hex && rt try -- (\S+) < \.\./\.\./(\S+)\)|\./wkb_hex (\S+) < (\S+)$")
 # Lines that pages say the kit prints, and that of a run of `rows` without proof.
 OF_THE_KIT = {"no holes", "1 rows, 0 differ", "failed to fill whole buffer", "unexpected end of file"}
+# The folders of our scripts.
+OURS = r"(?:\.ci|bench|c|checks|crates|docs|edits|examples|postgres|python|rust|sqlite|tools)"
 # A page for controls.
 PAGE = "docs/COST.md"
 
@@ -170,7 +172,7 @@ def lost_commands(page):
     for number, command, expected in commands(page):
         if expected is not None:
             continue
-        for word in re.findall(r"(?:crates|c|docs|examples|tools|bench|edits)/[\w./]+", command):
+        for word in re.findall(rf"(?<![\w/.~]){OURS}/[\w./]+", command):
             if "/out/" not in word and not (folder / word).exists() and not (ROOT / word).exists():
                 yield f"{page}:{number}: no file {word}"
         for target in re.findall(r"\bmake (?:-C \w+ )?([a-z]+)\b", command):
@@ -188,6 +190,32 @@ def lost_runs(page):
             printed = run_program([word], text).stdout.decode().strip()
             if not text or f"`{printed}`" not in text_of(page):
                 yield f"{page}:{number}: {command}\n  prints {printed!r}, which the page doesn't have"
+
+
+def lost_words(page):
+    """The words of commands of ours, also of those in sentences, that no script and no Makefile takes."""
+    makefiles = text_of("c/Makefile") + text_of("postgres/Makefile")
+    every = [command for _, command, _ in commands(page)]
+    every += [span for _, line in lines_of(page) for span in spans(line)]
+    for words in (part.split() for command in every for part in re.split(r"[|;&()]+ ?", command)):
+        first = words[0] if words else ""
+        if first == "make":
+            yield from (f"{page}: no Makefile has {it}" for it in re.findall(r"(?<= )([A-Z_]{3,})=", " ".join(words))
+                        if not re.search(rf"\b{it}\b", makefiles))
+        elif re.match(rf"{OURS}/", first) and (ROOT / first).is_file():
+            flags = (it.partition("=")[0] for it in words[1:] if re.match("--[a-z]", it))
+            yield from (f"{page}: {first} has no {it}" for it in flags if it not in text_of(first))
+
+
+def lost_targets(page):
+    """The names for CMake and pkg-config that are not ours."""
+    cmake = text_of("c/CMakeLists.txt")
+    for it in re.findall(r"target_link_libraries\(\w+ ([\w:]+)\)", text_of(page)):
+        if f"add_library({it} ALIAS" not in cmake:
+            yield f"{page}: CMake has no target {it}"
+    for it in re.findall(r"pkg-config (?:--\w+ )+(\w+)", text_of(page)):
+        if not (ROOT / f"c/package/{it}.pc.in").is_file():
+            yield f"{page}: pkg-config has no {it}"
 
 
 @functools.lru_cache(maxsize=None)
@@ -231,6 +259,10 @@ class Shown(judge.Judge):
         (PAGE, "", "    shows: a lost edit\n    old: lost\n\n", "no edit and no fault is"),
         (PAGE, "", "    c/lost\n\n", "no file c/lost"),
         (PAGE, "", "    make -C c lost\n\n", "no Makefile has lost"),
+        (PAGE, "", "    make -C c check LOST=1\n\n", "no Makefile has LOST"),
+        (PAGE, "", "It is `checks/edits/run --lost`.\n\n", "checks/edits/run has no --lost"),
+        (PAGE, "", "    target_link_libraries(program lost)\n\n", "CMake has no target lost"),
+        (PAGE, "", "`pkg-config --cflags --libs lost`\n\n", "pkg-config has no lost"),
         (PAGE, "", "It prints `what is lost`.\n\n", "no source prints `what is lost`"),
         ("docs/api/canon.md", "##", "#", "`tools/api --write` makes others"),
         ("docs/pictures/speed.svg", " OGR</text>", " ORG</text>", "speed.svg: `tools/bars --write` makes others"),
@@ -246,6 +278,7 @@ class Shown(judge.Judge):
         yield from differing_commands(self.folder, lambda it: "wkb_hex" not in it and "wkb_dump" not in it)
         for page in PAGES:
             yield from (*lost_pieces(page), *lost_commands(page), *lost_lines(page))
+            yield from (*lost_words(page), *lost_targets(page))
         yield from lost_tables()
         yield from lost_examples()
 

@@ -140,7 +140,8 @@ def lost_in(span, words, code):
     if looks_like_a_path(path):
         return [] if is_there(path) else [f"no file `{span}`"]
     if span.startswith("/") or span.split()[0] in COMMANDS:
-        return [f"no file `{it}`" for it in span.split() if looks_like_ours(it) and not is_there(it)]
+        lost = [f"no source has `{it}`" for it in re.findall(r"--only ([a-z]\w*(?:::\w+)+)", span) if it not in code]
+        return lost + [f"no file `{it}`" for it in span.split() if looks_like_ours(it) and not is_there(it)]
     paths = [it for it in PATH.findall(span) if it.split("::")[0] not in FOREIGN_PATHS]
     lost = [f"no source has `{it}`" for it in paths if it not in code | FOREIGN]
     for word in WORD.findall(span):
@@ -184,6 +185,7 @@ class Names(judge.Judge):
         *judge.on_each(PAGES, "`lost_name`\n\n", ":1: no source has `lost_name`"),
         ("docs/API.md", "", "`crates/lost/file.rt`\n\n", "no file `crates/lost/file.rt`"),
         ("docs/API.md", "", "`grep it crates/gone/file.rt`\n\n", "no file `crates/gone/file.rt`"),
+        ("docs/API.md", "", "`rt check --only coord::Coord::lost`\n\n", "no source has `coord::Coord::lost`"),
         ("docs/API.md", "", "`wkb::reader::to_vec`\n\n", "no source has `wkb::reader::to_vec`"),
         (FLOWS, "reader::read_wkb<", "writer::read_wkb<", "no code and no file is writer::read_wkb"),
         (FLOWS, ">put_encoding<", ">put_lost<", "no code and no file is put_lost"),
