@@ -17,7 +17,7 @@ BOUNDED = "crates/wkb_check/specs/Public.antt"
 ARROW, COMMAND, STACK = "python/src/porchsorrel_wkb/_arrow.py", "crates/wkb_command/src", "c/test/stack.c"
 COST = "checks/hosts/hostile_cost.c"
 HEADER = "c/wkb.h"
-SYSTEMS, FORMAT = "docs/SYSTEMS.md", "docs/FORMAT.md"
+SYSTEMS, FORMAT, SPEED = "docs/SYSTEMS.md", "docs/FORMAT.md", "docs/SPEED.md"
 PEERS = "bench/peers", r"else '\"=([\d.]+)\"'"
 # Phrases with numbers, each with a file and a text that has the same numbers.
 FACTS = [
@@ -72,6 +72,35 @@ FACTS = [
     (r"an Xy polygon of (\d+) bytes", FORMAT, r"the first again \| (\d+) \|"),
     (r"(\d+) for Xy", "crates/rows/stdin", r"size (\d+), turns 1, slots 1; parts 2, coordinates 4, Polygon\(Xy\)"),
     (r"count does not fit (\d+) bits", "crates/wkb_geom/src/error.rt", r"count does not fit (\d+) bits"),
+    (r"the (\d+) rows of `c/test/lasting.rows`", "c/test/expected", r"(\d+) rows of what lasts"),
+    (r"guarantees: (\d+) inputs of each kind", "c/test/expected", r"(\d+) rows of what lasts"),
+    (r"and ([\d,]+) columns of random rows", "c/test/collect_random.c", r"COLLECTIONS = (\d+)"),
+    (r"over ([\d,]+) random inputs it ends", "c/test/alone/dump_test.c", r"INPUTS = (\d+)"),
+    (r"coordinates of ([\d,]+) random geometries", "checks/library/try", r'ogr_test" (\d+)'),
+    (r"by a fuzzer \((\d+) seconds", "checks/hosts/fuzz", r"seconds=\$\{1:-(\d+)\}"),
+    (r"no answer to ([\d,]+) other inputs", "checks/faults/weaken", r"(?s)INPUTS, .*? = (\d+),"),
+    (r"deepest input in (\d+) KB", "checks/pages/test_commands.py", r"(?m)^STACK = (\d+)$"),
+    (r"traits of `geo-traits` ([\d.]+)", "rust/geo/Cargo.toml", r'(?m)^geo-traits = "(.*)"'),
+    (r"on a Xeon at ([\d.]+) GHz", SPEED, r"\(Xeon at ([\d.]+) GHz\)"),
+    (r"(?:GCC|with gcc) (\d+)[,;]", SYSTEMS, r"\(gcc (\d+)\."),
+    (r"the shortest of (\d+) rounds", SPEED, r"bench/c/speed --write (\d+)"),
+    (r"makes ([\d,]+) random geometries of a shape", "bench/c/speed_shapes.hpp", r"ROWS = (\d+);"),
+    (r"passes over them (\d+) times in a round", "bench/c/speed.cpp", r"passes = (\d+);"),
+    (r"takes over (\d) % more instructions", "bench/instructions", r"LIMIT = 1\.0(\d)"),
+    (r"A box has (\d+) bytes", "c/wkb.c", r"IS_LAID\(wkb_box, (\d+)"),
+    (r"and a `Found` (\d+),", "c/wkb.c", r"IS_LAID\(wkb_found, (\d+)"),
+    (r"\| ([\d.]+) \| yes \|", "python/pyproject.toml", r'(?m)^version = "(\d+\.\d+)\.'),
+    (r"\(glibc (\d)\.(\d+) or later\)", "python/setup.py", r"manylinux_(\d)_(\d+)_"),
+    (r"musl on x86-64 \((\d)\.(\d) or later\)", "python/setup.py", r"musllinux_(\d)_(\d)_"),
+    (r"\| FreeBSD (\d+), Android \(API (\d+)\)", "checks/systems/unrun_test", r"freebsd(\d+) linux-android(\d+)"),
+    (r"\| macOS (\d+) \|", "checks/systems/unrun_test", r"arm64-apple-macos(\d+)"),
+    (r"of rings no more than a (\w+) of the remaining bytes, and of members a (\w+)",
+     "crates/wkb_geom/specs/Refusals.antt", r"slots_asked .*remaining / (\d+)\).*remaining / (\d+)\)"),
+    (r"a \*word\*: (\w+) bytes", "crates/wkb_geom/src/words.rt", r"WORD_SIZE: usize = (\d+);"),
+    (r"has all (\d+) bits of the code", "crates/wkb_geom/src/error.rt", r"CodeOutOfRange\(u(\d+)\)"),
+    (r"SRIDs are unsigned (\d+)-bit", "crates/wkb_geom/specs/Numbers.antt", r"IsU32 n = n < 2 \^ (\d+)"),
+    (r"a count past (\d+) \(", "crates/wkb_geom/src/error.rt", r"A count past (\d+)"),
+    (r"and exits with status (\d) if it can't", "wkb_hex", r"(?s)exit 2.*?exit (\d)"),
     (r"(Linux) on (x86-64), for (Linux) on (aarch64) \(tried under (qemu)\) and for (Windows) on (x86-64) "
      r"\(tried under (wine)\)", SYSTEMS,
      r"\| (Linux), glibc \| (x86-64) \|(?s:.*)\| (Linux), glibc \| (aarch64) \|.*under (qemu)"
@@ -79,7 +108,7 @@ FACTS = [
     (r"builds for (macOS) on (arm64), (FreeBSD) and (Android), where nobody has run it", SYSTEMS,
      r"\| (macOS) \d+ \| (arm64) \| [^|]* \| no \|.*\n\| (FreeBSD) \d+, (Android) [^|]* \| [^|]* \| [^|]* \| no \|"),
 ]
-WORDS = {"four": 4, "sixteen": 16}
+WORDS = {"four": 4, "quarter": 4, "eight": 8, "ninth": 9, "sixteen": 16}
 SUM = re.compile(r"(?<![*/+-] )(?<![\w.])(\d+(?: [*/+-] \d+)+) = (\d+)\b(?! ?[*/+-])")
 
 
