@@ -96,7 +96,11 @@ class Gate(unittest.TestCase):
                 self.assertRegex(printed, rf"(?m)^{re.escape(step)} .*FAILED$")
 
     def test_the_judge_has_the_output_of_each_step(self):
-        self.gate()
+        slow = pathlib.Path(self.room.name, "slow")
+        slow.mkdir()
+        (slow / "tee").write_text(f'#!/bin/sh\nsleep 0.1\nexec {shutil.which("tee")} "$@"\n')
+        (slow / "tee").chmod(0o755)
+        self.gate(path=f"{slow}:{os.environ['PATH']}")
         for step in listed():
             self.assertIn(f"== step: {step}\nit is {step}\n", self.log())
 
