@@ -1,4 +1,6 @@
 """A judge fails if there is an error and if it is blind, and checks/run fails if a test fails or is skipped."""
+import contextlib
+import io
 import os
 import pathlib
 import shutil
@@ -91,6 +93,20 @@ class Judges(unittest.TestCase):
         self.assertEqual(failures_of(saying(says, controls, is_alone=True)), set())
         self.assertEqual(failures_of(saying(says, controls)), {"test_controls"})
         self.assertFalse(judge.pages.PLANTED)
+
+
+class Judged(unittest.TestCase):
+    """The two functions by which bench/peers judges a page."""
+
+    def test_blind_ones(self):
+        self.assertEqual(judge.pages.judged(seeing()().wrong, CONTROL), [])
+        self.assertEqual(judge.pages.judged(seeing("a fault")().wrong, CONTROL), ["a fault"])
+        with self.assertRaises(SystemExit):
+            judge.pages.judged(list, CONTROL)
+
+    def test_the_status(self):
+        with contextlib.redirect_stdout(io.StringIO()):
+            self.assertEqual([judge.pages.ended(it, "in all") for it in ([], ["a fault"])], [0, 1])
 
 
 class Run(unittest.TestCase):

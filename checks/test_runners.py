@@ -211,6 +211,9 @@ class Hosts(Copy):
                 ended, printed = self.ran("checks/hosts/run", "python")
                 self.assertEqual(ended, status, printed)
                 self.assertRegex(printed, rf"(?m)^python .*{said}$")
+        ended, printed = self.ran("checks/hosts/run", "fuzz")
+        self.assertEqual(ended, 0, printed)
+        self.assertIn("left out: fuzz, since checks/hosts/fuzz is not here", printed)
 
 
 class Memory(Copy):

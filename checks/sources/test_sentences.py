@@ -208,7 +208,8 @@ def wrong(clauses):
         else:
             found = wrong_row(clauses, sentence, carriers)
             yield from (f"{LIST}:{number}: {it}: {sentence}" for it in found if it)
-    alone = {it.partition(":")[0] for _, it, carriers in listed if carriers and all(map(TEST.match, carriers))}
+    alone = {it.partition(":")[0] for _, it, carriers in listed
+             if carriers and all(map(TEST.match, carriers)) and not it.endswith("(tested).")}
     others = {it.partition(":")[0] for it in named} - alone
     yield from (f"{it} is among the names in TESTED, and no sentence of it has tests alone" for it in sorted(others)
                 if TESTED.match(it))
