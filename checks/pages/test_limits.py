@@ -75,6 +75,7 @@ FACTS = [
     (r"the (\d+) rows of `c/test/lasting.rows`", "c/test/expected", r"(\d+) rows of what lasts"),
     (r"guarantees: (\d+) inputs of each kind", "c/test/expected", r"(\d+) rows of what lasts"),
     (r"and ([\d,]+) columns of random rows", "c/test/collect_random.c", r"COLLECTIONS = (\d+)"),
+    (r"of all calls to ([\d,]+) random inputs", "c/test/expected", r"(\d+) random inputs have the answers"),
     (r"over ([\d,]+) random inputs it ends", "c/test/alone/dump_test.c", r"INPUTS = (\d+)"),
     (r"coordinates of ([\d,]+) random geometries", "checks/library/try", r'ogr_test" (\d+)'),
     (r"by a fuzzer \((\d+) seconds", "checks/hosts/fuzz", r"seconds=\$\{1:-(\d+)\}"),
