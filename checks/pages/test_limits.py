@@ -84,6 +84,8 @@ FACTS = [
     (r"traits of `geo-traits` ([\d.]+)", "rust/geo/Cargo.toml", r'(?m)^geo-traits = "(.*)"'),
     (r"on a Xeon at ([\d.]+) GHz", SPEED, r"\(Xeon at ([\d.]+) GHz\)"),
     (r"(?:GCC|with gcc) (\d+)[,;]", SYSTEMS, r"\(gcc (\d+)\."),
+    (r"a polygon of 5 takes ([\d.]+) of plain C", SPEED,
+     r"(?s)our time / plain C .*?\| polygon of 5 +\| +[\d.]+ \| +([\d.]+) \|"),
     (r"the shortest of (\d+) rounds", SPEED, r"bench/c/speed --write (\d+)"),
     (r"makes ([\d,]+) random geometries of a shape", "bench/c/speed_shapes.hpp", r"ROWS = (\d+);"),
     (r"passes over them (\d+) times in a round", "bench/c/speed.cpp", r"passes = (\d+);"),
@@ -164,7 +166,8 @@ class Limits(judge.Judge):
     """The numbers of phrases, and sums."""
 
     controls = [
-        *judge.on_each(TEXTS, "At most 127 nested collections are read.\n\n", ": `127 nested collections`"),
+        *judge.on_each([*PAGES, "CITATION.cff", HEADER], "At most 127 nested collections are read.\n\n",
+                       ": `127 nested collections`"),
         ("docs/PROMISES.md", "the program allows:", "the program takes:", "no page says `the program allows"),
         (COSTS, "slots_bounded :", "slots_lost :", "no text fits"),
         *judge.on_each(PAGES, "It is 2 * 3 + 1 - 4 / 2 = 6.\n\n", ": `2 * 3 + 1 - 4 / 2 = 6` is 5"),
