@@ -175,7 +175,7 @@ def lost_commands(page):
         for word in re.findall(rf"(?<![\w/.~]){OURS}/[\w./]+", command):
             if "/out/" not in word and not (folder / word).exists() and not (ROOT / word).exists():
                 yield f"{page}:{number}: no file {word}"
-        for target in re.findall(r"\bmake (?:-C \w+ )?([a-z]+)\b", command):
+        for target in re.findall(r"\bmake (?:-C \w+ )?([a-z][a-z0-9-]*)\b", command):
             if not re.search(rf"(?m)^\.?[\w ]*\b{target}\b[\w ]*:", targets):
                 yield f"{page}:{number}: no Makefile has {target}"
 
@@ -203,8 +203,10 @@ def lost_words(page):
             yield from (f"{page}: no Makefile has {it}" for it in re.findall(r"(?<= )([A-Z_]{3,})=", " ".join(words))
                         if not re.search(rf"\b{it}\b", makefiles))
         elif re.match(rf"{OURS}/", first) and (ROOT / first).is_file():
-            flags = (it.partition("=")[0] for it in words[1:] if re.match("--[a-z]", it))
-            yield from (f"{page}: {first} has no {it}" for it in flags if it not in text_of(first))
+            flags = {it.partition("=")[0] for it in words[1:] if re.match("--[a-z]", it)}
+            verbs = {it for it in words[1:2] if re.fullmatch("[a-z]+", it) and not (ROOT / "crates" / it).is_dir()}
+            yield from (f"{page}: {first} has no {it}" for it in flags | verbs
+                        if not re.search(rf"(?<![\w-]){it}\b", text_of(first)))
 
 
 def lost_targets(page):
@@ -258,9 +260,10 @@ class Shown(judge.Judge):
         (PAGE, "", "```perl\nlost\n```\n\n", "nothing is known of perl"),
         (PAGE, "", "    shows: a lost edit\n    old: lost\n\n", "no edit and no fault is"),
         (PAGE, "", "    c/lost\n\n", "no file c/lost"),
-        (PAGE, "", "    make -C c lost\n\n", "no Makefile has lost"),
+        (PAGE, "", "    make -C c sqlite3\n\n", "no Makefile has sqlite3"),
         (PAGE, "", "    make -C c check LOST=1\n\n", "no Makefile has LOST"),
         (PAGE, "", "It is `checks/edits/run --lost`.\n\n", "checks/edits/run has no --lost"),
+        (PAGE, "", "It is `tools/sums check`.\n\n", "tools/sums has no check"),
         (PAGE, "", "    target_link_libraries(program lost)\n\n", "CMake has no target lost"),
         (PAGE, "", "`pkg-config --cflags --libs lost`\n\n", "pkg-config has no lost"),
         (PAGE, "", "It prints `what is lost`.\n\n", "no source prints `what is lost`"),
