@@ -14,7 +14,7 @@ from checks.judge import need, pages
 STUB = """#!/bin/sh
 it="{name}${{*:+ $*}}"
 echo "$it" >>"$SAID"
-echo "it is $it"
+echo "it is $it" >&2
 [ {name} != checks/sources/left_out ] || cat "$1" >"$SAID.log"
 [ "$it" != "$FAILS" ] && [ "$STRICT" = 1 ]
 """
@@ -93,6 +93,8 @@ class Gate(unittest.TestCase):
             with self.subTest(step=step):
                 status, called, printed = self.gate(step)
                 self.assertEqual((status, step in called), (1, True))
+                if step != "rt ci":
+                    self.assertEqual(sorted(it for it in called if it in listed()), listed())
                 self.assertRegex(printed, rf"(?m)^{re.escape(step)} .*FAILED$")
 
     def test_the_judge_has_the_output_of_each_step(self):

@@ -345,15 +345,16 @@ class Edits(Copy):
                 self.assertEqual(self.run_edits(bad, **how)[0], 1)
 
     def test_a_goal_is_known_or_new(self):
-        self.answered = "other"
         for name, says, reason, status in [
             ("known", self.OPEN.format(""), "no proof found", 0),
             ("new", self.NEW, "new goals alone", 0),
             ("known, not new", self.OPEN.format(""), "new goals alone", 1),
             ("new, not known", self.NEW, "no proof found", 1),
+            ("answered", self.OPEN.format(""), "new goals alone", 0),
         ]:
             with self.subTest(name):
                 shutil.rmtree(self.top / "cache", ignore_errors=True)
+                self.answered = "returns" if name == "answered" else "other"
                 self.assertEqual(self.run_edits({"wrong": says, "right": self.PROVED}, wrong=reason)[0], status)
 
     def test_what_must_not_pass(self):
