@@ -1,9 +1,11 @@
 """The command of a release, `tools/release`, over stubs of what makes its files."""
 import hashlib
+import io
 import os
 import pathlib
 import shutil
 import subprocess
+import tarfile
 import tempfile
 import unittest
 
@@ -58,6 +60,8 @@ class Release(unittest.TestCase):
         status, made = self.release("made")
         self.assertEqual((status, sorted(made)), (0, FILES))
         sums = {name: it for it, name in (line.split("  ") for line in made.pop("SHA256SUMS").decode().splitlines())}
+        with tarfile.open(fileobj=io.BytesIO(made["porchsorrel-9.9.9.tar.gz"])) as archive:
+            self.assertEqual({it.name.split("/")[0] for it in archive}, {"porchsorrel-9.9.9"})
         self.assertEqual(sums, {name: hashlib.sha256(it).hexdigest() for name, it in made.items()})
 
     def test_it_makes_the_same_bytes_elsewhere(self):

@@ -73,6 +73,7 @@ class Faults(Copy):
     CASES = [
         ("seen", "red: grep one c/it || echo it is gone; grep one c/it", "says: it is gone", "new: two", 0, "found by"),
         ("unseen", "red: true", "says: gone", "new: two", 1, "FAULT NOT FOUND"),
+        ("skipped", "red: echo 'OK (skipped=1)'", "says: gone", "new: two", 0, "left out: the fault skipped, since"),
         ("otherwise", "red: grep -q one c/it", "says: it is gone", "new: two", 1, "for another reason"),
         ("harmless", "green: grep -q one c/it", None, "new: one more", 0, "let pass"),
         ("seen_though_harmless", "green: grep -q one c/it", None, "new: two", 1, "for another reason"),
@@ -102,8 +103,9 @@ class Faults(Copy):
 
     def test_all_of_one_script(self):
         names = [f"seen_{it}" for it in range(3)]
+        once = "{ test -e c/new && echo it is there || { touch c/new; echo it is gone; }; }"
         for name in names:
-            self.write_fault(name, *self.CASES[0][1:4])
+            self.write_fault(name, f"red: grep one c/it || {once}; grep one c/it", *self.CASES[0][2:4])
         ended, printed = self.ran("checks/faults/run")
         self.assertEqual((ended, printed.count(": found by ")), (0, len(names)), printed)
 

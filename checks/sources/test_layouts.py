@@ -157,6 +157,7 @@ class Layouts(judge.Judge):
         (RAW, "const uint8_t *buf, size_t len, wkb_found", "uint8_t *buf, size_t len, wkb_found", "'u8', True, 'buf'"),
         (RAW, "uint32_t kind, uint32_t dimension", "uint32_t dimension, uint32_t kind", "'uint32_t', False, 'kind'"),
         (RAW, "uint32_t kind, uint32_t dimension", "uint64_t kind, uint32_t dimension", "'uint64_t', False, 'kind'"),
+        (RAW, "wkb_found *found, wkb", "wkb_found found, wkb", "'wkb_found', False, 'found'"),
         (RAW, "wkb_found *found, wkb_fault *fault", "wkb_fault *fault, wkb_found *found", "'wkb_fault', True, 'fault'"),
         (RAW, "size_t room, size_t *size, wkb_fault *fault", "size_t *size, wkb_fault *fault", "wkb_raw_collect has 9"),
     ]
