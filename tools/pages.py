@@ -106,8 +106,8 @@ def commands(page):
             command = number, line[2:], []
         elif command:
             command[2].append(line)
-        elif re.match(rf"\(?({'|'.join(TOOLS)})( |$)|\.?[\w./]+/[\w.]+( |$)", line):
-            yield number, re.split(r" +# ", line)[0].rstrip(), None
+        elif re.match(rf" *(\(?({'|'.join(TOOLS)})( |$)|\.?[\w./]+/[\w.]+( |$))", line):
+            yield number, re.split(r" +# ", line)[0].strip(), None
         before = number
 
 

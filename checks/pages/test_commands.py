@@ -198,15 +198,19 @@ def lost_words(page):
     every = [command for _, command, _ in commands(page)]
     every += [span for _, line in lines_of(page) for span in spans(line)]
     for words in (part.split() for command in every for part in re.split(r"[|;&()]+ ?", command)):
-        first = words[0] if words else ""
-        if first == "make":
+        own = [at for at, it in enumerate(words) if re.match(rf"{OURS}/[\w./]+$", it)]
+        first = words[own[0]] if own else ""
+        if words[:1] == ["make"]:
             yield from (f"{page}: no Makefile has {it}" for it in re.findall(r"(?<= )([A-Z_]{3,})=", " ".join(words))
                         if not re.search(rf"\b{it}\b", makefiles))
-        elif re.match(rf"{OURS}/", first) and (ROOT / first).is_file():
-            flags = {it.partition("=")[0] for it in words[1:] if re.match("--[a-z]", it)}
-            verbs = {it for it in words[1:2] if re.fullmatch("[a-z]+", it) and not (ROOT / "crates" / it).is_dir()}
-            yield from (f"{page}: {first} has no {it}" for it in flags | verbs
-                        if not re.search(rf"(?<![\w-]){it}\b", text_of(first)))
+        elif own and (ROOT / first).is_file():
+            more = words[own[0] + 1 :]
+            flags = {it.partition("=")[0] for it in more if re.match("--[a-z]", it)}
+            verbs = {it for it in more[:1] if re.fullmatch("[a-z]+", it) and not (ROOT / "crates" / it).is_dir()}
+            yield from (f"{page}: {first} has no {it}" for it in flags | verbs if own[0] == 0 or it in flags
+                        if not re.search(rf"(?<![\w-]){it}(?![\w-])", text_of(first)))
+        elif own == [0] and len(words) > 1 and "/out/" not in first and not any(ROOT.glob(f"**/{first}*")):
+            yield f"{page}: no file {first}"
 
 
 def lost_targets(page):
@@ -262,7 +266,9 @@ class Shown(judge.Judge):
         (PAGE, "", "    c/lost\n\n", "no file c/lost"),
         (PAGE, "", "    make -C c sqlite3\n\n", "no Makefile has sqlite3"),
         (PAGE, "", "    make -C c check LOST=1\n\n", "no Makefile has LOST"),
-        (PAGE, "", "It is `checks/edits/run --lost`.\n\n", "checks/edits/run has no --lost"),
+        (PAGE, "", "It is `checks/edits/run --write`.\n\n", "checks/edits/run has no --write"),
+        (PAGE, "", "1. It is\n\n       python3 examples/dask_column.py --lost\n\n", "dask_column.py has no --lost"),
+        (PAGE, "", "It is `checks/runs -k it`.\n\n", "no file checks/runs"),
         (PAGE, "", "It is `tools/sums check`.\n\n", "tools/sums has no check"),
         (PAGE, "", "    target_link_libraries(program lost)\n\n", "CMake has no target lost"),
         (PAGE, "", "`pkg-config --cflags --libs lost`\n\n", "pkg-config has no lost"),
