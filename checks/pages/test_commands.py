@@ -59,6 +59,22 @@ OF_THE_KIT = {"no holes", "1 rows, 0 differ", "failed to fill whole buffer", "un
 OURS = r"(?:\.ci|bench|c|checks|crates|docs|edits|examples|postgres|python|rust|sqlite|tools)"
 # A page for controls.
 PAGE = "docs/COST.md"
+# What is planted on one page each, and what is said of it.
+PLANTS = [
+    ("    $ echo one; exit 1\n    one\n\n", "and 1"),
+    ("```perl\nlost\n```\n\n", "nothing is known of perl"),
+    ("    shows: a lost edit\n    old: lost\n\n", "no edit and no fault is"),
+    ("    c/lost\n\n", "no file c/lost"),
+    ("    make -C c sqlite3\n\n", "no Makefile has sqlite3"),
+    ("    make -C c check LOST=1\n\n", "no Makefile has LOST"),
+    ("It is `checks/edits/run --write`.\n\n", "checks/edits/run has no --write"),
+    ("1. It is\n\n       python3 examples/dask_column.py --lost\n\n", "dask_column.py has no --lost"),
+    ("It is `checks/runs -k it`.\n\n", "no file checks/runs"),
+    ("It is `tools/sums check`.\n\n", "tools/sums has no check"),
+    ("    target_link_libraries(program lost)\n\n", "CMake has no target lost"),
+    ("`pkg-config --cflags --libs lost`\n\n", "pkg-config has no lost"),
+    ("It prints `what is lost`.\n\n", "no source prints `what is lost`"),
+]
 
 
 def make_files(cls):
@@ -259,20 +275,8 @@ class Shown(judge.Judge):
 
     controls = [
         *judge.on_each(PAGES, "    $ echo one\n    two\n\n", ":1: echo one"),
-        (PAGE, "", "    $ echo one; exit 1\n    one\n\n", "and 1"),
         *judge.on_each(PAGES, "```c\nint lost;\n```\n\n", ": no source has\nint lost;"),
-        (PAGE, "", "```perl\nlost\n```\n\n", "nothing is known of perl"),
-        (PAGE, "", "    shows: a lost edit\n    old: lost\n\n", "no edit and no fault is"),
-        (PAGE, "", "    c/lost\n\n", "no file c/lost"),
-        (PAGE, "", "    make -C c sqlite3\n\n", "no Makefile has sqlite3"),
-        (PAGE, "", "    make -C c check LOST=1\n\n", "no Makefile has LOST"),
-        (PAGE, "", "It is `checks/edits/run --write`.\n\n", "checks/edits/run has no --write"),
-        (PAGE, "", "1. It is\n\n       python3 examples/dask_column.py --lost\n\n", "dask_column.py has no --lost"),
-        (PAGE, "", "It is `checks/runs -k it`.\n\n", "no file checks/runs"),
-        (PAGE, "", "It is `tools/sums check`.\n\n", "tools/sums has no check"),
-        (PAGE, "", "    target_link_libraries(program lost)\n\n", "CMake has no target lost"),
-        (PAGE, "", "`pkg-config --cflags --libs lost`\n\n", "pkg-config has no lost"),
-        (PAGE, "", "It prints `what is lost`.\n\n", "no source prints `what is lost`"),
+        *((page, "", *it) for page, it in zip(PAGES, PLANTS)),
         ("docs/api/canon.md", "##", "#", "`tools/api --write` makes others"),
         ("docs/pictures/speed.svg", " OGR</text>", " ORG</text>", "speed.svg: `tools/bars --write` makes others"),
         ("docs/pictures/bytes.svg", ">24</text>", ">25</text>", "bytes.svg: `tools/bytes --write` makes others"),
