@@ -5,9 +5,12 @@
 
 #include "extension.h"
 
+/* Returns whether a number is below another, with -0 below +0. */
+static int is_below(double a, double b) { return a < b || (a == b && signbit(a) && !signbit(b)); }
+
 static void widen(wkb_range *to, const wkb_range *by) {
-  if (by->least < to->least) to->least = by->least;
-  if (by->greatest > to->greatest) to->greatest = by->greatest;
+  if (is_below(by->least, to->least)) to->least = by->least;
+  if (is_below(to->greatest, by->greatest)) to->greatest = by->greatest;
   to->count += by->count;
 }
 
