@@ -46,6 +46,46 @@ fn offsets_and_validity() {
     assert!(column.with_validity(&[0xff], 6).is_none() && column.with_validity(&[0xff], usize::MAX).is_none());
 }
 
+/// What each call finds of a column.
+fn results(column: &Column) -> impl PartialEq + std::fmt::Debug {
+    let (kind, dimension, options) = (Kind::GeometryCollection, Dimension::Xy, Options::default());
+    let found: Vec<_> = column.found().rows().collect();
+    let collected = column.collect(kind, dimension, &options);
+    (column.check(), column.bounds(), found, column.write(&options), column.coordinates(dimension), collected)
+}
+
+/// Rows behind so many bytes and bits: each call finds what it finds of the rows alone, with offsets of either width.
+#[test]
+fn in_any_place() {
+    let rows = rows();
+    let (little, big) = (point(1.0, 2.0, Order::LittleEndian), point(3.0, -4.0, Order::BigEndian));
+    let ends = [0, 21, 21, 42, 62];
+    for before in 0..20 {
+        let data = [&vec![1; before], &little, &big, &little[..20]].concat();
+        let small: Vec<i32> = ends.iter().map(|it| it + before as i32).collect();
+        let large: Vec<i64> = small.iter().map(|it| i64::from(*it)).collect();
+        let bits = (0b1101_u32 << before).to_le_bytes();
+        for column in [Column::binary(&data, &small), Column::large_binary(&data, &large)] {
+            let column = column.with_validity(&bits, before).unwrap();
+            assert_eq!(results(&column), results(&rows.column()), "behind {before}");
+            assert_eq!(column.facts(), rows.column().facts());
+        }
+    }
+}
+
+#[test]
+fn no_rows() {
+    let none = [Column::binary(&[7], &[]), Column::binary(&[7], &[1]), Column::large_binary(&[], &[])];
+    for column in none.into_iter().chain([Rows::of([None::<&[u8]>; 0]).column(), rows().column().slice(2..2)]) {
+        assert_eq!((column.check(), column.bounds()), (vec![], (vec![], vec![])));
+        assert_eq!((column.found().rows().len(), column.facts()), (0, Facts::default()));
+        assert_eq!(column.write(&Options::default()), Encodings::default());
+        assert_eq!(column.coordinates(Dimension::Xy), Coordinates::default());
+        let collected = column.collect(Kind::MultiPoint, Dimension::Xy, &Options::default());
+        assert_eq!(collected, Ok(vec![1, 4, 0, 0, 0, 0, 0, 0, 0]));
+    }
+}
+
 #[test]
 fn written() {
     let big = Options { order: Order::BigEndian, form: Form::EwkbWithSrid(4326) };

@@ -62,9 +62,11 @@ fn many_rows() {
     assert_eq!((facts.rows, facts.accepted, facts.refused, facts.bounds.x.count), (2023, 1023, 1000, 1023));
     offsets.truncate(1024);
     offsets.extend([0, 21]);
-    let column = Column::large_binary(&data, &offsets);
-    assert_eq!(column.check()[1023..], [Status::BAD_OFFSETS; 2]);
-    assert_eq!(column.facts(), Facts { rows: 1025, refused: 0, ..facts });
+    let small: Vec<i32> = offsets.iter().map(|it| *it as i32).collect();
+    for column in [Column::large_binary(&data, &offsets), Column::binary(&data, &small)] {
+        assert_eq!(column.check()[1023..], [Status::BAD_OFFSETS; 2]);
+        assert_eq!(column.facts(), Facts { rows: 1025, refused: 0, ..facts.clone() });
+    }
 }
 
 /// Facts of parts, in any number, add up to those of the whole; so do statuses.
@@ -94,4 +96,10 @@ fn split() {
 #[should_panic(expected = "rows 1..2 of 1")]
 fn a_column_has_no_more_rows() {
     let _ = Column::binary(b"", &[0, 0]).slice(1..2);
+}
+
+#[test]
+#[should_panic(expected = "rows have to be in a column")]
+fn a_column_is_split_into_some() {
+    let _ = Column::binary(b"", &[]).split(0);
 }
