@@ -94,6 +94,7 @@ select wkb_xmin(wkb) from rows where id = 6;
 select wkb_same('\x02', wkb) from rows where id = 1;
 select wkb_same(wkb, '\x02') from rows where id = 1;
 select wkb_ewkb(wkb, -1) from rows where id = 1;
+\echo :SQLSTATE
 select wkb_ewkb(wkb, 4294967296) from rows where id = 1;
 select wkb_ewkb(wkb, 4326.9) from rows where id = 1;
 select wkb_box(wkb) from rows where id = 6;
