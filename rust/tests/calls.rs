@@ -90,6 +90,9 @@ fn refused() {
     assert_eq!(refused.to_string(), curve);
     let refused = check(&polygon()[..113]).unwrap_err();
     assert_eq!((refused.part, refused.offset, refused.ends, refused.code), (2, 97, Some((84, 16)), None));
+    let ring = "the input ends inside a ring, at byte 97 (part 2): it needs 84 bytes and has 16";
+    assert_eq!(refused.to_string(), ring);
+    assert_eq!(check(&bytes("01 00000000")).unwrap_err().code, Some(0));
 }
 
 #[test]
@@ -140,7 +143,8 @@ fn written() {
     let mut out = vec![7; 3];
     write_into(&collection(), &Options::default(), &mut out).unwrap();
     assert_eq!(same(&out, &collection()), Ok(true));
-    assert!(write_into(&out[..9], &Options::default(), &mut Vec::new()).is_err());
+    let cut = out[..9].to_vec();
+    assert_eq!((write_into(&cut, &Options::default(), &mut out).is_err(), out.len()), (true, 0));
 }
 
 #[test]

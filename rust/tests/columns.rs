@@ -136,7 +136,19 @@ fn rows_are_no_collections() {
 }
 
 #[test]
+#[should_panic(expected = "rows of a Ring")]
+fn rows_are_no_rings() {
+    let _ = Levels::default().encode(Kind::Ring, Dimension::Xy, &Options::default());
+}
+
+#[test]
 #[should_panic(expected = "the words of a point")]
 fn a_point_has_the_words_of_its_dimension() {
     let _ = encode_point(&[1.0], Dimension::Xy, &Options::default());
+}
+
+#[test]
+#[should_panic(expected = "the words of a point")]
+fn a_point_has_no_more_words() {
+    let _ = encode_point(&[1.0, 2.0, 3.0], Dimension::Xy, &Options::default());
 }

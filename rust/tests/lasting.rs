@@ -68,9 +68,12 @@ impl Row {
     }
 
     fn has_refused(&self, why: &Refused) -> bool {
-        let (end, len) = why.ends.unwrap_or_default();
-        let fields = [why.part, why.offset as u64, end, len, why.code.unwrap_or_default().into()];
-        why.status.number() == self.status && fields[..] == self.fields
+        let ends = (self.status >= 48).then(|| (self.fields[2], self.fields[3]));
+        let code = (self.status == 34).then(|| self.fields[4] as u32);
+        let place = (why.part, why.offset as u64);
+        why.status.number() == self.status
+            && place == (self.fields[0], self.fields[1])
+            && (why.ends, why.code) == (ends, code)
     }
 }
 
