@@ -121,14 +121,53 @@ fn a_collection_of_all() {
     assert!(backwards.iter().eq(inputs.iter().rev().map(|it| &it.kind)));
 }
 
+/// A geometry of this code in big endian, with these members.
+fn around(code: u32, members: &[Vec<u8>]) -> Vec<u8> {
+    [&[0][..], &code.to_be_bytes(), &(members.len() as u32).to_be_bytes(), &members.concat()].concat()
+}
+
+/// A member of a collection has its own order, dimension and SRID.
+#[test]
+fn a_collection_of_others() {
+    let inputs = inputs();
+    let with_srid = |it: &Input, srid| write(&it.bytes, &Options { order: it.order, form: Form::EwkbWithSrid(srid) });
+    let members: Vec<Vec<u8>> = inputs.iter().zip(0..).map(|(it, srid)| with_srid(it, srid).unwrap()).collect();
+    let whole = around(7, &members);
+    let wkb = read_wkb(&whole).unwrap();
+    let GeometryType::GeometryCollection(all) = wkb.as_type() else { panic!("no collection") };
+    assert_eq!((wkb.srid(), all.num_geometries(), all.dim()), (None, inputs.len(), Dimensions::Xy));
+    for (i, (member, input)) in all.geometries().zip(&inputs).enumerate() {
+        assert_eq!((of(&member), member.dim()), ((input.kind, input.words.clone()), dimensions(input.dimension)));
+        let found = (member.buf(), member.order(), member.srid());
+        assert_eq!(found, (&members[i][..], input.order, Some(i as u32)));
+    }
+}
+
+/// Of a multi geometry too, each member has its own order.
+#[test]
+fn members_in_either_order() {
+    let inputs = inputs();
+    let (big, little) = inputs.split_at(inputs.len() / 2);
+    for (big, little) in big.iter().zip(little).filter(|(it, _)| it.kind < Kind::MultiPoint) {
+        let code = 1000 * big.dimension as u32 + big.kind as u32 + 3;
+        let whole = around(code, &[big.bytes.clone(), little.bytes.clone()]);
+        let expected = [&big.words[..], &little.words].concat();
+        assert_eq!(of(&read_wkb(&whole).unwrap()).1, expected, "{} {:?}", big.kind, big.dimension);
+    }
+}
+
+/// A point is empty if each of its words is a NaN, whatever their number.
 #[test]
 fn empty_points() {
-    let nan = f64::from_bits(0x7ff8_0000_0000_0000);
-    let points = Levels { words: &[nan, nan, nan, 1.0], ..Levels::default() };
-    let rows = points.encode(Kind::Point, Dimension::Xy, &Options::default());
-    let wkb: Vec<Wkb> = rows.rows().map(|it| read_wkb(it.unwrap()).unwrap()).collect();
-    let is_empty = |it: &Wkb| matches!(it.as_type(), GeometryType::Point(it) if it.coord().is_none());
-    assert_eq!((is_empty(&wkb[0]), is_empty(&wkb[1])), (true, false));
+    for dimension in [Dimension::Xy, Dimension::Xyz, Dimension::Xym, Dimension::Xyzm] {
+        let mut words = vec![f64::from_bits(0x7ff8_0000_0000_0000); 2 * dimension.width()];
+        *words.last_mut().unwrap() = 1.0;
+        let points = Levels { words: &words, ..Levels::default() };
+        let rows = points.encode(Kind::Point, dimension, &Options::default());
+        let wkb: Vec<Wkb> = rows.rows().map(|it| read_wkb(it.unwrap()).unwrap()).collect();
+        let is_empty = |it: &Wkb| matches!(it.as_type(), GeometryType::Point(it) if it.coord().is_none());
+        assert_eq!((is_empty(&wkb[0]), is_empty(&wkb[1])), (true, false), "{dimension:?}");
+    }
 }
 
 /// Coordinates that are kept after their geometry and their reader are gone.
@@ -140,7 +179,10 @@ fn coordinates_live_as_long_as_the_input() {
         let mut reader = Reader::default();
         let view = reader.read(&line.bytes).unwrap();
         match view.as_type() {
-            GeometryType::LineString(it) => it.coords().collect(),
+            GeometryType::LineString(it) => {
+                assert_eq!(it.coords_slice(), &line.bytes[9..]);
+                it.coords().collect()
+            }
             _ => panic!("no line string"),
         }
     };
