@@ -52,6 +52,26 @@ fn facts() {
     assert_eq!(bad, Facts { rows: 1, ..Facts::default() });
 }
 
+fn bits(range: &Range) -> (u64, u64, u64) {
+    (range.least.to_bits(), range.greatest.to_bits(), range.count)
+}
+
+/// The bounds of all rows are those of the ordinates that a dimension has, with -0 below +0 in any order of the rows.
+#[test]
+fn bounds_of_all() {
+    let zeros = Range { least: -0.0, greatest: 0.0, count: 2 };
+    for dimension in [Dimension::Xy, Dimension::Xyz, Dimension::Xym, Dimension::Xyzm] {
+        let (has_z, has_m) = (dimension as u32 % 2 == 1, dimension as u32 / 2 == 1);
+        for words in [[0.0, -0.0, f64::NAN], [f64::NAN, -0.0, 0.0]] {
+            let rows = words.map(|it| Some(point(&vec![it; dimension.width()], dimension, Form::Iso)));
+            let Bounds { x, y, z, m } = Rows::of(rows).column().facts().bounds;
+            for (range, has) in [(x, true), (y, true), (z, has_z), (m, has_m)] {
+                assert_eq!(bits(&range), bits(if has { &zeros } else { &Range::EMPTY }), "{dimension:?} of {words:?}");
+            }
+        }
+    }
+}
+
 /// More rows than are taken at once, in order and not: the last one begins inside the first, 1024 rows before it.
 #[test]
 fn many_rows() {
