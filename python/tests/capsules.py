@@ -227,6 +227,7 @@ class Stream:
         if array is not None:
             self.move(array.array, out)
         elif self.fault:
+            ctypes.memset(out, NOWHERE, ctypes.sizeof(Array))  # of a failure nothing else is said
             return 5
         else:
             ctypes.memset(out, 0, ctypes.sizeof(Array))

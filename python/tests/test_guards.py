@@ -4,9 +4,11 @@ import array
 import importlib.machinery
 import importlib.util
 import itertools
+import struct
 import unittest
 
 import porchsorrel_wkb as wkb
+from capsules import NOWHERE, Arrow, pointers
 from porchsorrel_wkb import Kind, _columns, _wkb
 from samples import POINT, POLYGON
 
@@ -127,7 +129,6 @@ class Inputs(unittest.TestCase):
         for other in (None, 1, POLYGON, wkb.Range(1.0, 2.0, 3)):
             self.assertRaisesRegex(TypeError, "a Part of parts", _wkb.coordinates, POLYGON, other)
 
-
     def test_facts(self):
         found, boxes, parts = bytes(2 * 64), bytes(2 * 96), bytes(2 * 64)
         ends = array.array("q", [0, 1, 2])
@@ -138,6 +139,46 @@ class Inputs(unittest.TestCase):
             self.assertRaisesRegex(ValueError, "too few", _wkb.first_not_iso, TWO, statuses, offsets, parts)
         for offsets in ([0, 1, 3], [1, 0, 0], [2**62, 2**63 - 1, 0], [0, 0, 0]):
             self.assertEqual(_wkb.first_not_iso(TWO, bytes(2), array.array("q", offsets), parts), 0)
+
+
+class Structs(unittest.TestCase):
+    """Of Arrow's structs nothing is read that isn't there by their counts, nor of a released one but that it is."""
+
+    def test_counts(self):
+        """What comes after the last child and the last buffer can't be read."""
+        source = Arrow(children=pointers([NOWHERE, NOWHERE]), n_children=1, buffers=4 * [NOWHERE])
+        source.schema.children, source.schema.n_children = source.array.children, 1
+        schema, it = source.__arrow_c_array__()
+        for place, is_there in ((-1, False), (0, True), (1, False), (2**62, False)):
+            self.assertEqual((_wkb.child(schema, False, place) is not None, _wkb.child(it, True, place) is not None),
+                             (is_there, is_there), place)
+        for place, size in ((-1, 1), (3, 1), (2**62, 1), (0, -1), (0, 2**63 - 1)):
+            self.assertIsNone(_wkb.array_buffer(it, place, size), (place, size))
+        self.assertEqual(len(_wkb.array_buffer(it, 2, 9)), 9)
+
+    def test_released(self):
+        source = Arrow(name=b"shape")
+        schema, _ = source.__arrow_c_array__()
+        self.assertEqual((_wkb.schema_name(schema, 9), _wkb.schema_name(schema, 3)), (b"shape", b"sha"))
+        source.release("schema", source.schema)
+        self.assertEqual((_wkb.schema_name(schema, 9), _wkb.schema_metadata(schema, b"key", 9)), (b"", None))
+        self.assertEqual(_wkb.schema_fields(schema), (None, 0, 0, 0))
+
+    def test_metadata(self):
+        """A key is found as a whole, and behind texts whose sizes can be."""
+        def value_of(key, *texts, sizes=None):
+            source = Arrow()
+            sized = zip(sizes or map(len, texts), texts)
+            source.schema.metadata = struct.pack("=i", len(texts) // 2) + b"".join(
+                struct.pack("=i", size) + text for size, text in sized)
+            return _wkb.schema_metadata(source.__arrow_c_array__()[0], key, 9)
+
+        texts = b"ab", b"1", b"a", b"", b"abc", b"3"
+        for key, expected in ((b"ab", b"1"), (b"a", b""), (b"abc", b"3"), (b"", None), (b"1", None), (b"abcd", None)):
+            self.assertEqual(value_of(key, *texts), expected)
+        self.assertIsNone(value_of(b"ab"))
+        for sizes in ((1, -1), (1, 10), (1, 2**31 - 1), (-1, 1), (10, 1)):
+            self.assertIsNone(value_of(b"a", b"a", 20 * b"1", sizes=sizes), sizes)
 
 
 class Late(unittest.TestCase):
