@@ -168,6 +168,19 @@ class FromRecords(unittest.TestCase):
         self.assertRaisesRegex(TypeError, "'u' is not binary", Column.from_arrow, text, "name")
 
 
+    def test_null_records(self):
+        """Every slice of 17 records, whose bits are in three bytes: it is taken unless a record in it is null."""
+        for null in (0, 7, 8, 16):
+            bits = memory_of((2**24 - 1 - 2**null).to_bytes(3, "little"))
+            for offset, length in ((i, n) for i in range(18) for n in range(18 - i)):
+                source = Records(Arrow(name=b"shape", rows=17 * [POINT]), offset=offset, length=length,
+                                 validity=ctypes.addressof(bits))
+                if offset <= null < offset + length:
+                    self.assertRaisesRegex(ValueError, "null as a whole", Column.from_arrow, source, "shape")
+                else:
+                    self.assertEqual(len(Column.from_arrow(source, "shape")), length)
+
+
 class FromChunks(unittest.TestCase):
     def test_chunks(self):
         """Each chunk lives as long as its column, and the stream as long as chunks are asked for."""

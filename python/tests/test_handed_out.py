@@ -109,6 +109,7 @@ class Changed(unittest.TestCase):
         """The extension by itself takes no array that isn't whole."""
         offsets, words = memoryview(array.array("q", [0, 1])), memoryview(array.array("d", [0]))
         leaf = b"g", b"", None, 0, 1, 0, (None, words), ()
+        longer = b"g", b"", None, 0, 2, 0, (None, memoryview(array.array("d", [0, 0]))), ()
         for node in (
             (b"Z", b"", None, 0, 1, 0, (None, offsets), ()),
             (b"Z", b"", None, 0, 1, 0, (None, None, words), ()),
@@ -117,6 +118,8 @@ class Changed(unittest.TestCase):
             (b"+l", b"", None, 0, -1, 0, (None, offsets), (leaf,)),
             (b"+l", b"", None, 0, 1, 0, (None, offsets), (leaf[:4],)),
             (b"+s", b"", None, 0, 2, 0, (None,), (leaf,)),
+            (b"+s", b"", None, 0, 2, 0, (None,), (leaf, longer)),
+            (b"+s", b"", None, 0, 2, 0, (None,), (longer, leaf)),
             (b"+s", b"", None, 0, 1, 0, (None,), 9 * (leaf,)),
             (b"g", b"", None, 0, 2**62, 0, (None, words), ()),
             (b"g", b"", None, 0, 1, 0, 4 * (words,), ()),
@@ -155,5 +158,29 @@ class SubInterpreter(unittest.TestCase):
         # numpy can't be imported in a second interpreter of a process.
         inside = "import sys; sys.modules['numpy'] = None\n" + INSIDE.format(path=sys.path, point=POINT)
         program = f"import _testcapi; raise SystemExit(sum(_testcapi.run_in_subinterp({inside!r}) for _ in range(3)))"
+        ran = subprocess.run([sys.executable, "-c", program], stderr=subprocess.PIPE, timeout=30)
+        self.assertEqual((ran.returncode, ran.stderr.decode()), (0, ""))
+
+
+# A consumer moves an array, and releases it after the interpreter's end.
+AFTER_THE_END = """
+import ctypes, sys
+sys.path[:] = {path!r}
+import porchsorrel_wkb as wkb
+from capsules import Array, address_of
+libc = ctypes.CDLL(None)
+libc.malloc.restype = ctypes.c_void_p
+_, capsule = wkb.Column.of([{point!r}]).write().__arrow_c_array__()
+held, moved = address_of(id(capsule), b"arrow_array"), libc.malloc(ctypes.c_size_t(ctypes.sizeof(Array)))
+ctypes.memmove(moved, held, ctypes.sizeof(Array))
+Array.from_address(held).release = None
+libc.__cxa_atexit(ctypes.c_void_p(Array.from_address(moved).release), ctypes.c_void_p(moved), None)
+"""
+
+
+class AfterTheEnd(unittest.TestCase):
+    @unittest.skipUnless(hasattr(ctypes.CDLL(None), "__cxa_atexit"), "this system's C has no __cxa_atexit")
+    def test_release(self):
+        program = AFTER_THE_END.format(path=sys.path, point=POINT)
         ran = subprocess.run([sys.executable, "-c", program], stderr=subprocess.PIPE, timeout=30)
         self.assertEqual((ran.returncode, ran.stderr.decode()), (0, ""))
