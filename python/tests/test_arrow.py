@@ -39,6 +39,8 @@ class FromArrow(unittest.TestCase):
                     column = Column.from_arrow(Arrow(kind, rows, offset, length))
                     self.assertEqual(list(column.check()), expected[offset : offset + length])
                     self.assertEqual(len(column.write().offsets), length + 1)
+                    column = Column.from_arrow(Views(rows, 2, offset, length))
+                    self.assertEqual(list(column.check()), expected[offset : offset + length])
 
     def test_lifetime(self):
         """The memory lives until the column goes, and not longer. The schema goes at once."""

@@ -109,6 +109,7 @@ class Changed(unittest.TestCase):
         """The extension by itself takes no array that isn't whole."""
         offsets, words = memoryview(array.array("q", [0, 1])), memoryview(array.array("d", [0]))
         leaf = b"g", b"", None, 0, 1, 0, (None, words), ()
+        numbers = memoryview(array.array("d", 9 * [0]))
         longer = b"g", b"", None, 0, 2, 0, (None, memoryview(array.array("d", [0, 0]))), ()
         for node in (
             (b"Z", b"", None, 0, 1, 0, (None, offsets), ()),
@@ -123,7 +124,8 @@ class Changed(unittest.TestCase):
             (b"+s", b"", None, 0, 1, 0, (None,), 9 * (leaf,)),
             (b"g", b"", None, 0, 2**62, 0, (None, words), ()),
             (b"g", b"", None, 0, 1, 0, 4 * (words,), ()),
-            (b"g", b"", None, 0, 9, 0, (memoryview(b"1"), words), ()),
+            (b"g", b"", None, 0, 9, 0, (memoryview(b"1"), numbers), ()),
+            (b"Z", b"", None, 0, 2, 0, (None, memoryview(array.array("q", [0, 1, 1]))[:2], words), ()),
         ):
             with self.subTest(node[0]), self.assertRaises((ValueError, IndexError)):
                 wkb._wkb.export(node, True)
