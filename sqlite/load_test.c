@@ -4,12 +4,15 @@
  * load fails if an allocation fails, each of its allocations in turn, and if a statement is open while a function of
  * the same name exists. Calls whose allocation fails are an error, and give no other answer. Names that begin with ST_
  * are defined by their own entry point alone: a load replaces none of them, and any of them can be defined for one
- * argument later, also while a statement is open. */
+ * argument later, also while a statement is open. No call reads a byte past its blob. */
+#define _DEFAULT_SOURCE
 #include <sqlite3.h>
 #include <stdbool.h>
 #include <stdio.h>
 #include <stdlib.h>
 #include <string.h>
+#include <sys/mman.h>
+#include <unistd.h>
 
 static const char *extension;
 
@@ -139,6 +142,7 @@ static bool try_without_memory(int n, bool again) {
   left = 0;
   /* An allocation that SQLite can do without may be the one that failed. */
   if (status == SQLITE_OK) expect(answers(db), "the functions don't answer", n);
+  expect(text == NULL || text[strlen(text) - 1] != ' ', "a load fails without a reason", n);
   sqlite3_free(text);
   go_on(db, again, n);
   return was_refused;
@@ -198,6 +202,61 @@ static void try_beside(int n) {
   expect(sqlite3_memory_used() == 0, "memory is not freed", n);
 }
 
+/* Lets the Nth allocation of a load fail beside another extension's function for any number of arguments, which stays
+ * whatever fails. Returns whether the load had as many. */
+static bool try_beside_without_memory(int n) {
+  char *text;
+  sqlite3 *db = opened();
+  sqlite3_create_function(db, "ST_MinX", -1, SQLITE_UTF8, NULL, nothing, NULL, NULL);
+  left = n;
+  load(db, &text);
+  bool was_refused = left == 0;
+  left = 0;
+  expect(holds(db, "select ST_MinX(x'0101000000000000000000f03f0000000000000040') is null"),
+         "a load without memory replaces a function", n);
+  sqlite3_free(text);
+  expect(sqlite3_close(db) == SQLITE_OK, "the connection is not closed", n);
+  return was_refused;
+}
+
+/* The functions of one blob. The answers are those of another test. */
+static const char OF_A_BLOB[] =
+    "select wkb_well_formed(?1), wkb_fault(?1), wkb_dump(?1), wkb_kind(?1), wkb_srid(?1), wkb_ndims(?1), wkb_ewkb(?1),"
+    " wkb_gpkg(?1), wkb_same(?1, ?1), wkb_xmin(?1), wkb_ymax(?1), ST_IsEmpty(?1), ST_MinX(?1)";
+
+/* Asks them of each start of a blob, which lies at the end of a page before one that can't be read. */
+static void try_at_the_end_of_a_page(const unsigned char *blob, int size) {
+  char *text;
+  sqlite3_stmt *query;
+  sqlite3 *db = opened();
+  size_t page = (size_t)sysconf(_SC_PAGESIZE);
+  char *pages = mmap(NULL, 2 * page, PROT_READ | PROT_WRITE, MAP_PRIVATE | MAP_ANONYMOUS, -1, 0);
+  expect(pages != MAP_FAILED && mprotect(pages + page, page, PROT_NONE) == 0, "no pages", size);
+  expect(load(db, &text) == SQLITE_OK, "the load fails", size);
+  expect(sqlite3_prepare_v2(db, OF_A_BLOB, -1, &query, NULL) == SQLITE_OK, "there are no such functions", size);
+  for (int length = 1; length <= size; length++) {
+    char *start = pages + page - length;
+    memcpy(start, blob, (size_t)length);
+    sqlite3_bind_blob(query, 1, start, length, SQLITE_STATIC);
+    expect(sqlite3_step(query) == SQLITE_ROW, "the functions don't answer", length);
+    expect(sqlite3_column_int(query, 0) == (length == size), "what is well formed at the end of a page", length);
+    sqlite3_reset(query);
+  }
+  sqlite3_finalize(query);
+  expect(sqlite3_close(db) == SQLITE_OK && munmap(pages, 2 * page) == 0, "the connection is not closed", size);
+}
+
+/* A collection of two line strings with z behind the header of a GeoPackage with an envelope, and a polygon. */
+static void try_pages(void) {
+  unsigned char blob[40 + 9 + 2 * (9 + 24)] = {'G', 'P', 0, 3};
+  static const unsigned char COLLECTION[] = {1, 7, 0, 0, 0, 2, 0, 0, 0}, LINE[] = {0, 0, 0, 3, 0xea, 0, 0, 0, 1};
+  static const unsigned char POLYGON[9 + 4 + 16] = {1, 3, 0, 0, 0, 1, 0, 0, 0, 1};
+  memcpy(blob + 40, COLLECTION, sizeof COLLECTION);
+  for (size_t i = 0; i < 2; i++) memcpy(blob + 49 + 33 * i, LINE, sizeof LINE);
+  try_at_the_end_of_a_page(blob, sizeof blob);
+  try_at_the_end_of_a_page(POLYGON, sizeof POLYGON);
+}
+
 /* Another extension is loaded by a query, so that a statement is open while it makes its function. */
 static void try_before(const char *name) {
   char *text, query[100];
@@ -230,7 +289,9 @@ int main(int count, char **words) {
   extension = words[1];
   install_memory();
   for (int n = -1; n <= 2; n += n == -1 ? 2 : 1) try_beside(n);
+  for (int n = 1; try_beside_without_memory(n); n++) {}
   try_default_alone();
+  try_pages();
   try_before("ST_IsEmpty");
   try_before("ST_MinX");
   try_before("ST_MaxX");
