@@ -4,6 +4,7 @@ import ctypes
 import gc
 import itertools
 import math
+import mmap
 import pickle
 import struct
 import sys
@@ -42,9 +43,10 @@ def numbers_at(address, kind, count):
     return struct.unpack(f"={count}{kind}", ctypes.string_at(address, count * struct.calcsize(kind)) if count else b"")
 
 
-def items_of(schema, it):
-    """The values of an array, read as Arrow's format says."""
+def items_of(schema, it, are_rows=True):
+    """The values of an array, read as Arrow's format says. Only rows may be null (flag 2)."""
     end, form = it.offset + it.length, schema.format.decode()
+    assert schema.flags == 2 * are_rows
     if form == "g":
         return list(numbers_at(it.buffers[1], "d", end)[it.offset :])
     bits = ctypes.string_at(it.buffers[0], (end + 7) // 8) if it.buffers[0] else b"\xff" * (end + 1)
@@ -56,9 +58,9 @@ def items_of(schema, it):
         found = [data[a:b] for a, b in zip(ends, ends[1:])]
     elif form == "+s":
         assert schema.n_children == it.n_children
-        found = list(zip(*(items_of(child_of(schema, i), child_of(it, i)) for i in range(it.n_children))))
+        found = list(zip(*(items_of(child_of(schema, i), child_of(it, i), False) for i in range(it.n_children))))
     else:
-        inner = items_of(child_of(schema), child_of(it))
+        inner = items_of(child_of(schema), child_of(it), False)
         width = int(form[3:]) if form.startswith("+w:") else 0
         code = {"+l": "i", "+L": "q"}.get(form)
         ends = numbers_at(it.buffers[1], code, end + 1) if code else range(0, width * (end + 1), width)
@@ -156,6 +158,19 @@ class Encodings(unittest.TestCase):
             it = Column.of([POLYGON]).write(form=form, srid=7 if form == Form.EWKB_WITH_SRID else None)
             self.assertEqual(read(it)[2], "geoarrow.wkb" if form == Form.ISO else None)
 
+    def test_wide(self):
+        """From 2**31 on an end doesn't fit 32 bits. The data is memory that nothing touches."""
+        flags = mmap.MAP_PRIVATE | mmap.MAP_ANONYMOUS
+        numbers = numpy.array if numpy else lambda it: array.array("q", it)
+        with mmap.mmap(-1, 2**36, flags=flags, prot=mmap.PROT_READ) as memory, memoryview(memory) as data:
+            words = data.cast("d")
+            for end, forms in ((2**31 - 1, (b"z", b"+l")), (2**31, (b"Z", b"+L"))):
+                rows = wkb.ColumnEncodings(bytes(1), numbers([0, end]), data)
+                lines = Column.of([LINE]).coordinates()._replace(ring_offsets=numbers([0, end]), coordinates=words)
+                capsules = rows.__arrow_c_array__(asked_for(b"z")), lines.__arrow_c_array__()
+                self.assertEqual([structs_of(it)[0].format for it in capsules], [*forms])
+            del rows, lines, capsules, words
+
     def test_there_and_back(self):
         written = Column.of(ROWS).write()
         again = Column.from_arrow(written)
@@ -215,7 +230,7 @@ class Released(unittest.TestCase):
             it.release = None
         del capsules, inner, levels
         gc.collect()
-        self.assertEqual(items_of(*moved), [[[1.0, 2.0]]])
+        self.assertEqual(items_of(*moved, False), [[[1.0, 2.0]]])
         for it in moved:
             ctypes.CFUNCTYPE(None, ctypes.c_void_p)(it.release)(ctypes.addressof(it))
 

@@ -244,6 +244,11 @@ class Results(unittest.TestCase):
                          "1.0 2.0 nan nan nan nan 1.0 2.0 nan 1.0 2.0 3.0 5.0 nan -7.0")
         self.assertEqual(flat(Column(*rows_of(LINE)).coordinates(Dimension.XYM).coordinates),
                          "1.0 2.0 nan 5.0 nan nan")
+        self.assertEqual(flat(Column(*rows_of(LINE)).coordinates(1).coordinates), "1.0 2.0 3.0 5.0 nan -7.0")
+        for dimension in (4, -1, "XY", None):
+            self.assertRaises(ValueError, column.coordinates, dimension)
+        empty = Column.of([LINE[:5] + bytes(4), b"\1\3\0\0\0" + bytes(4), b"\1\4\0\0\0" + bytes(4)]).coordinates()
+        self.assertEqual([list(offsets) for offsets in empty[1:4]], [[0, 1, 2, 2], [0, 1, 1], [0, 0]])
 
     @unittest.skipUnless(numpy, "numpy is not here")
     def test_geoarrow_offsets(self):

@@ -79,6 +79,9 @@ class Metadata(unittest.TestCase):
         column = Column.of([POINT])
         column.metadata = '{"crs": 1}'
         self.assertEqual(metadata_of(column.write()), ("geoarrow.wkb", b'{"crs": 1}'))
+        column.metadata = '{"crs": "S\u00e3o \u6771"}'
+        self.assertEqual(metadata_of(column.write()), ("geoarrow.wkb", b'{"crs": "S\xc3\xa3o \xe6\x9d\xb1"}'))
+        self.assertEqual(Column.from_arrow(column.write()).metadata, column.metadata)
         column.metadata = None
         self.assertEqual(metadata_of(column.write()), ("geoarrow.wkb", b"{}"))
 
@@ -143,8 +146,11 @@ class Coordinates(unittest.TestCase):
     def test_asked(self):
         """A consumer asks by the schema that it wants."""
         line, point = Column.of([geometry(2)]).coordinates(), Column.of([POINT]).coordinates()
-        separate = Lists([(0, 1)], [(1.0,), (2.0,)], "xy")
-        self.check_separated(line.__arrow_c_array__(separate.__arrow_c_array__()[0]), 2, Dimension.XY)
+        for form in (b"+l", b"+L"):
+            separate = Lists([(0, 1)], [(1.0,), (2.0,)], "xy", form=form)
+            capsules = line.__arrow_c_array__(separate.__arrow_c_array__()[0])
+            self.assertEqual(structs_of(capsules)[0].format, form)
+            self.check_separated(capsules, 2, Dimension.XY)
         self.check_separated(point.__arrow_c_array__(asked_for(b"+s")), 1, Dimension.XY)
         together = Lists([(0, 1)], [(1.0, 2.0)]).__arrow_c_array__()[0]
         self.assertEqual(read(line, together)[1], [("+l", ""), ("+w:2", "vertices"), ("g", "xy")])
