@@ -10,7 +10,7 @@ import unittest
 import porchsorrel_wkb as wkb
 from capsules import NOWHERE, Arrow, pointers
 from porchsorrel_wkb import Kind, _columns, _wkb
-from samples import POINT, POLYGON
+from samples import LINE, POINT, POLYGON
 
 OFFSETS = array.array("q", [0, 21, 42])
 TWO = (2 * POINT, OFFSETS, None, 8, 0, 2)
@@ -125,6 +125,14 @@ class Inputs(unittest.TestCase):
             self.assertIsNone(_wkb.coordinates(POLYGON, wkb.Part(**dict(values, **{name: value}))), (name, value))
         for size in range(len(POLYGON)):
             self.assertIsNone(_wkb.coordinates(POLYGON[:size], ring))
+        for data in (POINT, LINE, wkb.write(LINE, srid=7)):
+            (part,) = wkb.parts(data)
+            values = {name: getattr(part, name) for name in part.__match_args__}
+            for name, others in (("kind", Kind), ("dimension", wkb.Dimension), ("order", wkb.Order),
+                                 ("srid", (None, 0, 7)), ("count", (0, 1, 2, 3)), ("offset", (0, 5, 9, 13))):
+                for other in others:
+                    found = _wkb.coordinates(data, wkb.Part(**dict(values, **{name: other})))
+                    self.assertEqual(found is not None, other == values[name], (name, other))
         self.assertEqual(_wkb.place_of_words(POLYGON + b"\0", ring), (17, 33))
         for other in (None, 1, POLYGON, wkb.Range(1.0, 2.0, 3)):
             self.assertRaisesRegex(TypeError, "a Part of parts", _wkb.coordinates, POLYGON, other)
@@ -196,7 +204,8 @@ class Late(unittest.TestCase):
             for data in (POINT, b""):
                 self.assertRaisesRegex(RuntimeError, "not given its types", call, data)
         self.assertEqual(other.write(POINT, 1, None, None), POINT)
-        self.assertRaises(SystemError, other.write, POINT, 9, None, None)
+        for options in ((9, None, None), (-1, None, None), (1, 4, None), (1, 2, None), (1, 0, 7), (1, None, 2**32)):
+            self.assertRaises(SystemError, other.write, POINT, *options)
         self.assertRaises(TypeError, other.coordinates, POINT, wkb.check(POINT))
         self.assertRaises(IndexError, other.read_record, wkb.Part, bytes(80), 0)
 

@@ -80,8 +80,9 @@ def flip(seconds):
 class Lock(unittest.TestCase):
     def test_given_back(self):
         for call in (lambda: wkb.check(LONG), lambda: wkb.bounds(LONG), lambda: wkb.write(LONG),
-                     lambda: wkb.same(LONG, LONG), lambda: wkb.parts(LONG), COLUMN.check, COLUMN.bounds, COLUMN.parts,
-                     COLUMN.write, COLUMN.coordinates, lambda: collect(COLUMN, Kind.MULTI_POINT),
+                     lambda: wkb.same(LONG, LONG), lambda: wkb.same(POINT, LONG), lambda: wkb.parts(LONG),
+                     COLUMN.check, COLUMN.bounds, COLUMN.parts, COLUMN.write, COLUMN.coordinates,
+                     lambda: collect(COLUMN, Kind.MULTI_POINT),
                      lambda: _wkb.column_coordinates(COLUMN._arguments(), 0, ROOMS),
                      lambda: column_from_coordinates(Kind.POINT, LEVELS)):
             self.assertEqual(order_of(call, 1_000), ["begin", "meanwhile", "end"])
@@ -89,8 +90,9 @@ class Lock(unittest.TestCase):
     def test_kept_over_what_may_change(self):
         """Two passes over memory that another thread writes between them would write past their results."""
         for call in (lambda: wkb.check(WRITABLE), lambda: wkb.bounds(WRITABLE), lambda: wkb.write(WRITABLE),
-                     lambda: wkb.same(LONG, WRITABLE), lambda: wkb.parts(WRITABLE), COPY.check, COPY.bounds, COPY.parts,
-                     COPY.write, COPY.coordinates, lambda: collect(COPY, Kind.MULTI_POINT),
+                     lambda: wkb.same(LONG, WRITABLE), lambda: wkb.same(WRITABLE, LONG), lambda: wkb.parts(WRITABLE),
+                     COPY.check, COPY.bounds, COPY.parts, COPY.write, COPY.coordinates,
+                     lambda: collect(COPY, Kind.MULTI_POINT),
                      lambda: column_from_coordinates(Kind.POINT, memoryview(NUMBERS).cast("d"))):
             self.assertEqual(order_of(call, 20), ["begin", "end", "meanwhile"])
 

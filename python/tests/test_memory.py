@@ -73,6 +73,7 @@ CALLS = {
     "bounds": lambda: wkb.bounds(LINE),
     "write": lambda: wkb.write(POLYGON),
     "write with an SRID": lambda: wkb.write(POLYGON, srid=7),
+    "write with a number of another type": lambda: wkb.write(POLYGON, 1.0),
     "write of a long geometry": lambda: wkb.write(COLLECTION),
     "same": lambda: wkb.same(POINT, POLYGON),
     "same with a refusal": lambda: wkb.same(POINT, b"\1"),

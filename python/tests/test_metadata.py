@@ -129,8 +129,9 @@ class Coordinates(unittest.TestCase):
             for dimension in Dimension:
                 levels = Column.of([geometry(kind, dimension)]).coordinates(dimension)
                 self.check_separated(levels.separated().__arrow_c_array__(), kind, dimension)
-                again = column_from_coordinates(Kind(kind), levels.separated())
-                self.assertEqual(list(again.rows), [geometry(kind, dimension)])
+                for it in (levels, levels.separated()):
+                    again = column_from_coordinates(Kind(kind), it)
+                    self.assertEqual(list(again.rows), [geometry(kind, dimension)])
                 names = [f"+w:{dimension.width}", "g"]
                 self.assertEqual([form for form, _ in read(levels)[1]][-2:], names)  # the first one is as it was
 
