@@ -66,12 +66,15 @@ void reads(const sample &s) {
   s.expect(reader.table().size() == table.size() && reader.table().back().end == table.back().end, "the tables");
 }
 
-// An SRID of its own, which what is written has too.
+// An SRID of its own, which what is written has too. 0 is one.
 void has_srid(const sample &s) {
-  const std::vector<std::byte> own = speller{s.order, s.dimension, true, 7}.spell(s.it);
-  wkb::reader reader;
-  s.expect(reader.read(own).srid() == 7u && wkb::check(own)->srid == 7, "an SRID of its own");
-  s.expect(wkb::write(own, {s.order, WKB_FORM_EWKB_OWN_SRID, 0}) == own, "it is written");
+  for (const std::uint32_t srid : {0u, 7u, 0x7fffffffu, 0x80000000u, 0xffffffffu}) {
+    const std::vector<std::byte> own = speller{s.order, s.dimension, true, srid}.spell(s.it);
+    wkb::reader reader;
+    s.expect(reader.read(own).srid() == srid && wkb::check(own)->srid == srid, "an SRID of its own");
+    s.expect(wkb::write(own, {s.order, WKB_FORM_EWKB_OWN_SRID, 0}) == own, "it is written");
+    s.expect(wkb::write(s.bytes, {s.order, WKB_FORM_EWKB_WITH_SRID, srid}) == own, "it is asked for");
+  }
 }
 
 // A part is a view, so that an adaptor keeps a copy of it.
