@@ -391,6 +391,17 @@ class FromGeoArrow(unittest.TestCase):
             else:
                 self.assertRaisesRegex(ValueError, "null", column_from_coordinates, Kind.LINE_STRING, source)
 
+    def test_null_rows(self):
+        """Every slice of 17 rows, of which each third is null, with bits in three bytes; of points and of lists."""
+        words, bits = [1.0, 2.0] * 17, sum(1 << i for i in range(17) if i % 3).to_bytes(3, "little")
+        statuses, validity = [0 if i % 3 else Status.NULL_ROW for i in range(17)], memory_of(bits)
+        for kind, levels in ((Kind.POINT, []), (Kind.LINE_STRING, [range(18)])):
+            for offset, length in ((i, n) for i in range(18) for n in range(18 - i)):
+                source = Lists(levels, [words], offset=offset, length=length, null_count=-1)
+                source.array.buffers[0] = ctypes.addressof(validity)
+                it = column_from_coordinates(kind, source)
+                self.assertEqual(list(it.statuses), statuses[offset : offset + length], (kind, offset, length))
+
     def test_arguments(self):
         make = lambda: Lists([(0, 2)], [(1.0, 2.0, 3.0, 4.0)])
         for given in ({"ring_offsets": array.array("q", [0])}, {"validity": b"\1"}, {"offset_size": 4}):

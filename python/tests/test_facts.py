@@ -136,7 +136,9 @@ class GeoParquet(unittest.TestCase):
                 self.assertEqual(metadata["columns"]["geometry"]["geometry_types"], [name + sign])
 
     def test_without_coordinates(self):
-        for rows in ([], [None], [EMPTY_POINT], [geometry(2)[:5] + bytes(4)]):
+        """There is no box unless there are numbers in x and in y."""
+        x_alone, y_alone = (struct.pack("<BI2d", 1, 1, *words) for words in ((1, math.nan), (math.nan, 1)))
+        for rows in ([], [None], [EMPTY_POINT], [geometry(2)[:5] + bytes(4)], [x_alone], [y_alone]):
             self.assertNotIn("bbox", wkb.geoparquet(Column.of(rows)).metadata["columns"]["geometry"])
 
     def test_refused(self):
