@@ -65,6 +65,17 @@ static bool stops(const uint8_t *bytes, size_t len) {
   return true;
 }
 
+/* Behind the header of a GeoPackage the walk is that of the geometry alone. */
+static bool walks_behind_a_header(const generated *it) {
+  static uint8_t behind[8 + sizeof it->bytes] = {'G', 'P', 0, 1};
+  wkb_dump_walk alone, walk;
+  output out = {0};
+  memcpy(behind + 8, it->bytes, it->len);
+  int status = wkb_dump(it->bytes, it->len, NULL, count_line, &out, &alone);
+  return wkb_dump(behind, it->len + 8, NULL, count_line, &out, &walk) == status && walk.parts == alone.parts &&
+         walk.begin == alone.begin && walk.end == alone.end;
+}
+
 /* The next line of the worked cases, without comments. */
 static FILE *cases;
 static char wanted[LINE_ROOM];
@@ -144,6 +155,7 @@ int main(int count, char **words) {
     const char *wrong = wrong_dump(bytes, it.len, &OPTIONS[i % OPTION_COUNT]);
     if (wrong != NULL) fail(wrong, &it, i);
     if (i % 16 == 0 && !stops(bytes, it.len)) fail("it goes on", &it, i);
+    if (!walks_behind_a_header(&it)) fail("it walks another way behind a header", &it, i);
     refused += wkb_check(bytes, it.len, NULL, NULL) != WKB_STATUS_OK;
     free(bytes);
   }
