@@ -407,8 +407,10 @@ class FromGeoArrow(unittest.TestCase):
         for given in ({"ring_offsets": array.array("q", [0])}, {"validity": b"\1"}, {"offset_size": 4}):
             with self.assertRaisesRegex(TypeError, "has its own offsets"):
                 column_from_coordinates(Kind.LINE_STRING, make(), **given)
-        self.assertRaisesRegex(ValueError, "coordinates of XY, and not <Dimension.XYZ", column_from_coordinates,
-                               Kind.LINE_STRING, make(), dimension=Dimension.XYZ)
+        for other in [it for it in Dimension if it != Dimension.XYZ]:
+            self.assertRaisesRegex(ValueError, f"coordinates of XYZ, and not <Dimension.{other.name}:",
+                                   column_from_coordinates, Kind.POINT, Lists([], [(1.0, 2.0, 3.0)], ["xyz"]),
+                                   dimension=other)
         it = column_from_coordinates(Kind.LINE_STRING, make(), dimension=Dimension.XY, form=Form.EWKB_WITH_SRID, srid=7)
         self.assertEqual(wkb.check(it.rows[0]).srid, 7)
 

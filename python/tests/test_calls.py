@@ -198,6 +198,8 @@ class Calls(unittest.TestCase):
         self.assertTrue(text.startswith(start), text)
         self.assertEqual(len({wkb.status_text(status) for status in Status}), len(Status))
         self.assertEqual(wkb.status_text(99), wkb.status_text(100))
+        for other in ("32", None, 1.0):
+            self.assertRaises(TypeError, wkb.status_text, other)
 
     def test_statuses(self):
         """A status that a later version has is of a class too, and has a name."""
