@@ -195,13 +195,13 @@ static void collects() {
   const std::int32_t end = static_cast<std::int32_t>(data.size()), offsets[] = {0, 25, end, end};
   const wkb_options options = {WKB_ORDER_BIG, WKB_FORM_ISO, 0};
   const auto of = [&](std::size_t rows) { return wkb::column(data, std::span<const std::int32_t>(offsets, rows + 1)); };
-  const auto refused = [&](std::size_t rows, wkb_kind kind) {
+  const auto refused = [&](const wkb_column &column, wkb_kind kind) {
     try {
-      wkb::collect(of(rows), kind, WKB_DIM_XY, options);
+      wkb::collect(column, kind, WKB_DIM_XY, options);
     } catch (const wkb::refused_row &refusal) {
       return std::pair(refusal.row(), std::string(refusal.what()));
     }
-    return std::pair(rows, std::string());
+    return std::pair(column.rows, std::string());
   };
   expect(wkb::collect(of(1), WKB_KIND_MULTI_POINT, WKB_DIM_XY, options) == big, "a multi point");
   expect(wkb::try_collect(of(1), WKB_KIND_MULTI_POINT, WKB_DIM_XY, options, out) && out == big, "a shorter one");
@@ -210,9 +210,18 @@ static void collects() {
          "a collection");
   expect(wkb::collect(of(0), WKB_KIND_GEOMETRY_COLLECTION, WKB_DIM_XY, options).size() == 9, "an empty one");
   const std::string wrong = "a member has the wrong kind, dimension or SRID for its multi geometry, at byte 0 (part 0)";
-  expect(refused(2, WKB_KIND_MULTI_POINT) == std::pair<std::size_t, std::string>(1, wrong), "another kind");
+  expect(refused(of(2), WKB_KIND_MULTI_POINT) == std::pair<std::size_t, std::string>(1, wrong), "another kind");
   const std::string ends = "the input ends inside a header or before a count, at byte 0 (part 0)";
-  expect(refused(3, WKB_KIND_GEOMETRY_COLLECTION) == std::pair<std::size_t, std::string>(2, ends), "an empty row");
+  expect(refused(of(3), WKB_KIND_GEOMETRY_COLLECTION) == std::pair<std::size_t, std::string>(2, ends), "an empty row");
+  // The last byte of a ring is missing, and the empty one after it: row 1 is told, and its part 3.
+  const std::int32_t cut[] = {0, 25, end - 5};
+  const auto last = wkb::column(data, std::span<const std::int32_t>(cut));
+  const std::string of_row = "the input ends inside a ring, at byte 27 (part 3): it needs 20 bytes and has 19";
+  expect(refused(last, WKB_KIND_GEOMETRY_COLLECTION) == std::pair<std::size_t, std::string>(1, of_row), "a cut row");
+  const std::uint8_t validity = 1;
+  const auto null = wkb::column(data, std::span<const std::int32_t>(offsets, 3), &validity);
+  const std::pair<std::size_t, std::string> of_null(1, "the row is null");
+  expect(refused(null, WKB_KIND_GEOMETRY_COLLECTION) == of_null, "a null row");
   try {
     wkb::collect(of(3), WKB_KIND_POINT, WKB_DIM_XY, options);
     expect(false, "a kind without members");
