@@ -37,6 +37,9 @@ class Found(unittest.TestCase):
         table = numpy.asarray(Column.of(ROWS).found().found)
         self.assertEqual(table["kind"].tolist(), [1, 0, 0, 3, 0])
         self.assertEqual(table["srid"].tolist(), [0, 0, 0, 4326, 0])
+        found = Column.of(ROWS).found().found
+        self.assertTrue(numpy.shares_memory(found.__array__(), found.__array__()))
+        self.assertFalse(numpy.shares_memory(found.__array__(), found.__array__(copy=True)))
 
 
 class Together(unittest.TestCase):
@@ -91,6 +94,10 @@ class Whole(unittest.TestCase):
             self.assertIs(ours == other, False)
             self.assertIs(ours == tuple(ours), False)
             self.assertRaises(TypeError, hash, ours)
+        found, parts = wkb.Table(wkb.Found, bytes(64)), wkb.Table(wkb.Part, bytes(127))
+        for record, is_same in ((wkb.Found, True), (wkb.Part, False)):
+            self.assertIs(found == wkb.Table(record, bytes(64)), is_same)
+        self.assertEqual((len(found), len(parts)), (1, 1))  # half a record is none
         self.assertIs(wkb.parts(POINTS) == wkb.parts(POINTS), True)
         self.assertIs(wkb.parts(POINTS) == list(wkb.parts(POINTS)), False)
 

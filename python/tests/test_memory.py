@@ -80,6 +80,7 @@ CALLS = {
     "parts": lambda: list(wkb.parts(COLLECTION)),
     "a part that is not there": lambda: wkb._wkb.read_record(wkb.Part, TABLE._memory, 9),
     "coordinates": lambda: wkb.coordinates(POLYGON, TABLE[1]),
+    "a dump": lambda: wkb.dump(POLYGON),
     "statuses": lambda: wkb.status_text(40),
     "rows": lambda: Column.of(ROWS).check(),
     "bounds of a column": lambda: list(COLUMN.bounds().boxes),

@@ -99,8 +99,9 @@ class Metadata(unittest.TestCase):
         """A column of geopandas has a CRS of pyproj."""
         frame = type("Series", (list,), {"crs": types.SimpleNamespace(to_json_dict=lambda: {"id": 7})})([POINT])
         self.assertEqual(json.loads(Column.of(frame).metadata), {"crs": {"id": 7}, "crs_type": "projjson"})
-        frame.crs = None
-        self.assertIsNone(Column.of(frame).metadata)
+        for other in (None, "EPSG:4326", 4326):
+            frame.crs = other
+            self.assertIsNone(Column.of(frame).metadata)
 
 
 def nested(kind, value):
@@ -155,6 +156,14 @@ class Coordinates(unittest.TestCase):
         self.check_separated(point.__arrow_c_array__(asked_for(b"+s")), 1, Dimension.XY)
         together = Lists([(0, 1)], [(1.0, 2.0)]).__arrow_c_array__()[0]
         self.assertEqual(read(line, together)[1], [("+l", ""), ("+w:2", "vertices"), ("g", "xy")])
+
+    def test_words_of_null_rows(self):
+        """A null row of points has NaNs."""
+        capsules = Column.of([POINT, None, b"\2"]).coordinates().__arrow_c_array__()
+        schema, it = structs_of(capsules)
+        words = type(it).from_address(it.children[0])
+        numbers = numbers_at(words.buffers[1], "d", words.length)
+        self.assertEqual((schema.format, *map(str, numbers)), (b"+w:2", "1.0", "2.0", "nan", "nan", "nan", "nan"))
 
     def test_null_rows(self):
         for rows in ([POINT, None], [None, EMPTY_POINT, b"\2"]):
