@@ -69,6 +69,12 @@ class Together(unittest.TestCase):
             self.assertEqual((joined, repr(joined.box)), (column.facts(), repr(column.facts().box)))
         self.assertEqual(wkb.Facts.joined([]), Column.of([]).facts())
 
+    def test_srids(self):
+        """0 is an SRID, in any order of the rows."""
+        rows = POINT, wkb.write(POINT, srid=0), wkb.write(POINT, srid=2**32 - 1)
+        for some in itertools.permutations(rows):
+            self.assertEqual(Column.of(some).facts().srids, {None, 0, 2**32 - 1})
+
     def test_signs(self):
         """-0 is below +0, and NaNs don't count, in each order of the rows."""
         point = lambda x: struct.pack("<BI2d", 1, 1, x, 0)
@@ -160,6 +166,12 @@ class GeoParquet(unittest.TestCase):
             self.assertRaisesRegex(ValueError, text, wkb.geoparquet, Column.of([POINT, row]))
         written = Column.of([POINT, POLYGON, geometry(1, 1, form=0), BIG_POINT + b"\0"]).write()
         self.assertTrue(wkb.geoparquet(Column(written.data, written.offsets)))
+        # Where a geometry has its code a ring has a count and numbers, of any bytes.
+        for order in "<>":
+            polygon = geometry(3, order=order)[:13] + struct.pack(order + "2d", 0.1, -0.1)
+            self.assertTrue(wkb.geoparquet(Column.of([polygon])))
+        many = struct.pack(">BIII", 0, 3, 1, 2**16) + bytes(2**20)
+        self.assertTrue(wkb.geoparquet(Column.of([many])))
         for text, expected in (('{"crs": "EPSG:4326"}', "PROJJSON alone"), ('{"edges": "vincenty"}', "'vincenty'")):
             column = Column.of([POINT])
             column.metadata = text

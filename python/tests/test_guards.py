@@ -145,6 +145,12 @@ class Inputs(unittest.TestCase):
         self.assertEqual(_wkb.first_not_iso(TWO, bytes(2), ends, wkb.Column.of(2 * [POINT]).parts().parts._memory), 2)
         for statuses, offsets in ((bytes(1), ends), (bytes(2), ends[:2])):
             self.assertRaisesRegex(ValueError, "too few", _wkb.first_not_iso, TWO, statuses, offsets, parts)
+        # A row that is rejected has no parts; one that is not in the data is not read.
+        points = wkb.Column.of(2 * [POINT]).parts().parts._memory
+        self.assertEqual(_wkb.first_not_iso(TWO, b"\0\x30", array.array("q", [0, 1, 1]), points), 2)
+        for begin in (2**40, -(2**40)):
+            beyond = array.array("q", [0, 21, begin, begin + 21])
+            self.assertEqual(_wkb.first_not_iso((POINT, beyond, None, 8, 2, 1), bytes(1), ends, points), 0)
         for offsets in ([0, 1, 3], [1, 0, 0], [2**62, 2**63 - 1, 0], [0, 0, 0]):
             self.assertEqual(_wkb.first_not_iso(TWO, bytes(2), array.array("q", offsets), parts), 0)
 
