@@ -189,7 +189,7 @@ class Taken(unittest.TestCase):
         for taken, size in (
             [(array.array(code, [0, 2, 3]), None) for code in "ilqLQ"]
             + [((kind * 3)(0, 2, 3), None) for kind in (ctypes.c_int32, ctypes.c_int64, ctypes.c_uint64)]
-            + [(raw, 8), (narrow, 4), (memoryview(b"1" + raw)[1:].cast("q"), None)]
+            + [(raw, 8), (narrow, 4)] + [(memoryview(bytes(i) + raw)[i:].cast("q"), None) for i in range(1, 8)]
             + ([(numpy.array([0, 9, 2, 9, 3], kind)[::2], None) for kind in ("i4", "i8", "u8")] if numpy else [])
         ):
             it = column_from_coordinates(Kind.LINE_STRING, numbers, taken, offset_size=size)
@@ -198,7 +198,8 @@ class Taken(unittest.TestCase):
     def test_coordinates(self):
         raw = words(1, 2)
         for taken in [
-            doubles(1, 2), memoryview(raw).cast("d"), memoryview(b"1" + raw)[1:].cast("d"), (ctypes.c_double * 2)(1, 2),
+            doubles(1, 2), memoryview(raw).cast("d"), (ctypes.c_double * 2)(1, 2),
+            *(memoryview(bytes(i) + raw)[i:].cast("d") for i in range(1, 8)),
         ] + ([numpy.array([[1, 2]], "f8"), numpy.array([[1.0], [2.0]]).T] if numpy else []):
             self.assertEqual(bytes(column_from_coordinates(Kind.POINT, taken).data), POINT)
 
