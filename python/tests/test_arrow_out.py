@@ -437,7 +437,8 @@ class Tried(unittest.TestCase):
                 again = pickle.loads(pickle.dumps(raised.exception))
                 self.assertEqual(str(again), str(raised.exception))
             self.assertRaisesRegex(TypeError, "row 0 is of type str.*bytes.fromhex", Column.of, [text])
-        for other in (b"0101", b"01x1000000", b"2101000000", b"01 1000000", b"01\x001000000"):
+        for other in (b"0101", b"01x1000000", b"2101000000", b"01 1000000", b"01\x001000000",
+                      memoryview(POINT.hex().encode())[:9]):
             with self.assertRaises(wkb.Refused) as raised:
                 wkb.check(other)
             self.assertNotIn("fromhex", str(raised.exception))

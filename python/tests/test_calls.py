@@ -190,6 +190,14 @@ class Calls(unittest.TestCase):
                 self.assertTrue(str(refused).startswith(wkb.status_text(status)), str(refused))
                 self.assertTrue(str(refused).endswith(end), str(refused))
 
+    def test_codes(self):
+        """Each bit of an unknown code is told."""
+        for code in (0, 8, 2**31 + 8, 2**32 - 1):
+            with self.assertRaises(Refused) as raised:
+                wkb.check(struct.pack("<BI", 1, code))
+            self.assertEqual((raised.exception.status, raised.exception.fault.code), (Status.CODE_OUT_OF_RANGE, code))
+            self.assertIn(f"unknown geometry type code {code}, ", str(raised.exception))
+
     def test_texts(self):
         self.assertEqual(wkb.version(), (1, 0, 0))
         self.assertEqual(repr(wkb.bounds(POINT).y), "Range(least=2.0, greatest=2.0, count=1)")
