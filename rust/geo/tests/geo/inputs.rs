@@ -18,7 +18,7 @@ const SHAPES: [(Kind, Ends, Ends, Ends); 7] = [
     (Kind::Polygon, &[], &[0], &[1]),
     (Kind::MultiPoint, &[1, 2], &[1, 2], &[2]),
     (Kind::MultiLineString, &[2, 2, 5], &[1, 2, 3], &[3]),
-    (Kind::MultiPolygon, &[4, 8, 12], &[2, 3, 3], &[3]),
+    (Kind::MultiPolygon, &[4, 8, 12, 16], &[3, 4, 4], &[3]),
 ];
 
 pub fn inputs() -> Vec<Input> {

@@ -263,6 +263,10 @@ fn not_written() {
         let why = NotWritten::UnknownDimension(words);
         assert_eq!(refused(&OwnPoint(dimensions, None)), why);
         assert_eq!(refused(&OwnPoints(Dimensions::Xy, vec![OwnPoint(dimensions, None)])), why);
+        let corner = || Own(dimensions, vec![1.; 5]);
+        assert_eq!(refused(&OwnRect(corner(), corner())), why);
+        assert_eq!(refused(&OwnTriangle([corner(), corner(), corner()])), why);
+        assert_eq!(refused(&OwnLine(corner(), corner())), why);
         assert_eq!(why.to_string(), format!("coordinates of {words} words have no dimension"));
     }
     let incorrect = NotWritten::Refused(Status::INCORRECT_TYPE);
