@@ -84,6 +84,8 @@ CALLS = {
     "statuses": lambda: wkb.status_text(40),
     "rows": lambda: Column.of(ROWS).check(),
     "bounds of a column": lambda: list(COLUMN.bounds().boxes),
+    "facts of a column": lambda: COLUMN.facts(),
+    "what GeoParquet says": lambda: wkb.geoparquet(COLUMN_OF_POINTS, covering="bbox"),
     "parts of a column": lambda: list(COLUMN.parts().parts),
     "rows that are written": lambda: list(COLUMN.write(form=Form.EWKB_WITH_SRID, srid=7).rows),
     "coordinates of a column": lambda: COLUMN.coordinates(Dimension.XYZ),
