@@ -95,6 +95,7 @@ CALLS = {
     "a column without offsets": lambda: Column(b"", bytes(8), first=1, offset_size=8),
     "validity that is too short": lambda: Column(POINT, array.array("q", [0] * 10), b"\1"),
     "rows from coordinates": lambda: column_from_coordinates(Kind.LINE_STRING, WORDS, ENDS),
+    "rows from numbers at any place": lambda: column_from_coordinates(Kind.POINT, memoryview(bytes(17))[1:].cast("d")),
     "offsets that begin with 1": lambda: column_from_coordinates(Kind.LINE_STRING, WORDS, ENDS[1:]),
     "encodings that go out": lambda: COLUMN.write().__arrow_c_array__(),
     "encodings there and back": lambda: Column.from_arrow(COLUMN.write()).check(),
