@@ -1,6 +1,6 @@
-/* Plain C without a tree. sum: one pass that checks the bytes and sums the words. rewrite and other: fresh memory, and one
-   pass that checks the bytes and writes them, in their order or in the other one. write: fresh memory and a copy of the
-   same bytes. slice: a copy. */
+/* Plain C, which builds nothing. sum: one pass that checks the bytes and sums the words. rewrite and other: fresh
+   memory, and one pass that checks the bytes and writes them, in their order or in the other one. write: fresh memory
+   and a copy of the same bytes. slice: a copy. */
 #include "clock.h"
 
 /* Where a pass stands. It writes to `to`, in the order `little`, or sums where there is none. */

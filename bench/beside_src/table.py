@@ -17,13 +17,13 @@ ROWS = {
     "vector": "that by to_vec (others: as above)",
     "own": "write a caller's own geometries",
 }
-NAMES = {"earlier": "earlier", "original": "original", "geos": "GEOS", "plain": "plain C", "tree": "C, tree"}
+NAMES = {"earlier": "earlier", "original": "original", "geos": "GEOS", "plain": "plain C"}
 # Beside these the file in which ours is worst is named.
 WORST = ("earlier", "original")
 # What stands for a row that a program lacks: the geometries of GEOS are its own, and plain C copies bytes.
 INSTEAD = {("canonical", "original"): "rewrite", ("canonical", "geos"): "rewrite", ("canonical", "plain"): "rewrite"}
-INSTEAD.update({("vector", who): "other" for who in ("original", "geos", "plain", "tree")})
-INSTEAD.update({("canonical", "tree"): "rewrite", ("own", "geos"): "write", ("own", "plain"): "write"})
+INSTEAD.update({("vector", who): "other" for who in ("original", "geos", "plain")})
+INSTEAD.update({("own", "geos"): "write", ("own", "plain"): "write"})
 # Of these a reading says little: the original looks at no member's header, and one item takes little more than the
 # clock.
 UNEQUAL = ("multi_points", "long_line", "long_line_big")
