@@ -1,10 +1,9 @@
 //! The original on a geometry, whose hex digits are a line of input. `original` prints what is written of it, or
 //! `refused`. `original refuse N` has allocation N of its reading rejected, and prints what became of it, or `none`
-//! where it makes fewer. `original time N` prints the shortest time of N readings, in nanoseconds.
+//! where it makes fewer.
 
 use std::env::args;
 use std::hint::black_box;
-use std::time::Instant;
 use wkb::reader::read_wkb;
 use wkb::writer::{write_geometry, WriteOptions};
 
@@ -41,16 +40,6 @@ fn refused_at(bytes: &[u8], n: i64) -> &'static str {
     }
 }
 
-/// The shortest of so many readings, in nanoseconds.
-fn shortest(bytes: &[u8], n: i64) -> u128 {
-    let reading = |_| {
-        let begun = Instant::now();
-        drop(black_box(read_wkb(black_box(bytes))));
-        begun.elapsed().as_nanos()
-    };
-    (0..n).map(reading).min().unwrap_or(0)
-}
-
 fn main() {
     let mut hex = String::new();
     std::io::stdin().read_line(&mut hex).expect("a line of hex digits");
@@ -58,7 +47,6 @@ fn main() {
     let number = |word: String| word.parse().expect("a number");
     match (args().nth(1).as_deref(), args().nth(2).map(number)) {
         (Some("refuse"), Some(n)) => println!("{}", refused_at(&bytes, n)),
-        (Some("time"), Some(n)) => println!("{}", shortest(&bytes, n)),
         _ => println!("{}", written(&bytes)),
     }
 }

@@ -2,8 +2,7 @@
 
 `written` reads bytes and writes them again, with all that the program keeps, or returns None if it rejects them;
 `with_srid` does so with the SRID 4326. `is_valid` and `text` return None if the program has no such call. `refused_at`
-reads while allocation N fails, and returns `read`, `error`, or `none` if there are fewer. `time` returns the shortest
-time of N readings, in nanoseconds.
+reads while allocation N fails, and returns `read`, `error`, or `none` if there are fewer.
 """
 import ctypes
 import os
@@ -12,7 +11,7 @@ import shutil
 import signal
 import subprocess
 import tempfile
-from ctypes import c_char_p, c_double, c_int, c_size_t, c_uint32, c_void_p
+from ctypes import c_char_p, c_int, c_size_t, c_uint32, c_void_p
 
 HERE = pathlib.Path(__file__).resolve().parent
 ROOT = HERE.parent.parent
@@ -48,21 +47,11 @@ class Silent:
 class InProcess:
     """A library in this process. Its reader is a C function of at most four words, over bytes that are kept."""
 
-    # The reader's output parameter, if its result isn't the geometry; the call that frees it, and whether by it alone.
-    made = free = None
-    is_alone = 0
-
     def refused_at(self, data, n):
         call = ctypes.CDLL(os.environ["PEERS_REFUSE"]).peers_call
         call.restype, is_to_come = c_void_p, c_int()
         result = call(ctypes.c_long(n), self.reader(), (c_void_p * 4)(*self.words(data)), ctypes.byref(is_to_come))
         return "none" if is_to_come.value else "read" if self.is_read(result) else "error"
-
-    def time(self, data, n):
-        call = ctypes.CDLL(os.environ["PEERS_REFUSE"]).peers_time
-        call.restype, words = c_double, (c_void_p * 4)(*self.words(data))
-        made = ctypes.byref(self.made) if self.made is not None else None
-        return call(ctypes.c_long(n), self.reader(), words, made, self.free, self.is_alone)
 
 
 class Ours(Silent, InProcess):
@@ -106,7 +95,7 @@ class Geos(InProcess):
             getattr(lib, f"GEOS{name}_r").restype = c_void_p
         lib.GEOSGeomToWKT_r.restype = c_char_p
         self.name = "GEOS " + lib.GEOSversion().decode().split("-")[0]
-        self.context, self.free = c_void_p(lib.GEOS_init_r()), ctypes.cast(lib.GEOSGeom_destroy_r, c_void_p)
+        self.context = c_void_p(lib.GEOS_init_r())
         self.source = c_void_p(lib.GEOSWKBReader_create_r(self.context))
 
     def read(self, data):
@@ -157,7 +146,6 @@ class Ogr(InProcess):
         lib.OSRNewSpatialReference.restype = c_void_p
         self.name = "OGR " + lib.GDALVersionInfo(b"RELEASE_NAME").decode()
         lib.CPLSetErrorHandler(lib.CPLQuietErrorHandler)
-        self.free, self.is_alone = ctypes.cast(lib.OGR_G_DestroyGeometry, c_void_p), 1
 
     def read(self, data):
         geometry = c_void_p()
@@ -256,14 +244,6 @@ class PostGis:
     def text(self, data):
         return self.made(data, "ST_AsText(g)")
 
-    def time(self, data, n):
-        """The mean time of N readings in one query, by the server's clock."""
-        rows = f"create temp table many as select '\\x{data.hex()}'::bytea as wkb from generate_series(1, {n});"
-        read = "perform count(ST_GeomFromWKB(wkb)) from many"
-        took = "create temp table took as select extract(epoch from clock_timestamp() - begun) as seconds"
-        timed = f"do $$ declare begun timestamptz := clock_timestamp(); begin {read}; {took}; end $$;"
-        return 1e9 * float(self.ask(f"{rows}{timed} select seconds from took")) / n
-
 
 class Original(Silent):
     """The Rust crate, from a folder or from cargo's registry, in a program that bench/peers builds."""
@@ -290,6 +270,3 @@ class Original(Silent):
 
     def refused_at(self, data, n):
         return self.ask(data, "refuse", str(n))
-
-    def time(self, data, n):
-        return float(self.ask(data, "time", str(n)))

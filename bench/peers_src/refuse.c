@@ -1,7 +1,6 @@
 /* The allocator of the process, which can be told to reject one allocation: it is loaded before the C library. And
- * calls of a reader, in which one is rejected, or which are timed. */
+ * calls of a reader, in which one is rejected. */
 #include <stddef.h>
-#include <time.h>
 
 extern void *__libc_malloc(size_t size);
 extern void *__libc_calloc(size_t count, size_t size);
@@ -31,21 +30,4 @@ void *peers_call(long n, reader *call, void *const word[4], int *is_to_come) {
   void *result = call(word[0], word[1], word[2], word[3]);
   *is_to_come = peers_refuse(0);
   return result;
-}
-
-/* The shortest time of N calls of four words, in nanoseconds. What a call makes is its result, or what it leaves in
- * *MADE; FREE takes it, behind the first word where that isn't what a call makes. */
-double peers_time(long n, reader *call, void *const word[4], void **made, void (*free)(void *, void *), int is_alone) {
-  double best = 1e18;
-  while (n-- > 0) {
-    struct timespec begin, end;
-    clock_gettime(CLOCK_MONOTONIC, &begin);
-    void *it = call(word[0], word[1], word[2], word[3]);
-    if (made) it = *made;
-    if (free) free(is_alone ? it : word[0], it);
-    clock_gettime(CLOCK_MONOTONIC, &end);
-    double took = 1e9 * (double)(end.tv_sec - begin.tv_sec) + (double)(end.tv_nsec - begin.tv_nsec);
-    if (took < best) best = took;
-  }
-  return best;
 }

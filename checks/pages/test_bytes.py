@@ -19,7 +19,6 @@ LINE = re.compile(r"^ +(\d+)  +((?:[0-9a-f]{2} )*[0-9a-f]{2}) {2,}(.*)$")
 LEFT_OUT = re.compile(r"^ +\.\.  (\d+) more coordinates?$")
 COORDINATE = 16
 NUMBER = re.compile(r"0x[0-9a-f]+|\d+(?:\.\d+)?")
-SRID_FLAG = 0x20000000
 
 
 def example():
