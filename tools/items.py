@@ -3,7 +3,7 @@ import functools
 import re
 import sys
 
-from sources import closing
+from pages import text_of
 from specs import CRATES, ROOT, split_items
 
 HIDDEN = re.compile(r'"(?:[^"\\]|\\.)*"|\'(?:[^\'\\\n]|\\.)\'|//[^\n]*')
@@ -21,6 +21,16 @@ NAMED = {"fn", "struct", "enum", "trait", "type", "const"}
 def blanked(text):
     """The code with spaces in place of its comments, texts and letters, in as many characters."""
     return HIDDEN.sub(lambda it: re.sub(r"[^\n]", " ", it[0]), text).replace("->", "  ")
+
+
+def closing(text, start, pair="{}"):
+    """The index of the brace that closes the one at `start`, or of the bracket."""
+    depth = 0
+    for i in range(start, len(text)):
+        depth += {pair[0]: 1, pair[1]: -1}.get(text[i], 0)
+        if depth == 0:
+            return i
+    raise ValueError("a brace is not closed")
 
 
 def on_one_line(text):
@@ -137,7 +147,7 @@ class Crate:
         folder, self.modules = CRATES / name / "src", {}
         for path in sorted(folder.rglob("*.rt")):
             words = path.relative_to(folder).with_suffix("").parts
-            text = path.read_text(encoding="utf-8")
+            text = text_of(path.relative_to(ROOT))
             for real, alias in re.findall(r"(?m)^use .*\b(\w+) as (\w+)", text):
                 text = re.sub(rf"\b{alias}\b", real, text)
             try:

@@ -1,4 +1,4 @@
-"""A user of the crate `wkb` can write each name of its public clauses, and crates/wkb_words writes each word."""
+"""A user of the crate `wkb` can write each name of its public clauses, and a file of wkb_cases writes each word."""
 from checks import judge
 from public_words import wrong
 
@@ -15,7 +15,9 @@ class PublicWords(judge.Judge):
 
     controls = [
         ("crates/wkb/src/canon.rt", "", LOST, "TellsSameWords"),
-        ("crates/wkb_words/specs/Lib.antt", "", "pub mod Lost\n", "specs/Lib.antt is not as"),
+        ("crates/wkb_cases/specs/Words.antt", "IsAccepted, ", "", "Words.antt is not as"),
+        ("crates/wkb_cases/specs/Lib.antt", "pub mod Words\n", "", "has no Words, so that nothing checks it"),
+        ("crates.txt", "wkb_cases: wkb ", "wkb_cases: wkb wkb_geom ", "wkb_cases has to use wkb and no crate below"),
     ]
 
     def wrong(self):
