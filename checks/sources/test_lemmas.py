@@ -23,8 +23,6 @@ COMMENT = {".antt": re.compile(r"--[^\n]*"), ".rt": re.compile(r"//[^\n]*")}
 SIGNATURE = re.compile(r"(?:  )?(?:pub )?([^\s:(){}.|]+)(?: [({].*[)}])* :(?: |$)")
 # Files of specs/ that hold lemmas and don't begin so: those of lemmas, and those that hold definitions, too.
 OTHERS = {
-    "wkb_cases": "Places",
-    "wkb_clients": "Corners Features Shapes",
     "wkb_geom": "Items Lawful Stored",
     "wkb_write_cases": "LongLine",
 }

@@ -28,7 +28,8 @@ impl Dimensioned for Place {
 }
 
 impl CoordTrait for Place {
-    ghost use Rattle.wkb_cases.specs.Places.{place_words, place_lawful};
+    ghost use Rattle.wkb_cases.specs.Places.{place_words};
+    ghost use Rattle.wkb_cases.specs.LawfulPlaces.{place_lawful};
 
     ghost words = { place_words };
 
@@ -64,7 +65,8 @@ impl CoordTrait for Place {
 }
 
 impl PointTrait for Place {
-    ghost use Rattle.wkb_cases.specs.Places.{place_words, place_lawful};
+    ghost use Rattle.wkb_cases.specs.Places.{place_words};
+    ghost use Rattle.wkb_cases.specs.LawfulPlaces.{place_lawful};
 
     type CoordType = Place;
 

@@ -1,6 +1,6 @@
 -- Views of one spelling and one value are equal.
 use Rattle.std.proofs.Common.{arith, ◌≡◌, ℕ, List, Some, sym, ap, ◌∙◌, slice_get}
-use Rattle.wkb_clients.specs.Common.{Dimension, AreBytes, Coordinate, line_string, polygon, Spelling, Spells, Listed}
+use Rattle.wkb_clients.specs.Common.{Dimension, AreBytes, Coordinate, polygon, Spelling, Spells, Listed}
 use Rattle.wkb_clients.specs.Common.{whole_of, Item, HasOneEncoding, members_spelled, list_of_spellings}
 
 same_encoding : HasOneEncoding → (a b : Item) → AreBytes a.encoding → AreBytes b.encoding

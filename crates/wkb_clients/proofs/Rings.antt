@@ -11,8 +11,7 @@ use Rattle.wkb_clients.specs.Common.{HasNoFront}
 use Rattle.std.proofs.Math.Seq.{drop-append_seam}
 use Rattle.wkb.specs.Reads.{ring_seen, LinearRing, IsCollectionOf}
 use Rattle.wkb.specs.Bridges.{member_of}
-use Rattle.wkb_clients.specs.Rings.{IsRingOf, HasNoRing}
-use Rattle.wkb_clients.specs.Words.{IsRingWordAt, HasNoRingWordAt}
+use Rattle.wkb_clients.specs.Collections.{IsRingOf, HasNoRing, IsRingWordAt, HasNoRingWordAt}
 use Rattle.wkb.specs.Members.{no_member_listed, listed_value, member_listed, one_member}
 use Rattle.wkb.specs.Offsets.{BeginsAt, value_there, spelling_there, no_word, no_word_there}
 

@@ -1,18 +1,14 @@
--- What a shape of any kind means.
-use Rattle.std.specs.Prelude.{◌≡◌, List, [], ◌∷◌, map, Some, refl}
-use Rattle.std.proofs.Common.{ap, ◌∙◌, sym, subst}
+-- What a shape of any type means, and several together.
+use Rattle.std.specs.Prelude.{List, map, Some}
 use Rattle.wkb.specs.Prelude.traits.{Xy}
-use Rattle.wkb.specs.Geometries.{Geometry, point, collection, dimensions_of, geometries, IsGeometry, AreGeometries}
-use Rattle.wkb_cases.specs.Places.{place_words, place_lawful}
-use Rattle.wkb_clients.specs.Shapes.{path_meant, path_lawful, spots_meant, spots_lawful, area_meant, area_lawful}
-use Rattle.wkb_clients.specs.Shapes.{network_meant, network_lawful, region_meant, region_lawful}
-use Rattle.wkb_clients.specs.Corners.{leg_meant, leg_lawful, sheet_meant, sheet_lawful, facet_meant, facet_lawful}
+use Rattle.wkb.specs.Geometries.{Geometry, point, collection, geometries}
+use Rattle.wkb_cases.specs.Places.{place_words}
+use Rattle.wkb_clients.specs.Shapes.{path_meant, spots_meant, area_meant, network_meant, region_meant}
+use Rattle.wkb_clients.specs.Shapes.{leg_meant, sheet_meant, facet_meant}
 use Rattle.wkb_clients.specs.declared.features.Feature.{Feature}
 use Rattle.wkb_clients.specs.declared.features.Feature.TheOpen.{Feature-F, Place, Path, Area, Spots, Network, Region}
 use Rattle.wkb_clients.specs.declared.features.Feature.TheOpen.{Together, Sheet, Facet, Leg}
-use Rattle.wkb_clients.specs.declared.features.Feature.TheViews.{out-Feature}
-use Rattle.wkb_clients.specs.declared.features.Feature.TheFolds.{fold-Feature, fold_out-Feature, map-Feature}
-use Rattle.wkb_clients.specs.declared.features.Feature.TheFolds.{ind-Feature, fold-roll-Feature}
+use Rattle.wkb_clients.specs.declared.features.Feature.TheFolds.{fold-Feature}
 use Rattle.wkb_clients.specs.declared.features.Layer.{Layer}
 
 -- one level, with what each member means in its place
@@ -32,53 +28,6 @@ level_meant (Leg l) = leg_meant l
 abbrev pub feature_meant : Feature → Geometry
 feature_meant = fold-Feature Geometry level_meant
 
--- one level, with what each member means in its place
-abbrev level_of : Feature-F Feature → Geometry
-level_of x = level_meant (map-Feature Feature Geometry feature_meant x)
-
-level_has_one_dimension : (x : Feature-F Feature) → dimensions_of (level_of x) ≡ Xy
-level_has_one_dimension (Place p) = refl
-level_has_one_dimension (Path p) = refl
-level_has_one_dimension (Area a) = refl
-level_has_one_dimension (Spots s) = refl
-level_has_one_dimension (Network n) = refl
-level_has_one_dimension (Region r) = refl
-level_has_one_dimension (Together ms) = refl
-level_has_one_dimension (Sheet e) = refl
-level_has_one_dimension (Facet f) = refl
-level_has_one_dimension (Leg l) = refl
-
-pub feature_one_dimension : (feature : Feature) → dimensions_of (feature_meant feature) ≡ Xy
-feature_one_dimension feature =
-    ap dimensions_of (fold_out-Feature Geometry level_meant feature) ∙ level_has_one_dimension (out-Feature feature)
-
-abbrev LawfulFeature : Type 0
-LawfulFeature = (feature : Feature) × IsGeometry (feature_meant feature)
-
-together_lawful : (ms : List LawfulFeature) → AreGeometries (geometries (map feature_meant (map (λ m. m.0) ms)))
-together_lawful [] = tt
-together_lawful (m ∷ ms) = (m.1, together_lawful ms)
-
--- a level of members that are lawful
-level_lawful : (x : Feature-F LawfulFeature) → IsGeometry (level_of (map-Feature LawfulFeature Feature (λ m. m.0) x))
-level_lawful (Place p) = place_lawful p
-level_lawful (Path p) = path_lawful p
-level_lawful (Area a) = area_lawful a
-level_lawful (Spots s) = spots_lawful s
-level_lawful (Network n) = network_lawful n
-level_lawful (Region r) = region_lawful r
-level_lawful (Together ms) = together_lawful ms.now
-level_lawful (Sheet e) = sheet_lawful e
-level_lawful (Facet f) = facet_lawful f
-level_lawful (Leg l) = leg_lawful l
-
-pub feature_lawful : (feature : Feature) → IsGeometry (feature_meant feature)
-feature_lawful =
-    ind-Feature (λ feature. IsGeometry (feature_meant feature))
-    (λ x y is.
-    subst IsGeometry (sym (fold-roll-Feature Geometry level_meant x))
-    (subst (λ z. IsGeometry (level_of z)) is (level_lawful y)))
-
 -- what each shape of a layer means
 abbrev pub layer_members : Layer → List Geometry
 layer_members layer = map feature_meant layer.features.now
@@ -86,10 +35,3 @@ layer_members layer = map feature_meant layer.features.now
 -- a layer is a collection of these
 abbrev pub layer_meant : Layer → Geometry
 layer_meant layer = collection Xy (geometries (layer_members layer))
-
-features_lawful : (features : List Feature) → AreGeometries (geometries (map feature_meant features))
-features_lawful [] = tt
-features_lawful (feature ∷ features) = (feature_lawful feature, features_lawful features)
-
-pub layer_lawful : (layer : Layer) → AreGeometries (geometries (layer_members layer))
-layer_lawful layer = features_lawful layer.features.now

@@ -1,11 +1,11 @@
 -- Keys of geometries, and a store of them.
 use Rattle.std.proofs.Common.{◌≡◌, ℕ, List, [], ◌∷◌, ◌++◌, Bool, Result, Ok, Err, None}
 use Rattle.std.specs.Prelude.{◌↔◌, MatchBool, Contains}
-use Rattle.wkb_clients.specs.Common.{LittleEndian, Xy, Iso, AreBytes, Value, point, Spelling, header, Front}
+use Rattle.wkb_clients.specs.Common.{LittleEndian, Xy, Iso, AreBytes, Value, point, Spelling, Front}
 use Rattle.wkb_clients.specs.Common.{max_nesting, Item, geometry_at}
 use Rattle.wkb.specs.Geometries.{geometry_of}
-use Rattle.wkb.specs.Prelude.{Endianness, Cause}
-use Rattle.wkb.specs.Encodings.{encoding, IsRewritingWithSrid}
+use Rattle.wkb.specs.Prelude.{Cause}
+use Rattle.wkb.specs.Encodings.{encoding}
 
 -- the bytes that are written of a value, under one order and one form
 unfoldable pub key_of : Value → List ℕ
@@ -23,13 +23,6 @@ pub record IsKey (input key : List ℕ) : Type 0 where
 abbrev pub HasOneKey : Type 0
 HasOneKey = (a b x y : List ℕ) → AreBytes a → AreBytes b → (k : IsKey a x) → (l : IsKey b y)
     → (x ≡ y) ↔ (k.value ≡ l.value)
-
--- Two inputs have one EWKB key under an order exactly if their values and their outermost SRIDs are equal.
-abbrev pub HasOneEwkbKey : Type 0
-HasOneEwkbKey =
-    (order : Endianness) (a b x y : List ℕ) → AreBytes a → AreBytes b → (k : IsRewritingWithSrid order a x)
-    → (l : IsRewritingWithSrid order b y)
-    → (x ≡ y) ↔ ((k.t ≡ l.t) × ((header k.s).srid ≡ (header l.s).srid))
 
 -- The value that the input begins with was stored before, and nothing changed, or it was not, and is the last one now.
 pub record Inserts (old new : List Value) (input : List ℕ) (was : Bool) : Type 0 where

@@ -1,8 +1,8 @@
--- The bytes of a member, of a ring, and a word of a member's ring.
+-- The bytes of a member, and a word of a member's ring.
 use Rattle.std.proofs.Common.{◌≡◌, ℕ, ◌+◌, ◌*◌, List, length, drop, Some, slice_get}
 use Rattle.std.specs.Borrow.{Bor}
-use Rattle.wkb_clients.specs.Common.{Dimension, width, number, Coordinate, polygon, header, Listed, Item, IsMember}
-use Rattle.wkb_clients.specs.Common.{IsWordOf, IsFront, StandsAt, member_start, ring_start, Spells}
+use Rattle.wkb_clients.specs.Common.{Dimension, width, number, Coordinate, polygon, header, Item, IsMember}
+use Rattle.wkb_clients.specs.Common.{IsWordOf, StandsAt, member_start, ring_start, Spells}
 
 -- the bytes spell the value, by the fields of its spelling
 abbrev pub SpellsInFull : Item → Type 0
@@ -16,16 +16,6 @@ LendsMember whole k bytes = StandsAt (member_start k whole.spelled whole.value) 
 pub record AreNeighbours (whole : Item) (k : ℕ) (both : Bor (List ℕ) × Bor (List ℕ)) : Type 0 where
   pub first : LendsMember whole k both.0.now
   pub second : StandsAt (member_start k whole.spelled whole.value + length both.0.now) both.1.now whole.encoding
-
--- the bytes are the polygon's at the place of the coordinates of its ring of this number, after the ring's count
-abbrev pub LendsRing : Listed (List (List Coordinate)) → ℕ → List ℕ → Type 0
-LendsRing p j bytes = StandsAt (ring_start j p.spelled p.dimension p.parts + 4) bytes p.encoding
-
--- the input begins with a geometry, and the bytes are the input's at the place of its member of this number
-pub record IsMemberOf (input : List ℕ) (k : ℕ) (bytes : List ℕ) : Type 0 where
-  pub whole : Item
-  pub front : IsFront input whole
-  pub stands : StandsAt (member_start k whole.spelled whole.value) bytes input
 
 -- Member k of the geometry is a polygon, and this is word n of coordinate i of its exterior: the number, in the
 -- polygon's order, as many words after the exterior's count.

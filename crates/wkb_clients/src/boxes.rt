@@ -1,4 +1,4 @@
-//! The box around a polygon's exterior, which holds each of its numbers.
+//! The box around a polygon's exterior, by `Range::with_word` for each coordinate: it holds each of their numbers.
 
 ghost use Rattle.wkb_clients.specs.Boxes.{IsBoxOfRing, IsBoxOf, HoldsExterior};
 

@@ -1,4 +1,4 @@
-//! Equal views return the same. A clone is equal to its source, so it has the same members and the same encodings.
+//! Equal views return the same, and a clone is equal to its source: so it has the same members and encodings.
 
 ghost use Rattle.std.specs.Prelude.{◌≡◌, option_map, IfOk};
 ghost use Rattle.wkb.specs.Prelude.{AreBytes};
@@ -7,23 +7,10 @@ ghost use Rattle.wkb_clients.specs.Members.{SpellsInFull};
 
 use std::alloc::Global;
 use wkb::error::WkbResult;
-use wkb::geom::{GeometryCollectionTrait, MultiPolygonTrait};
+use wkb::geom::MultiPolygonTrait;
 use wkb::laws::{are_bytes, one_encoding, spelled_in_full};
-use wkb::reader::{GeometryCollection, MultiPolygon, Polygon, Wkb};
+use wkb::reader::{MultiPolygon, Polygon, Wkb};
 use wkb::writer::{WriteOptions, to_vec};
-
-/// The geometries of one index in two equal collections: the same bytes, spelled alike, of one value.
-pub fn both_geometries<'m, 'a>(
-    source: &'m GeometryCollection<'a>,
-    clone: &'m GeometryCollection<'a>,
-    i: usize,
-) -> (Option<&'m Wkb<'a>>, Option<&'m Wkb<'a>>)
-    requires { clone.now ≡ source.now }
-    ensures { option_map (λ g. g.now) result.1 ≡ option_map (λ g. g.now) result.0 }
-{
-    let _members = source.geometries();
-    (source.geometry(i), clone.geometry(i))
-}
 
 // The bytes of a polygon spell it.
 fn polygon_spelled(polygon: &Polygon)

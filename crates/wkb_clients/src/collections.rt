@@ -1,17 +1,12 @@
-//! A polygon's ring inside a collection that a blob holds.
+//! A word of a ring of a polygon in a collection at an offset in a blob: where it is in the blob, or that there is none.
 
-ghost use Rattle.std.specs.Prelude.{IfOk, IfSome};
-ghost use Rattle.wkb_clients.specs.Members.{IsMemberOf};
-ghost use Rattle.wkb_clients.specs.Rings.{FindsRing};
-ghost use Rattle.wkb_clients.specs.Paths.{FindsRingWord};
+ghost use Rattle.wkb_clients.specs.Collections.{FindsRing, FindsRingWord};
 
-use crate::package::from_offset;
+use crate::geopackage::from_offset;
 use std::alloc::Global;
 use wkb::error::WkbResult;
 use wkb::geom::{CoordTrait, GeometryTrait, GeometryType, LineStringTrait, PolygonTrait};
-use wkb::laws::{
-    are_bytes, members_in_place, members_stand, rings_stand, spelled_in_full, words_stand,
-};
+use wkb::laws::{members_stand, rings_stand, words_stand};
 use wkb::reader::{LinearRing, Wkb, read_wkb};
 
 /// Which word of a collection is meant, each index from 0: the member, its ring (0 is the exterior), the ring's
@@ -22,30 +17,6 @@ pub struct WordPath {
     pub ring: usize,
     pub coordinate: usize,
     pub word: usize,
-}
-
-/// The bytes of a member of the collection that the input begins with: a slice of the input, at the member's place.
-///
-/// None if another geometry is there, or the collection has no such member.
-pub fn member_bytes<'a>(alloc: Global, input: &'a [u8], index: usize) -> WkbResult<Option<&'a [u8]>>
-    ensures { IfOk result (λ found. IfSome found (λ bytes. IsMemberOf input.now index bytes.now)) }
-{
-    members_in_place();
-    spelled_in_full();
-    let geometry = match read_wkb(alloc, input) {
-        Ok(geometry) => geometry,
-        Err(e) => return Err(e),
-    };
-    are_bytes(geometry.buf());
-    let GeometryType::GeometryCollection(members) = geometry.as_type() else {
-        return Ok(None);
-    };
-    let Some(found) = members.get(index) else {
-        return Ok(None);
-    };
-    let bytes = found.buf();
-    are_bytes(bytes);
-    Ok(Some(bytes))
 }
 
 /// A ring of the polygon that is a member of this collection, the exterior first.

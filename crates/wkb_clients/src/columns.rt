@@ -1,4 +1,5 @@
-//! Rows of a column of coordinates, as GeoArrow has them.
+//! Rows of a column of coordinates, as GeoArrow has them: `Levels::row` for one after another, with the floor that it
+//! moves.
 
 ghost use Rattle.std.specs.Prelude.{◌<◌, ◌+◌, length, IfOk};
 ghost use Rattle.wkb.specs.Prelude.traits.{Xy};

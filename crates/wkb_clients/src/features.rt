@@ -1,12 +1,17 @@
-//! A shape of a map of any kind, and shapes together: geometries by `GeometryTrait` and `GeometryCollectionTrait`.
+//! A shape of a map of any type, and shapes together: geometries by `GeometryTrait` and `GeometryCollectionTrait`, which
+//! are measured and written as what they mean.
 
+ghost use Rattle.wkb.specs.Prelude.{Iso};
 ghost use Rattle.wkb.specs.Prelude.traits.{Xy};
-ghost use Rattle.wkb_clients.specs.Features.{feature_meant, feature_one_dimension, feature_lawful};
-ghost use Rattle.wkb_clients.specs.Features.{layer_members, layer_lawful};
+ghost use Rattle.wkb.specs.Writes.{IsSizeOf, IsEncodingOf};
+ghost use Rattle.wkb_clients.specs.Features.{feature_meant, layer_members, layer_meant};
+ghost use Rattle.wkb_clients.specs.LawfulFeatures.{feature_one_dimension, feature_lawful, layer_lawful};
 
-use crate::corners::{Facet, Leg, Sheet};
-use crate::shapes::{Area, Network, Path, Region, Spots};
+use crate::shapes::{Area, Facet, Leg, Network, Path, Region, Sheet, Spots};
+use std::alloc::Global;
+use wkb::error::WkbResult;
 use wkb::geom::{Dimensioned, Dimensions, GeometryCollectionTrait, GeometryTrait, GeometryType};
+use wkb::writer::{VecSink, WriteOptions, geometry_wkb_size, to_vec, write_geometry_collection};
 use wkb_cases::places::Place;
 
 /// A shape of a map, or several.
@@ -118,5 +123,34 @@ impl<'m> GeometryCollectionTrait for Layer<'m> {
 
     fn geometry(&self, i: usize) -> Option<&Feature<'m>> {
         self.features.get(i)
+    }
+}
+
+/// The size of a feature's ISO encoding.
+pub fn feature_size(feature: &Feature) -> WkbResult<usize>
+    ensures { IsSizeOf Iso (feature_meant feature.now) result }
+{
+    geometry_wkb_size(feature)
+}
+
+/// The encoding of a feature.
+pub fn feature_encoding(
+    alloc: Global,
+    feature: &Feature,
+    options: &WriteOptions,
+) -> WkbResult<Vec<u8>>
+    ensures { IsEncodingOf options.now (feature_meant feature.now) result }
+{
+    to_vec(alloc, feature, options)
+}
+
+/// The encoding of a layer.
+pub fn layer_encoding(alloc: Global, layer: &Layer, options: &WriteOptions) -> WkbResult<Vec<u8>>
+    ensures { IsEncodingOf options.now (layer_meant layer.now) result }
+{
+    let mut sink = VecSink::new(alloc);
+    match write_geometry_collection(&mut sink, layer, options) {
+        Ok(()) => Ok(sink.into_vec()),
+        Err(e) => Err(e),
     }
 }

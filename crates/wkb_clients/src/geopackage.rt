@@ -1,11 +1,10 @@
 //! A reader of GeoPackage blobs (OGC 12-128, clause 2.1.3), whose contract says which blobs it takes.
 
-ghost use Rattle.std.specs.Prelude.{◌≡◌, ◌+◌, ◌<◌, ◌≤◌, ◌⊎◌, MatchOption, IfOk, IfErr, length};
+ghost use Rattle.std.specs.Prelude.{◌≡◌, ◌+◌, ◌<◌, ◌≤◌, ◌⊎◌, MatchOption, IfOk, IfErr, drop, length};
 ghost use Rattle.wkb_clients.specs.Geopackage.{IsBlobHeader, HasNoBlobHeader, start_behind, order_said, body_of};
 ghost use Rattle.wkb_clients.specs.Geopackage.{is_number_at_most, axis_around, others_around, envelope_around};
 ghost use Rattle.wkb_clients.specs.Geopackage.{header_order, envelope_kind, HoldsGeometry, HoldsNoGeometry, IsWantOfMemory};
 
-use crate::package::from_offset;
 use std::alloc::Global;
 use wkb::Endianness;
 use wkb::check::{Bounds, Range, bounds};
@@ -81,6 +80,13 @@ pub fn read_header(blob: &[u8]) -> Option<BlobHeader>
         empty: flags >= 16,
         srs: u32_at(blob, 4, order),
     })
+}
+
+/// The bytes of a blob from an offset on; none if that is past the end.
+pub(crate) fn from_offset(blob: &[u8], offset: usize) -> &[u8]
+    ensures { result.now ≡ drop offset blob.now }
+{
+    &blob[offset.min(blob.len())..]
 }
 
 /// The bytes behind the header.

@@ -3,16 +3,14 @@
 ghost use Rattle.std.specs.Prelude.{◌≡◌, ◌⊎◌, [], IfOk, IfErr};
 ghost use Rattle.wkb.specs.Prelude.{IsMemory};
 ghost use Rattle.wkb.specs.Reads.{IsRefusal};
-ghost use Rattle.wkb_clients.specs.Keys.{IsKey, HasOneKey, HasOneEwkbKey, Inserts};
+ghost use Rattle.wkb_clients.specs.Keys.{IsKey, HasOneKey, Inserts};
 
 use std::alloc::Global;
 use std::marker::Model;
 use wkb::Endianness;
 use wkb::canon::canonical;
 use wkb::error::WkbResult;
-use wkb::laws::{
-    are_bytes, equal_encodings, equal_encodings_with_own_srid, geometry_agrees, rewriting_is_read,
-};
+use wkb::laws::{are_bytes, equal_encodings, geometry_agrees, rewriting_is_read};
 use wkb::writer::{Form, WriteOptions};
 
 /// The key of the geometry at the start of the bytes: equal values have equal keys, whatever their byte orders, codes
@@ -35,13 +33,6 @@ pub fn one_key()
     ensures { HasOneKey }
 {
     equal_encodings();
-}
-
-/// Two inputs have one encoding with their own SRIDs exactly if their values and their outermost SRIDs are equal.
-pub fn one_ewkb_key()
-    ensures { HasOneEwkbKey }
-{
-    equal_encodings_with_own_srid();
 }
 
 /// Values of geometries in the order in which they came, each once. It holds their keys, and looks at each of them.

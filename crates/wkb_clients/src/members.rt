@@ -1,59 +1,20 @@
-//! The bytes of the members of multi geometries, of a polygon's rings, and a word of them in place.
+//! The bytes that views of a multi polygon, of its polygons and of their rings return, in place: one member begins
+//! where the one before ends, and a word is at an offset that the sizes before it tell.
 
-ghost use Rattle.std.specs.Prelude.{◌+◌, IfSome};
-ghost use Rattle.wkb.specs.Reads.{multi_point_seen, multi_line_string_seen, multi_polygon_seen};
-ghost use Rattle.wkb_clients.specs.Members.{LendsMember, AreNeighbours, LendsRing, IsCornerWord};
+ghost use Rattle.std.specs.Prelude.{IfSome};
+ghost use Rattle.wkb.specs.Reads.{multi_polygon_seen};
+ghost use Rattle.wkb_clients.specs.Members.{LendsMember, AreNeighbours, IsCornerWord};
 
-use wkb::geom::{
-    CoordTrait, LineStringTrait, MultiLineStringTrait, MultiPointTrait, MultiPolygonTrait,
-    PolygonTrait,
-};
+use wkb::geom::{CoordTrait, LineStringTrait, MultiPolygonTrait, PolygonTrait};
 use wkb::laws::{
     are_bytes, members_in_place, next_start, rings_in_place, size_of_spelled, spelled_in_full,
     words_stand,
 };
-use wkb::reader::{MultiLineString, MultiPoint, MultiPolygon, Polygon};
-
-/// The bytes of a point of a multi point, if there is one of this index: they are in those of the multi point, after
-/// its count and the points before.
-pub fn point_bytes<'a>(multi: &MultiPoint<'a>, i: usize) -> Option<&'a [u8]>
-    ensures { IfSome result (λ bytes. LendsMember (multi_point_seen multi.now) i bytes.now) }
-{
-    members_in_place();
-    spelled_in_full();
-    are_bytes(multi.buf());
-    match multi.point(i) {
-        Some(point) => {
-            let bytes = point.buf();
-            are_bytes(bytes);
-            Some(bytes)
-        }
-        None => None,
-    }
-}
-
-/// The bytes of a line string of a multi line string, if there is one of this index: at its place in those of the multi
-/// line string.
-pub fn line_string_bytes<'a>(multi: &MultiLineString<'a>, i: usize) -> Option<&'a [u8]>
-    ensures { IfSome result
-        (λ bytes. LendsMember (multi_line_string_seen multi.now) i bytes.now) }
-{
-    members_in_place();
-    spelled_in_full();
-    are_bytes(multi.buf());
-    match multi.line_string(i) {
-        Some(line_string) => {
-            let bytes = line_string.buf();
-            are_bytes(bytes);
-            Some(bytes)
-        }
-        None => None,
-    }
-}
+use wkb::reader::MultiPolygon;
 
 /// The bytes of a polygon of a multi polygon, if there is one of this index: at its place in those of the multi
 /// polygon.
-pub fn polygon_bytes<'a>(multi: &MultiPolygon<'a>, i: usize) -> Option<&'a [u8]>
+fn polygon_bytes<'a>(multi: &MultiPolygon<'a>, i: usize) -> Option<&'a [u8]>
     ensures { IfSome result (λ bytes. LendsMember (multi_polygon_seen multi.now) i bytes.now) }
 {
     members_in_place();
@@ -87,20 +48,6 @@ pub fn neighbour_bytes<'a>(multi: &MultiPolygon<'a>, i: u32) -> Option<(&'a [u8]
     are_bytes(bytes);
     match polygon_bytes(multi, i + 1) {
         Some(next) => Some((bytes, next)),
-        None => None,
-    }
-}
-
-/// The bytes of the coordinates of a polygon's interior, if there is one of this index: they are in those of the
-/// polygon, after the rings before and the interior's own count.
-pub fn interior_bytes<'a>(polygon: &Polygon<'a>, i: usize) -> Option<&'a [u8]>
-    ensures { IfSome result (λ bytes. LendsRing polygon.now (i + 1) bytes.now) }
-{
-    rings_in_place();
-    spelled_in_full();
-    are_bytes(polygon.buf());
-    match polygon.interior(i) {
-        Some(ring) => Some(ring.coords_slice()),
         None => None,
     }
 }

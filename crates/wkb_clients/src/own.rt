@@ -1,4 +1,5 @@
-//! The own bytes of a view; a member of a collection is one, too.
+//! The bytes of a geometry that was read, or of a member of it: no call rejects them, and each returns what it says of
+//! the geometry.
 
 ghost use Rattle.std.specs.Prelude.{◌≡◌, IfOk, IfErr, MatchBool};
 ghost use Rattle.wkb.specs.Prelude.{IsMemory};
@@ -12,8 +13,8 @@ use wkb::Endianness;
 use wkb::canon::{canonical_with_srid, same};
 use wkb::check::{Bounds, Refused, Summary, bounds, check};
 use wkb::error::WkbResult;
-use wkb::laws::{are_bytes, one_front, read_or_refused, spelled_in_full};
-use wkb::reader::{Polygon, Wkb, read_wkb};
+use wkb::laws::{one_front, read_or_refused};
+use wkb::reader::{Wkb, read_wkb};
 
 /// The check never rejects the bytes of a geometry.
 pub fn check_again(w: &Wkb<'_>) -> Result<Summary, Refused>
@@ -38,16 +39,6 @@ pub fn read_anew<'a>(alloc: Global, w: &Wkb<'a>) -> WkbResult<Wkb<'a>>
     ensures err { IfErr result IsMemory }
 {
     read_wkb(alloc, w.buf())
-}
-
-/// The check never rejects the bytes of a polygon's view, which holds no collection.
-pub fn check_polygon_again(p: &Polygon<'_>) -> Result<Summary, Refused>
-    ensures { IfErr result (λ _. ⊥) }
-{
-    spelled_in_full();
-    let bytes = p.buf();
-    are_bytes(bytes);
-    check(bytes)
 }
 
 /// The encoding of a geometry with its own SRID, which nothing but an allocation failure can reject.

@@ -1,23 +1,16 @@
-//! Types of one's own over geometries of `wkb`: a plain point with a number, a line string that was read with one, and
-//! geometries that were read, together.
+//! Types of one's own that contain geometries of `wkb`, whose lemmas say that they are lawful: a plain point with a number,
+//! a line string that was read with one, and geometries that were read, together.
 
 ghost use Rattle.std.specs.Prelude.{map};
 ghost use Rattle.wkb.specs.Prelude.{as_dimensions};
 ghost use Rattle.wkb.specs.Plain.{point_dimensions, point_coordinate, point_lawful};
 ghost use Rattle.wkb.specs.Reads.{line_string_dimension, seen_coordinates, geometry_seen};
 ghost use Rattle.wkb.specs.Lawful.{line_string_view_lawful};
-ghost use Rattle.wkb.specs.Writes.{IsEncodingOf};
-ghost use Rattle.wkb_clients.specs.Sites.{site_meant, route_meant, bundle_meant};
 
-use std::alloc::Global;
-use wkb::error::WkbResult;
 use wkb::geom::{
     Coord, Dimensioned, Dimensions, GeometryCollectionTrait, LineStringTrait, Point, PointTrait,
 };
 use wkb::reader::{self, Wkb};
-use wkb::writer::{
-    VecSink, WriteOptions, write_geometry_collection, write_line_string, write_point,
-};
 
 /// A point over the caller's own words, and the number of what is there.
 #[derive(Clone, Copy)]
@@ -115,38 +108,5 @@ impl<'a> GeometryCollectionTrait for Bundle<'a> {
 
     fn geometry(&self, i: usize) -> Option<&Wkb<'a>> {
         self.members.get(i)
-    }
-}
-
-/// The encoding of a site.
-pub fn site_encoding(alloc: Global, site: &Site, options: &WriteOptions) -> WkbResult<Vec<u8>>
-    ensures { IsEncodingOf options.now (site_meant site.now) result }
-{
-    let mut sink = VecSink::new(alloc);
-    match write_point(&mut sink, site, options) {
-        Ok(()) => Ok(sink.into_vec()),
-        Err(e) => Err(e),
-    }
-}
-
-/// The encoding of a route.
-pub fn route_encoding(alloc: Global, route: &Route, options: &WriteOptions) -> WkbResult<Vec<u8>>
-    ensures { IsEncodingOf options.now (route_meant route.now) result }
-{
-    let mut sink = VecSink::new(alloc);
-    match write_line_string(&mut sink, route, options) {
-        Ok(()) => Ok(sink.into_vec()),
-        Err(e) => Err(e),
-    }
-}
-
-/// The encoding of a bundle.
-pub fn bundle_encoding(alloc: Global, bundle: &Bundle, options: &WriteOptions) -> WkbResult<Vec<u8>>
-    ensures { IsEncodingOf options.now (bundle_meant bundle.now) result }
-{
-    let mut sink = VecSink::new(alloc);
-    match write_geometry_collection(&mut sink, bundle, options) {
-        Ok(()) => Ok(sink.into_vec()),
-        Err(e) => Err(e),
     }
 }

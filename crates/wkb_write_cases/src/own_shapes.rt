@@ -1,4 +1,4 @@
-//! A map's own shapes, each through the writer of its kind, and some together in a collection.
+//! A map's own shapes, one of each type, and some together in a collection.
 
 use std::alloc::Global;
 use std::test::Fail;
@@ -8,12 +8,8 @@ use wkb::writer::WriteOptions;
 use wkb_cases::places::Place;
 use wkb_cases::spelled::bytes;
 use wkb_cases::support::{ONE, TWO, iso};
-use wkb_clients::corners::{Facet, Leg, Sheet};
-use wkb_clients::drawn::{
-    area, facet, feature, feature_size, layer, leg, network, path, region, sheet, spots,
-};
-use wkb_clients::features::{Feature, Layer};
-use wkb_clients::shapes::{Area, Network, Path, Region, Spots};
+use wkb_clients::features::{Feature, Layer, feature_encoding, feature_size, layer_encoding};
+use wkb_clients::shapes::{Area, Facet, Leg, Network, Path, Region, Sheet, Spots};
 
 /// The place at 1.0 and 2.0, of which all shapes are.
 fn place() -> Place {
@@ -48,53 +44,51 @@ fn little() -> WriteOptions {
     iso(Endianness::LittleEndian)
 }
 
+/// Whether a shape is written as the bytes of a text.
+fn is_written(alloc: Global, shape: Feature, text: &str) -> Result<bool, Fail> {
+    is_text(feature_encoding(alloc, &shape, &little()), text)
+}
+
 fn are_lists_written(alloc: Global, places: &[Place], paths: &[Path]) -> Result<bool, Fail> {
-    let options = little();
-    let line = Path { places };
-    let single = Spots { places };
-    let lines = Network { paths };
+    let path = Feature::Path(Path { places });
+    let spots = Feature::Spots(Spots { places });
+    let network = Feature::Network(Network { paths });
     Ok(
-        is_text(path(alloc, &line, &options), "01 02000000 01000000 P")?
-            && is_text(
-                spots(alloc, &single, &options),
-                "01 04000000 01000000 01 01000000 P",
-            )?
-            && is_text(
-                network(alloc, &lines, &options),
+        is_written(alloc, path, "01 02000000 01000000 P")?
+            && is_written(alloc, spots, "01 04000000 01000000 01 01000000 P")?
+            && is_written(
+                alloc,
+                network,
                 "01 05000000 01000000 01 02000000 01000000 P",
             )?,
     )
 }
 
+/// A polygon of two rings, and one without any.
+const AREAS: &str =
+    "01 06000000 02000000 01 03000000 02000000 01000000 P 01000000 P 01 03000000 00000000";
+
 fn are_areas_written(alloc: Global, paths: &[Path]) -> Result<bool, Fail> {
-    let options = little();
     let one = ring(paths);
     let areas = [one, Area::Nothing];
-    let both = Region { areas: &areas };
+    let region = Feature::Region(Region { areas: &areas });
     Ok(
-        is_text(
-            area(alloc, &one, &options),
+        is_written(
+            alloc,
+            Feature::Area(one),
             "01 03000000 02000000 01000000 P 01000000 P",
-        )? && is_text(
-            region(alloc, &both, &options),
-            "01 06000000 02000000 01 03000000 02000000 01000000 P 01000000 P 01 03000000 00000000",
-        )?,
+        )? && is_written(alloc, region, AREAS)?,
     )
 }
 
 fn are_corners_written(alloc: Global) -> Result<bool, Fail> {
-    let options = little();
+    let leg = Feature::Leg(there_and_back());
+    let sheet = Feature::Sheet(one_place());
+    let facet = Feature::Facet(flat());
     Ok(
-        is_text(
-            leg(alloc, &there_and_back(), &options),
-            "01 02000000 02000000 P P",
-        )? && is_text(
-            sheet(alloc, &one_place(), &options),
-            "01 03000000 01000000 05000000 P P P P P",
-        )? && is_text(
-            facet(alloc, &flat(), &options),
-            "01 03000000 01000000 04000000 P P P P",
-        )?,
+        is_written(alloc, leg, "01 02000000 02000000 P P")?
+            && is_written(alloc, sheet, "01 03000000 01000000 05000000 P P P P P")?
+            && is_written(alloc, facet, "01 03000000 01000000 04000000 P P P P")?,
     )
 }
 
@@ -140,8 +134,8 @@ fn are_written_together(alloc: Global, features: &[Feature]) -> Result<bool, Fai
     let one = Feature::Together(features);
     let expected = bytes(TOGETHER)?;
     Ok(
-        is_text(layer(alloc, &map, &options), TOGETHER)?
-            && is_text(feature(alloc, &one, &options), TOGETHER)?
+        is_text(layer_encoding(alloc, &map, &options), TOGETHER)?
+            && is_text(feature_encoding(alloc, &one, &options), TOGETHER)?
             && matches!(feature_size(&one), Ok(size) if size == expected.len()),
     )
 }

@@ -1,6 +1,6 @@
 use Rattle.std.proofs.Common.{◌-◌, drop, length, length-drop, ap, ◌∙◌, arith}
 use Rattle.std.proofs.lemmas.List.{drop_min, take_all}
-use Rattle.wkb_clients.proofs.package.from_offset.Goals as goal
+use Rattle.wkb_clients.proofs.geopackage.from_offset.Goals as goal
 
 pub returns : goal.returns
 returns c =
