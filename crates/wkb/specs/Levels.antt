@@ -23,8 +23,9 @@ pub use Rattle.wkb_levels.specs.PolygonLists.{polygons_of, polygons_dimensions, 
 pub use Rattle.wkb_levels.specs.Columns.{column_rings, column_singles, row_begin, row_end, singles_of, AreEndsBetween}
 pub use Rattle.wkb_levels.specs.Columns.{AreRowLevels, rings_begin, rings_end, coordinates_begin, coordinates_end}
 pub use Rattle.wkb_levels.specs.Columns.{AreItems, SpansSingles, SpansRings, SpansCoordinates, EndUpTo, IsClear}
-pub use Rattle.wkb_levels.specs.Columns.{IsLevelFloor, IsFloor, spanned, AreFromLast}
+pub use Rattle.wkb_levels.specs.Columns.{IsLevelFloor, IsFloor}
 pub use Rattle.wkb_levels.specs.RowsLeft.{AreAllRows, IsPast, GivesRow}
+pub use Rattle.wkb_levels.specs.Columns.{spanned, AreFromLast}
 pub use Rattle.wkb_levels.specs.Scans.{no_item_twice}
 pub use Rattle.wkb_levels.specs.Meant.{single_dimensions, single_meant, row_meant, rings_meant, kind_meant, IsLevelRow}
 pub use Rattle.wkb_levels.specs.Meant.{HasNoLevelRow, FindsRow}
