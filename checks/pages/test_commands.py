@@ -48,6 +48,7 @@ MADE = [
 ]
 # Where the pages of calls are, whose code tools/api makes.
 CALLS = "docs/api/"
+WRITTEN = [it for it in PAGES if not it.startswith(CALLS)]
 # Whose examples are proved nowhere.
 SKETCHED = ["crates/wkb/src/check.rt", "crates/wkb/src/lib.rt"]
 LINE = "010200000002000000" + 2 * POINT[10:]
@@ -275,7 +276,7 @@ class Shown(judge.Judge):
 
     controls = [
         *judge.on_each(PAGES, "    $ echo one\n    two\n\n", ":1: echo one"),
-        *judge.on_each(PAGES, "```c\nint lost;\n```\n\n", ": no source has\nint lost;"),
+        *judge.on_each(WRITTEN, "```c\nint lost;\n```\n\n", ": no source has\nint lost;"),
         *((page, "", *it) for page, it in zip(PAGES, PLANTS)),
         ("docs/api/canon.md", "##", "#", "`tools/api --write` makes others"),
         ("docs/pictures/speed.svg", " OGR</text>", " ORG</text>", "speed.svg: `tools/bars --write` makes others"),

@@ -84,8 +84,6 @@ FACTS = [
     (r"traits of `geo-traits` ([\d.]+)", "rust/geo/Cargo.toml", r'(?m)^geo-traits = "(.*)"'),
     (r"on a Xeon at ([\d.]+) GHz", SPEED, r"\(Xeon at ([\d.]+) GHz\)"),
     (r"(?:GCC|with gcc) (\d+)[,;]", SYSTEMS, r"\(gcc (\d+)\."),
-    (r"a polygon of 5 takes ([\d.]+) of plain C", SPEED,
-     r"(?s)our time / plain C .*?\| polygon of 5 +\| +[\d.]+ \| +([\d.]+) \|"),
     (r"the shortest of (\d+) rounds", SPEED, r"bench/c/speed --write (\d+)"),
     (r"makes ([\d,]+) random geometries of a shape", "bench/c/speed_shapes.hpp", r"ROWS = (\d+);"),
     (r"passes over them (\d+) times in a round", "bench/c/speed.cpp", r"passes = (\d+);"),

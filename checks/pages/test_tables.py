@@ -257,7 +257,7 @@ def wrong_times():
 
 def wrong_losses():
     """The share of our time that README says plain C takes where it is faster, if it isn't that of docs/SPEED.md."""
-    times, said = dict(timed()), re.search(r"in (0\.\d) to (0\.\d) of our time", text_of("README.md"))
+    times, said = dict(timed()), re.search(r"takes (0\.\d) to (0\.\d) of our time", text_of("README.md"))
     tenths = [10 / times[QUOTIENTS, *it] for it in (("polygon of 5", "bounds"), ("point", "other order"))]
     meant = [math.floor(min(tenths)) / 10, math.ceil(max(tenths)) / 10]
     if not said or [float(it) for it in said.groups()] != meant:

@@ -39,23 +39,24 @@ class Texts(judge.Judge):
     """The licences that packages have, which hold no files above their own folders, and those in LICENSES, where REUSE
     looks for the text of each that REUSE.toml names."""
 
+    copies = {
+        **{f"{folder}/{name}": name for folder in ("python", "rust/geo") for name in ("LICENSE-APACHE", "LICENSE-MIT")},
+        "LICENSES/Apache-2.0.txt": "LICENSE-APACHE",
+        "LICENSES/MIT.txt": "LICENSE-MIT",
+    }
     controls = [
-        *(
-            (f"{folder}/LICENSE-{name}", "2.0" if name == "APACHE" else "2024", "2.1", f"{folder}/LICENSE-{name} is not")
-            for folder in ("python", "rust/geo") for name in ("APACHE", "MIT")
-        ),
+        *((copy, "2.0" if "APACHE" in name else "2024", "2.1", f"{copy} is not") for copy, name in copies.items()),
         ("REUSE.toml", "LicenseRef-Rattle-kit", "LicenseRef-lost", "LICENSES has"),
     ]
 
     def wrong(self):
         named = set(re.findall(r"[\w.-]+", " ".join(re.findall(r'License-Identifier = "(.*)"', text_of("REUSE.toml")))))
-        texts = {it.stem for it in (ROOT / "LICENSES").glob("*.txt") if it.is_file()}
+        texts = {it.stem for it in (ROOT / "LICENSES").glob("*.txt")}
         if texts != named - {"OR", "AND"}:
             yield f"LICENSES has {texts}, and REUSE.toml names {named}"
-        for name in "LICENSE-APACHE", "LICENSE-MIT":
-            for folder in "python", "rust/geo":
-                if text_of(f"{folder}/{name}") != text_of(name):
-                    yield f"{folder}/{name} is not {name} at the top"
+        for copy, name in self.copies.items():
+            if text_of(copy) != text_of(name):
+                yield f"{copy} is not {name} at the top"
 
 
 class Sbom(unittest.TestCase):

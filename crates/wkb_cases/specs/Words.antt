@@ -74,7 +74,7 @@ pub use Rattle.wkb.specs.Levels.{points_dimensions, points_points, polygons_of, 
 pub use Rattle.wkb.specs.Levels.{column_rings, column_singles, row_begin, row_end, singles_of, AreEndsBetween}
 pub use Rattle.wkb.specs.Levels.{AreRowLevels, rings_begin, rings_end, coordinates_begin, coordinates_end, AreItems}
 pub use Rattle.wkb.specs.Levels.{SpansSingles, SpansRings, SpansCoordinates, EndUpTo, IsClear, IsLevelFloor, IsFloor}
-pub use Rattle.wkb.specs.Levels.{spanned, AreFromLast, AreAllRows, IsPast, GivesRow, no_item_twice, single_dimensions}
+pub use Rattle.wkb.specs.Levels.{AreAllRows, IsPast, GivesRow, spanned, AreFromLast, no_item_twice, single_dimensions}
 pub use Rattle.wkb.specs.Levels.{single_meant, row_meant, rings_meant, kind_meant, IsLevelRow, HasNoLevelRow, FindsRow}
 pub use Rattle.wkb.specs.Levels.{HasRowEncoding, IsRowWrite}
 pub use Rattle.wkb.specs.Encodings.{form_srid, inner, count_geometries, encoding, encodings, Fault}
