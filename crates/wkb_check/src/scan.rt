@@ -1,9 +1,14 @@
 //! The bounds of a geometry, by one walk over its pieces.
 
-ghost use Rattle.std.specs.Prelude.{◌≡◌, nat_lt, true, false, Err, IfOk, IfErr, IfSome};
+ghost use Rattle.std.specs.Prelude.{◌≡◌, ◌≤◌, ◌*◌, length, nat_lt, true, false, Err, IfOk, IfErr, IfSome};
 ghost use Rattle.wkb_geom.specs.declared.code.TheConstants.{POLYGON};
 ghost use Rattle.wkb_geom.specs.declared.common.Dimension.TheVariants.{Xy};
+ghost use Rattle.wkb_geom.specs.Dimensions.{width};
+ghost use Rattle.wkb_geom.specs.Reading.{coordinates};
+ghost use Rattle.wkb_check.specs.declared.axes.TheConstants.{XY_SIZE};
 ghost use Rattle.wkb_check.specs.Bounded.{HasGeometry, AreBounds, BoundsFront, BoundsOnlyFront, FindsBounds};
+ghost use Rattle.wkb_check.specs.Bounded.{nothing as no_bounds, Widens};
+ghost use Rattle.wkb_check.specs.Ordinates.{words_in};
 ghost use Rattle.wkb_check.specs.Pieces.{IsPieceAt, IsHeaderAt};
 ghost use Rattle.wkb_check.specs.Public.{Checks, DescribesFront};
 
@@ -15,21 +20,68 @@ use wkb_geom::code::{POLYGON, WkbType};
 use wkb_geom::words::rest_from;
 use wkb_geom::{Dimension, Endianness};
 
-/// The bounds of a geometry that has coordinates, and so is this piece alone.
+/// Puts the bounds of `count` coordinates of x and y in an order that is a constant if this is inlined.
 #[inline(always)]
-fn bounds_of_piece(buf: &[u8], only: &Piece) -> Bounds
+fn put_bounds_of_xy_in(order: Endianness, count: u32, bytes: &[u8], bounds: &mut Bounds)
+    requires { XY_SIZE * count ≤ length bytes.now }
+    ensures { Widens no_bounds bounds.new (λ a. words_in a Xy (coordinates order Xy count bytes.now)) }
+{
+    let mut ranks = AxisRanks::empty();
+    ranks.widen_xy(order, count, bytes);
+    *bounds = ranks.bounds();
+}
+
+/// Puts the bounds of `count` coordinates of x and y, with a loop for each order. It isn't inlined, so that its
+/// counters stay in registers.
+#[inline(never)]
+fn put_bounds_of_xy(order: Endianness, count: u32, bytes: &[u8], bounds: &mut Bounds)
+    requires { XY_SIZE * count ≤ length bytes.now }
+    ensures { Widens no_bounds bounds.new (λ a. words_in a Xy (coordinates order Xy count bytes.now)) }
+{
+    match order {
+        Endianness::BigEndian => {
+            put_bounds_of_xy_in(Endianness::BigEndian, count, bytes, bounds);
+        }
+        Endianness::LittleEndian => {
+            put_bounds_of_xy_in(Endianness::LittleEndian, count, bytes, bounds);
+        }
+    }
+}
+
+/// Puts the bounds of `count` coordinates of any dimension. It isn't inlined, so that others don't pay for its frame.
+#[inline(never)]
+fn put_bounds_of_any(
+    order: Endianness,
+    dimension: Dimension,
+    count: u32,
+    bytes: &[u8],
+    bounds: &mut Bounds,
+)
+    requires { 8 * width dimension * count ≤ length bytes.now }
+    ensures { Widens no_bounds bounds.new (λ a. words_in a dimension (coordinates order dimension count bytes.now)) }
+{
+    let mut ranks = AxisRanks::empty();
+    ranks.widen(order, dimension, count, bytes);
+    *bounds = ranks.bounds();
+}
+
+/// Puts the bounds of a geometry that has coordinates, and so is this piece alone.
+#[inline(always)]
+fn put_bounds_of_piece(buf: &[u8], only: &Piece, bounds: &mut Bounds)
     requires here { HasGeometry buf.now }
     requires only { IsPieceAt buf.now 0 only.now }
     requires low { nat_lt only.now.kind POLYGON ≡ true }
-    ensures { (g : HasGeometry buf.now) → AreBounds result g.value }
+    ensures { (g : HasGeometry buf.now) → AreBounds bounds.new g.value }
 {
     let bytes = rest_from(buf, only.offset);
     if only.count == 1 {
-        return Bounds::of_coordinate(only.order, only.dimension, bytes);
+        *bounds = Bounds::of_coordinate(only.order, only.dimension, bytes);
+        return;
     }
-    let mut ranks = AxisRanks::empty();
-    ranks.widen(only.order, only.dimension, only.count, bytes);
-    ranks.bounds()
+    match only.dimension {
+        Dimension::Xy => put_bounds_of_xy(only.order, only.count, bytes, bounds),
+        dimension => put_bounds_of_any(only.order, dimension, only.count, bytes, bounds),
+    }
 }
 
 /// The first piece of a geometry that has coordinates, and so is this piece alone. `None` for any other geometry: the
@@ -109,7 +161,7 @@ fn put_bounds_found(buf: &[u8], found: &Summary, bounds: &mut Bounds)
     ensures { (g : HasGeometry buf.now) → AreBounds bounds.new g.value }
 {
     match only_piece(buf, found) {
-        Some(only) => *bounds = bounds_of_piece(buf, &only),
+        Some(only) => put_bounds_of_piece(buf, &only, bounds),
         None => put_bounds_of_others(buf, found, bounds),
     }
 }
