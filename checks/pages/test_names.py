@@ -16,8 +16,8 @@ from pages import PAGES, ROOT, files, lines_of, rows_of, spans, texts
 # Words of other programs and of the checker, which no source of ours has to name.
 FOREIGN = set(
     """
-    Cow TryFromIntError to_geo geo_types Unimplemented non_exhaustive num_enum Tie Gone respects_eq UPGRADING HasNo
-    Lts oantt Is LET DIR lifetimes prelude Short MutBor METHOD fix start_io lay_ put_ lifetime sqlite3_interrupt geom::bytea
+    Cow TryFromIntError to_geo geo_types Unimplemented non_exhaustive num_enum Tie Gone respects_eq UPGRADING HasNo Lts
+    oantt Is LET DIR lifetimes prelude Short MutBor METHOD fix start_io lay_ put_ lifetime sqlite3_interrupt geom::bytea
     wkb::geometry df
     """.split()
 )

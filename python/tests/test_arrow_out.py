@@ -7,7 +7,6 @@ import math
 import mmap
 import pickle
 import struct
-import sys
 import threading
 import unittest
 

@@ -7,7 +7,7 @@ import unittest
 
 import porchsorrel_wkb as wkb
 from capsules import Arrow
-from porchsorrel_wkb import Column, Dimension, Kind, Order, Range, Status
+from porchsorrel_wkb import Column, Dimension, Kind, Order, Range
 from samples import BIG_POINT, EMPTY_POINT, LINE, POINT, POINTS, POLYGON, ROWS, STATUSES, geometry
 
 try:

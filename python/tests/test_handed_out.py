@@ -7,7 +7,7 @@ import sys
 import unittest
 
 import porchsorrel_wkb as wkb
-from capsules import RELEASE, Arrow, Lists, Records, address_of
+from capsules import Arrow, Lists, Records, address_of
 from samples import POINT, ROWS
 from porchsorrel_wkb import Column, Dimension, Kind, column_from_coordinates
 

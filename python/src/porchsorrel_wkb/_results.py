@@ -9,7 +9,7 @@ from typing import (
 )
 
 from . import _wkb
-from ._buffers import Numbers, has_numpy, new_numbers, view_of
+from ._buffers import Numbers, new_numbers, view_of
 from ._enums import Dimension, Form, Kind
 from ._export import (
     LISTS, NARROW, NULLABLE, boxes_of, coordinates_of, exported, metadata_of, narrow, records, through, validity_of,
