@@ -60,13 +60,14 @@ class Together(unittest.TestCase):
             self.assertEqual((facts.types, facts.srids, facts.box), ([], set(), wkb.Box(NONE, NONE, NONE, NONE)))
 
     def test_joined(self):
-        """The facts of slices, joined, are those of the column: their types have one order, and -0 is no 0."""
-        ends = struct.pack("<BI2d", 1, 1, -0.0, 0.0), struct.pack("<BI2d", 1, 1, 0.0, -0.0)
+        """The facts of slices, joined, are those of the column: their types have one order, and -0 is below +0."""
+        ends = struct.pack("<BI2d", 1, 1, 0.0, -0.0), struct.pack("<BI2d", 1, 1, -0.0, 0.0)
         rows = [*ROWS, geometry(6, 3), *ends, LINE, EMPTY_POINT, wkb.write(POINT, srid=7), None, geometry(2, 2)]
-        column = Column.of(rows)
-        for count in range(1, len(rows) + 2):
-            joined = wkb.Facts.joined(map(Column.facts, column.split(count)))
-            self.assertEqual((joined, repr(joined.box)), (column.facts(), repr(column.facts().box)))
+        for some in (rows, rows[::-1]):
+            column = Column.of(some)
+            for count in range(1, len(rows) + 2):
+                joined = wkb.Facts.joined(map(Column.facts, column.split(count)))
+                self.assertEqual((joined, repr(joined.box)), (column.facts(), repr(column.facts().box)))
         self.assertEqual(wkb.Facts.joined([]), Column.of([]).facts())
 
     def test_srids(self):

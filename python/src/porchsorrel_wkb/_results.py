@@ -124,10 +124,15 @@ class Facts(NamedTuple):
 
 
 def _joined(ranges: List[Range]) -> Range:
-    """Return the range of all numbers that are in these ranges."""
-    least = min((it.least for it in ranges), default=math.inf)
-    greatest = max((it.greatest for it in ranges), default=-math.inf)
+    """Return the range of all numbers that are in these ranges; -0 is below +0."""
+    least = min((it.least for it in ranges), default=math.inf, key=_signed)
+    greatest = max((it.greatest for it in ranges), default=-math.inf, key=_signed)
     return Range(least, greatest, sum(it.count for it in ranges))
+
+
+def _signed(number: float) -> Tuple[float, float]:
+    """Return a number and its sign, which sort -0 below +0."""
+    return number, math.copysign(1, number)
 
 
 class _Parts(NamedTuple):
