@@ -14,8 +14,10 @@ static PyObject *changed(PyObject *made) {
   return PyErr_Format(PyExc_RuntimeError, "the input has changed during the call");
 }
 
-/* What is at the start of the bytes, or its bounds. */
-static PyObject *read_one(state *s, PyObject *data, int for_bounds) {
+/* What is asked of the bytes: what is at their start, its bounds, or whether it is all of them. */
+typedef enum { WHAT, BOUNDS, WHETHER_WHOLE } question;
+
+static PyObject *read_one(state *s, PyObject *data, question asked) {
   holds h;
   span in;
   wkb_found found;
@@ -24,32 +26,23 @@ static PyObject *read_one(state *s, PyObject *data, int for_bounds) {
   h.count = h.may_change = 0;
   if (hold_input(&h, data, &in) < 0) return NULL;
   PyThreadState *unlocked = unlock(&h, in.size);
-  uint32_t status = for_bounds ? wkb_bounds(in.at, in.size, &box, &fault) : wkb_check(in.at, in.size, &found, &fault);
+  uint32_t status =
+      asked == BOUNDS ? wkb_bounds(in.at, in.size, &box, &fault) : wkb_check(in.at, in.size, &found, &fault);
   lock(unlocked);
-  PyObject *result = status != WKB_STATUS_OK ? refuse(s, status, &fault, 1, in)
-                     : for_bounds            ? box_of(s, &box)
-                                             : geometry_of(s, FOUND, &found);
+  PyObject *result = asked == WHETHER_WHOLE    ? PyBool_FromLong(status == WKB_STATUS_OK && found.size == in.size)
+                     : status != WKB_STATUS_OK ? refuse(s, status, &fault, 1, in)
+                     : asked == BOUNDS         ? box_of(s, &box)
+                                               : geometry_of(s, FOUND, &found);
   let(&h);
   return result;
 }
 
-static PyObject *check(PyObject *module, PyObject *data) { return read_one(state_of(module), data, 0); }
+static PyObject *check(PyObject *module, PyObject *data) { return read_one(state_of(module), data, WHAT); }
 
-static PyObject *bounds(PyObject *module, PyObject *data) { return read_one(state_of(module), data, 1); }
+static PyObject *bounds(PyObject *module, PyObject *data) { return read_one(state_of(module), data, BOUNDS); }
 
-/* Whether the bytes are one geometry, and nothing after it. */
 static PyObject *well_formed(PyObject *module, PyObject *data) {
-  (void)module;
-  holds h;
-  span in;
-  wkb_found found;
-  h.count = h.may_change = 0;
-  if (hold_input(&h, data, &in) < 0) return NULL;
-  PyThreadState *unlocked = unlock(&h, in.size);
-  int is_whole = wkb_check(in.at, in.size, &found, NULL) == WKB_STATUS_OK && found.size == in.size;
-  lock(unlocked);
-  let(&h);
-  return PyBool_FromLong(is_whole);
+  return read_one(state_of(module), data, WHETHER_WHOLE);
 }
 
 /* An encoding that is longer than SMALL, whose size is known. */
