@@ -287,7 +287,7 @@ def collect(
     dimension. The byte orders and SRIDs of rows don't matter. The form and the SRID are as `wkb.write` has them.
 
     Raises `Refused` for the first row that can't be a member, with its index as `row`: its status is NULL_ROW,
-    BAD_OFFSETS or a refusal, whose fault is counted from the row's own front.
+    BAD_OFFSETS or a refusal, whose fault is counted from the start of the row.
     """
     kind, dimension, options = Kind(kind), Dimension(dimension), make_options(order, form, srid)
     if kind < Kind.MULTI_POINT:
