@@ -1,12 +1,12 @@
 //! Ranges on all axes, while they are widened.
 
-ghost use Rattle.std.specs.Prelude.{◌≡◌, ◌*◌, ◌≤◌, length};
+ghost use Rattle.std.specs.Prelude.{◌≡◌, ◌+◌, ◌*◌, ◌≤◌, length, true};
 ghost use Rattle.wkb_geom.specs.declared.common.Dimension.TheVariants.{Xy};
 ghost use Rattle.wkb_geom.specs.Dimensions.{width};
 ghost use Rattle.wkb_geom.specs.Reading.{coordinates};
-ghost use Rattle.wkb_check.specs.Ranges.{CanWiden, WidensRange, AreNumbers};
-ghost use Rattle.wkb_check.specs.Ordinates.{column_words, axis_place, z_axis, m_axis};
-ghost use Rattle.wkb_check.specs.Bounded.{WidensBounds, HasRoom, bounds_by};
+ghost use Rattle.wkb_check.specs.Ranges.{CanWiden, WidensRange, AreNumbers, FollowsNumbers};
+ghost use Rattle.wkb_check.specs.Ordinates.{Axis, column_words, axis_place, z_axis, m_axis};
+ghost use Rattle.wkb_check.specs.Bounded.{WidensBounds, ArePlaneNumbers, HasRoom, bounds_by, on};
 ghost use Rattle.wkb_check.specs.Bounded.{nothing as no_bounds};
 
 use crate::range::{Bounds, Range};
@@ -41,6 +41,8 @@ fn widen_plane_by_numbers(
     requires y { CanWiden y.old size 8 count bytes.now }
     ensures x { AreNumbers x.new → WidensRange x.old x.new (column_words order size 0 count bytes.now) }
     ensures y { AreNumbers y.new → WidensRange y.old y.new (column_words order size 8 count bytes.now) }
+    ensures x_follows { FollowsNumbers x.old count x.new }
+    ensures y_follows { FollowsNumbers y.old count y.new }
 {
     let mut x_ranks = *x;
     let mut y_ranks = *y;
@@ -204,13 +206,35 @@ impl AxisRanks {
         self.m.widen_at(m, order, dimension, count, bytes);
     }
 
-    /// As `widen`, by coordinates of an x and a y. If it is inlined, the order is a constant.
+    /// Widens the ranks by coordinates of an x and a y, as if each word were a number. If it is inlined, the order is a
+    /// constant, and the ranks stay in registers.
     #[inline(always)]
-    pub(crate) fn widen_xy(&mut self, order: Endianness, count: u32, bytes: &[u8])
+    pub(crate) fn widen_xy_by_numbers(&mut self, order: Endianness, count: u32, bytes: &[u8])
+        requires whole { XY_SIZE * count ≤ length bytes.now }
+        requires room { HasRoom (bounds_by self.old) bytes.now }
+        ensures before { ArePlaneNumbers self.new → ArePlaneNumbers self.old }
+        ensures widens { ArePlaneNumbers self.new
+            → WidensBounds self.old self.new Xy (coordinates order Xy count bytes.now) }
+        ensures few { (a : Axis) → (on a (bounds_by self.new)).count ≤ (on a (bounds_by self.old)).count + count }
+    {
+        widen_plane_by_numbers(&mut self.x, &mut self.y, order, XY_SIZE, count, bytes);
+    }
+
+    /// Whether all words of x and y were numbers.
+    #[inline(always)]
+    pub(crate) fn are_plane_numbers(self) -> bool
+        ensures { result ≡ true → ArePlaneNumbers self }
+    {
+        self.x.are_numbers() && self.y.are_numbers()
+    }
+
+    /// As `widen`, by coordinates of an x and a y, with a test of each word.
+    #[inline(always)]
+    pub(crate) fn widen_xy_word_by_word(&mut self, order: Endianness, count: u32, bytes: &[u8])
         requires whole { XY_SIZE * count ≤ length bytes.now }
         requires room { HasRoom (bounds_by self.old) bytes.now }
         ensures { WidensBounds self.old self.new Xy (coordinates order Xy count bytes.now) }
     {
-        widen_plane_in(&mut self.x, &mut self.y, order, XY_SIZE, count, bytes);
+        widen_plane_word_by_word(&mut self.x, &mut self.y, order, XY_SIZE, count, bytes);
     }
 }

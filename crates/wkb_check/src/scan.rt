@@ -20,6 +20,18 @@ use wkb_geom::code::{POLYGON, WkbType};
 use wkb_geom::words::rest_from;
 use wkb_geom::{Dimension, Endianness};
 
+/// Puts the bounds of `count` coordinates of x and y, with a test of each word. It isn't inlined, so that the ranks of
+/// others stay in registers.
+#[inline(never)]
+fn put_bounds_word_by_word(order: Endianness, count: u32, bytes: &[u8], bounds: &mut Bounds)
+    requires { XY_SIZE * count ≤ length bytes.now }
+    ensures { Widens no_bounds bounds.new (λ a. words_in a Xy (coordinates order Xy count bytes.now)) }
+{
+    let mut ranks = AxisRanks::empty();
+    ranks.widen_xy_word_by_word(order, count, bytes);
+    *bounds = ranks.bounds();
+}
+
 /// Puts the bounds of `count` coordinates of x and y in an order that is a constant if this is inlined.
 #[inline(always)]
 fn put_bounds_of_xy_in(order: Endianness, count: u32, bytes: &[u8], bounds: &mut Bounds)
@@ -27,7 +39,11 @@ fn put_bounds_of_xy_in(order: Endianness, count: u32, bytes: &[u8], bounds: &mut
     ensures { Widens no_bounds bounds.new (λ a. words_in a Xy (coordinates order Xy count bytes.now)) }
 {
     let mut ranks = AxisRanks::empty();
-    ranks.widen_xy(order, count, bytes);
+    ranks.widen_xy_by_numbers(order, count, bytes);
+    if !ranks.are_plane_numbers() {
+        put_bounds_word_by_word(order, count, bytes, bounds);
+        return;
+    }
     *bounds = ranks.bounds();
 }
 
@@ -116,7 +132,11 @@ fn put_bounds_of_rings_in(buf: &[u8], order: Endianness, srid: Option<u32>, boun
     let mut pieces = Pieces::behind(buf, &first);
     while let Some(ring) = pieces.next_if_ring() {
         let bytes = rest_from(buf, ring.offset);
-        ranks.widen_xy(order, ring.count, bytes);
+        ranks.widen_xy_by_numbers(order, ring.count, bytes);
+    }
+    if !ranks.are_plane_numbers() {
+        put_bounds_of_front(buf, bounds);
+        return;
     }
     *bounds = ranks.bounds();
 }
@@ -167,6 +187,7 @@ fn put_bounds_found(buf: &[u8], found: &Summary, bounds: &mut Bounds)
 }
 
 /// Puts the bounds of the geometry at the start of the bytes, which is known to be there.
+#[inline(never)]
 fn put_bounds_of_front(buf: &[u8], bounds: &mut Bounds)
     requires here { HasGeometry buf.now }
     ensures { (g : HasGeometry buf.now) → AreBounds bounds.new g.value }

@@ -1,4 +1,4 @@
-use Rattle.wkb_check.specs.Ranges.{widened, range_by}
+use Rattle.wkb_check.specs.Ranges.{widened, range_by, FollowsNumbers}
 use Rattle.wkb_check.specs.Ordinates.{column_words}
 use Rattle.wkb_check.proofs.Widening.{NumbersLeft}
 use Rattle.wkb_check.proofs.axes.widen_plane_by_numbers.Given as goal
@@ -9,4 +9,6 @@ invariant-loop l = record {
       (widened (range_by l.initial.x) (column_words l.order l.size 0 l.count l.bytes));
   y_left : NumbersLeft l.order l.size 8 l.count l.counter l.rest l.y_ranks
       (widened (range_by l.initial.y) (column_words l.order l.size 8 l.count l.bytes));
+  x_follows : FollowsNumbers l.initial.x l.counter l.x_ranks;
+  y_follows : FollowsNumbers l.initial.y l.counter l.y_ranks;
 }

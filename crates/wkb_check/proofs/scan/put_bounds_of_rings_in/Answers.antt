@@ -1,12 +1,11 @@
 use Rattle.std.proofs.Common.{◌*◌, length, ap, sym, ◌∙◌, subst, arith, nat_lt}
 use Rattle.wkb_geom.specs.Dimensions.{width}
-use Rattle.wkb_geom.specs.declared.common.Dimension.TheVariants.{Xy}
 use Rattle.wkb_check.specs.Bounded.{on, bounds_by, AreBounds}
 use Rattle.wkb_check.specs.Ranges.{widened}
 use Rattle.wkb_check.proofs.Ahead.{piece_by}
 use Rattle.wkb_check.proofs.Following.{ring_of, rings_after}
-use Rattle.wkb_check.proofs.Widening.{counts_more}
-use Rattle.wkb_check.proofs.Words.{first_passed, one_passed, all_passed, ring_words, leaf_end, none_counted}
+use Rattle.wkb_check.proofs.Words.{first_of_numbers, ring_of_numbers, all_of_numbers, ring_words, leaf_end}
+use Rattle.wkb_check.proofs.Words.{none_counted}
 use Rattle.wkb_check.proofs.scan.put_bounds_of_rings_in.Goals as goal
 
 pub loop-ring-init : goal.loop-ring-init
@@ -17,7 +16,7 @@ loop-ring-init c =
     let rings = behind.rings first.kind_is in
     record {
       so_far = λ g.
-          first_passed g (behind.steps g) (ap (λ k. nat_lt k 3) first.kind_is) c.empty-ranks.ensures;
+          first_of_numbers g (behind.steps g) (ap (λ k. nat_lt k 3) first.kind_is) c.empty-ranks.ensures;
       rings = record {
         order_is = rings.order_is ∙ first.order_is;
         dimension_is = rings.dimension_is ∙ first.dimension_is;
@@ -30,7 +29,7 @@ loop-ring-init c =
 
 pub next_if_ring-requires-clause-ahead : goal.next_if_ring-requires-clause-ahead
 next_if_ring-requires-clause-ahead c =
-    let x = c.loop-ring.invariant.so_far c.requires.here in
+    let x = (c.loop-ring.invariant.so_far c.requires.here).so_far in
     record { pieces = x.left; are = x.ahead }
 
 pub loop-ring-preserved : goal.loop-ring-preserved
@@ -42,18 +41,18 @@ loop-ring-preserved c =
     let low = ap (λ k. nat_lt k 3) ring.kind_is in
     record {
       so_far = λ g.
-          one_passed (l.so_far g) s
-          (λ a.
-          c.widen_xy.ensures a
-          ∙ rw (c.rest_from-bytes.ensures) (ap (widened (on a (bounds_by c.loop-ring.ranks))) (sym (ring_words a c.args.buf.now p ring))));
+          ring_of_numbers (l.so_far g) s c.widen_xy_by_numbers.ensures.before
+          (λ n a.
+          c.widen_xy_by_numbers.ensures.widens n a
+          ∙ rw c.rest_from-bytes.ensures
+          (ap (widened (on a (bounds_by c.loop-ring.ranks))) (sym (ring_words a c.args.buf.now p ring))));
       rings = rings_after l.rings c.next_if_ring.ensures.rings;
       same = s.same ∙ l.same;
       few = λ a.
           omega (
             arith,
             l.few a,
-            counts_more c.args.order Xy p.count c.rest_from-bytes.result.now (bounds_by c.loop-ring.ranks)
-                (bounds_by c.widen_xy.new.self) a c.widen_xy.ensures,
+            c.widen_xy_by_numbers.ensures.few a,
             s.inside.begins,
             s.inside.ends,
             leaf_end p low,
@@ -65,4 +64,5 @@ loop-ring-preserved c =
 pub returns : goal.returns
 returns c = λ g.
     subst (λ b. AreBounds b g.value) (sym c.bounds.ensures)
-    (all_passed (c.loop-ring.invariant.so_far g) c.in_default.is c.next_if_ring.ensures.steps)
+    (all_of_numbers (c.loop-ring.invariant.so_far g) c.in_default.is c.next_if_ring.ensures.steps
+    (c.are_plane_numbers.ensures c.if-not-are_plane_numbers.false))

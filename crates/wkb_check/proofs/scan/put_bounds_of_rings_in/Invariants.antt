@@ -3,7 +3,7 @@ use Rattle.wkb_geom.specs.declared.common.Dimension.TheVariants.{Xy}
 use Rattle.wkb_check.specs.Bounded.{on, bounds_by, HasGeometry}
 use Rattle.wkb_check.specs.Ordinates.{Axis}
 use Rattle.wkb_check.specs.Pieces.{AreRings, bytes_left}
-use Rattle.wkb_check.proofs.Words.{WidenedSoFar}
+use Rattle.wkb_check.proofs.Words.{NumbersSoFar}
 use Rattle.wkb_check.proofs.scan.put_bounds_of_rings_in.Given as goal
 
 abbrev pub decreases-loop-ring : goal.decreases-loop-ring
@@ -11,7 +11,7 @@ decreases-loop-ring l = bytes_left l.pieces
 
 abbrev pub invariant-loop-ring : goal.invariant-loop-ring
 invariant-loop-ring l = record {
-  so_far : (g : HasGeometry l.buf) → WidenedSoFar l.buf l.pieces (bounds_by l.ranks) g;
+  so_far : (g : HasGeometry l.buf) → NumbersSoFar l.buf l.pieces l.ranks g;
   rings : AreRings l.order Xy l.pieces;
   same : l.pieces.bytes.now ≡ l.buf;
   few : (a : Axis) → (on a (bounds_by l.ranks)).count ≤ l.pieces.at;

@@ -4,23 +4,23 @@ use Rattle.wkb_geom.specs.declared.common.Dimension.TheVariants.{Xy}
 use Rattle.wkb_check.specs.Ranges.{widened, range_by}
 use Rattle.wkb_check.specs.Ordinates.{x_axis, y_axis, z_axis, m_axis}
 use Rattle.wkb_check.proofs.Widening.{can_widen, ordinates_are, no_ordinates}
-use Rattle.wkb_check.proofs.axes.AxisRanks.widen_xy.Goals as goal
+use Rattle.wkb_check.proofs.axes.AxisRanks.widen_xy_word_by_word.Goals as goal
 
-pub widen_plane_in-requires-clause-x : goal.widen_plane_in-requires-clause-x
-widen_plane_in-requires-clause-x c =
+pub widen_plane_word_by_word-requires-clause-x : goal.widen_plane_word_by_word-requires-clause-x
+widen_plane_word_by_word-requires-clause-x c =
     can_widen Xy 0 (omega arith) refl c.requires.whole (c.requires.room x_axis)
 
-pub widen_plane_in-requires-clause-y : goal.widen_plane_in-requires-clause-y
-widen_plane_in-requires-clause-y c =
+pub widen_plane_word_by_word-requires-clause-y : goal.widen_plane_word_by_word-requires-clause-y
+widen_plane_word_by_word-requires-clause-y c =
     can_widen Xy 1 (omega arith) refl c.requires.whole (c.requires.room y_axis)
 
 pub returns : goal.returns
 returns c x_axis =
-    c.widen_plane_in.ensures.x
+    c.widen_plane_word_by_word.ensures.x
     ∙ ap (widened (range_by c.args.self.now.x)) (ordinates_are c.args.order Xy 16 (Some 0) 0 c.args.count
     c.args.bytes.now refl (omega arith) refl)
 returns c y_axis =
-    c.widen_plane_in.ensures.y
+    c.widen_plane_word_by_word.ensures.y
     ∙ ap (widened (range_by c.args.self.now.y)) (ordinates_are c.args.order Xy 16 (Some 1) 1 c.args.count
     c.args.bytes.now refl (omega arith) refl)
 returns c z_axis =
