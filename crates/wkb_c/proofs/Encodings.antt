@@ -16,15 +16,16 @@ use Rattle.wkb_sink.specs.declared.options.WriteOptions.{WriteOptions}
 use Rattle.wkb_c.specs.Columns.{IsRow}
 use Rattle.wkb_c.specs.declared.column.Column.{Column}
 use Rattle.wkb_c.specs.Requests.{IsRequested, request_of, options_for}
-use Rattle.wkb_c.specs.RowItems.{IsRowStep, RowHas, RowFails}
+use Rattle.wkb_c.specs.RowItems.{IsRowStep, RowHas, RowFails, nothing, fails}
 use Rattle.wkb_c.specs.Writings.{WritesRequested, WritesAsked, meant, meaningless, Encodes, HasEncoding, FailsToWrite}
+use Rattle.wkb_c.specs.Writings.{WritesAny, accepted, rejected, unknown, refused}
 use Rattle.wkb_c.specs.Statuses.{IsStatusOfWriting, does, lacks_room as short_of_room}
 use Rattle.wkb_c.specs.declared.options.Options.{Options}
 use Rattle.wkb_c.specs.declared.options.Request.{Request}
 use Rattle.wkb_c.specs.declared.options.Request.TheVariants.{Encoding, OwnSrid}
 use Rattle.wkb_c.specs.declared.status.TheConstants.{OK, NO_ROOM, UNKNOWN_OPTION}
 use Rattle.wkb_c.specs.declared.fault.WkbFault.{WkbFault}
-use Rattle.wkb_c.proofs.RowItems.{IsLent, called_step}
+use Rattle.wkb_c.proofs.RowItems.{IsLent, called_step, unchanged}
 
 -- an encoding has a first byte
 pub some_encoding : (order : Endianness) (form : Form) (g : Geometry) → 0 < length (encoding order form g)
@@ -120,6 +121,23 @@ module _ {c : Column} {i start status count : ℕ} {before lent sub after : List
       let h = w.no_room told in
       (h.encoding, (row_encoding row is o request asked h.encoding h.is_requested, h.lacks)))
       w.out_kept w.known
+
+-- the step of a row that has these bytes
+module _ {c : Column} {i start status size count : ℕ} {before lent sub after : List ℕ} (row : List ℕ) (is : IsRow c i row)
+    (o : Options) (none : size ≡ 0) where
+  pub asked_step : WritesAsked o row lent sub status size count
+      → (length sub ≡ length lent → IsLent start before lent sub after)
+      → IsRowStep (RowHas (HasEncoding o) c) (RowFails (FailsToWrite o) c) i status count start before after
+  asked_step (meant request asked w) l = write_step row is o request asked (l w.long) w
+  asked_step (meaningless asked told same size_is) l =
+      nothing (fails row is (unknown asked told)) (size_is ∙ none) (unchanged (l (ap length same)) same)
+
+  pub any_step : WritesAny o row lent sub status size count
+      → (length sub ≡ length lent → IsLent start before lent sub after)
+      → IsRowStep (RowHas (HasEncoding o) c) (RowFails (FailsToWrite o) c) i status count start before after
+  any_step (accepted w) l = asked_step w l
+  any_step (rejected some why same size_is) l =
+      nothing (fails row is (refused some why.0 why.1)) (size_is ∙ none) (unchanged (l (ap length same)) same)
 
 few_told : {status : ℕ} → (status ≡ OK) ⊎ (status ≡ NO_ROOM) → status ≤ 2
 few_told (inl e) = omega (arith, e)

@@ -11,7 +11,9 @@ use Rattle.wkb_check.specs.declared.answer.Summary.{Summary}
 use Rattle.wkb_c.specs.Columns.{IsRow}
 use Rattle.wkb_c.specs.declared.column.Column.{Column}
 use Rattle.wkb_c.specs.Coordinates.{LevelLists, HasRoomUpTo, LevelsSuffice, written, no_room, LacksCoordinates}
-use Rattle.wkb_c.specs.Coordinates.{IsCoordinatesRow, HasCoordinates, handed, failed}
+use Rattle.wkb_c.specs.Coordinates.{IsCoordinatesRow, HasCoordinates, handed, failed, refused}
+use Rattle.wkb_c.specs.LevelLists.{PutsAny, PutsRow, accepted, rejected}
+use Rattle.wkb_c.specs.declared.coordinates.LevelSlices.{LevelSlices}
 use Rattle.wkb_c.specs.Coordinates.{totals_after, with_levels, ring_counts, single_counts, ends, asked_subject_words}
 use Rattle.wkb_c.specs.declared.coordinates.Totals.{Totals}
 use Rattle.wkb_c.specs.declared.status.TheConstants.{NO_ROOM}
@@ -34,6 +36,15 @@ has_coordinates row is asked_is found d = record {
   front = d.front;
   are = refl;
 }
+
+-- what becomes of a row that has these bytes
+pub any_put : {c : Column} {dimension i status : ℕ} {asked : Dimension} {row : List ℕ} {from to : Totals}
+    {before after : LevelSlices} → IsRow c i row → dimension_of_thousands dimension ≡ Some asked
+    → PutsAny asked row status from to before after → PutsRow c dimension i status from to before after
+any_put {asked = asked} {row = row} is asked_is (accepted found d put) =
+    handed asked (subjects d.spelled d.value) (has_coordinates row is asked_is found d) (put d)
+any_put {asked = asked} {row = row} is asked_is (rejected why stays same) =
+    failed (refused row asked is asked_is why) stays same
 
 -- lists are as long as others
 pub record AreAsLong (a b : LevelLists) : Type 0 where

@@ -251,7 +251,7 @@ lent_rest xs sub at at_is long =
     }
 
 module _ {A : Type 0} {start : ℕ} {before lent sub after : List A} (l : IsLent start before lent sub after) where
-  unchanged : sub ≡ lent → after ≡ before
+  pub unchanged : sub ≡ lent → after ≡ before
   unchanged same =
       l.after_is ∙ ap (λ z. take l.at before ++ z) (same ∙ l.lent_is) ∙ take-append-drop l.at before
 

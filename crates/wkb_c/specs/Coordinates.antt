@@ -1,7 +1,7 @@
 -- The coordinates of a column's rows, in levels (GeoArrow: a geometry has parts, a part has rings, a ring has
 -- coordinates). A single is a point, a line string or a polygon; a point and a line string are one ring.
 use Rattle.std.specs.Prelude.{◌≡◌, ℕ, zero, suc, ◌+◌, ◌*◌, ◌≤◌, List, [], ◌∷◌, length, sum, flat_map}
-use Rattle.std.specs.Prelude.{Option, Some, None, ◌==◌, if◌then◌else◌, slice_index}
+use Rattle.std.specs.Prelude.{Some, None, slice_index}
 use lib.Seq.{sets}
 use Rattle.wkb_geom.specs.Codes.{dimension_of_thousands}
 use Rattle.wkb_geom.specs.declared.common.Dimension.{Dimension}

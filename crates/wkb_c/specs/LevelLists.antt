@@ -8,6 +8,7 @@ use Rattle.wkb_c.specs.Coordinates.{LevelLists, levels, HasRoomUpTo, totals_afte
 use Rattle.wkb_c.specs.Coordinates.{ArePut, AreColumnCoordinates, LevelsSuffice}
 use Rattle.wkb_c.specs.RowItems.{rows_of}
 use Rattle.wkb_check.specs.Subjects.{subjects}
+use Rattle.wkb_c.specs.Columns.{IsRefusedWith}
 use Rattle.wkb_c.specs.declared.column.Column.{Column}
 use Rattle.wkb_c.specs.declared.coordinates.LevelSlices.{LevelSlices}
 use Rattle.wkb_c.specs.declared.coordinates.Totals.{Totals}
@@ -37,6 +38,14 @@ abbrev pub PutsFound : Dimension → List ℕ → Summary → ℕ → Totals →
 PutsFound asked row found status from to before after =
     (d : DescribesFront row found)
     → ArePut asked (subjects d.spelled d.value) status from to (levels_of before) (levels_of after)
+
+-- the status of a row with any bytes, where its levels begin and end, and what becomes of the slices
+pub data PutsAny (asked : Dimension) (row : List ℕ) (status : ℕ) (from to : Totals) (before after : LevelSlices) : Type 0
+  where
+    accepted : (found : Summary) → DescribesFront row found → PutsFound asked row found status from to before after
+        → PutsAny asked row status from to before after
+    rejected : IsRefusedWith row status → to ≡ from → levels_of after ≡ levels_of before
+        → PutsAny asked row status from to before after
 
 -- the status of row i, where its levels begin and end, and what becomes of the slices
 abbrev pub PutsRow : Column → ℕ → ℕ → ℕ → Totals → Totals → LevelSlices → LevelSlices → Type 0

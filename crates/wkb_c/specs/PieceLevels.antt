@@ -51,6 +51,10 @@ AreInside row own p = p.offset + 8 * width own * p.count ≤ length row
 abbrev pub IsRingInside : List ℕ → Piece → Type 0
 IsRingInside row p = IsTrue (nat_lt p.kind POLYGON) → AreInside row p.dimension p
 
+-- the words that are asked for of so many coordinates, read in this order and dimension
+abbrev pub words_from : Dimension → Endianness → Dimension → ℕ → List ℕ → List ℕ
+words_from asked order own count bytes = flat_map (words_asked asked own) (coordinates order own count bytes)
+
 -- the coordinates of a piece in the row, read in this order and dimension
 abbrev pub coordinates_as : Endianness → Dimension → List ℕ → Piece → List (List ℕ)
 coordinates_as order own row p = coordinates order own p.count (drop p.offset row)
@@ -59,13 +63,9 @@ coordinates_as order own row p = coordinates order own p.count (drop p.offset ro
 abbrev pub words_read : Dimension → Endianness → Dimension → List ℕ → ℕ → List ℕ
 words_read asked order own row from = words_asked asked own (coordinate order own (drop from row))
 
--- the words that are asked for of these
-abbrev pub words_as : Dimension → Endianness → Dimension → List ℕ → Piece → List ℕ
-words_as asked order own row p = flat_map (words_asked asked own) (coordinates_as order own row p)
-
 -- the words that the dimension names, read in the order and dimension of the piece
 abbrev pub words_asked_of : Dimension → List ℕ → Piece → List ℕ
-words_asked_of asked row p = words_as asked p.order p.dimension row p
+words_asked_of asked row p = words_from asked p.order p.dimension p.count (drop p.offset row)
 
 -- the coordinates of a piece, if it has some
 abbrev pub piece_coordinates : List ℕ → Piece → List (List ℕ)

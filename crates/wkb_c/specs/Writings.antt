@@ -5,6 +5,7 @@ use Rattle.wkb_c.specs.declared.options.Options.{Options}
 use Rattle.wkb_c.specs.declared.options.Request.{Request}
 use Rattle.wkb_c.specs.declared.fault.WkbFault.{WkbFault}
 use Rattle.wkb_c.specs.declared.status.TheConstants.{OK, NO_ROOM, UNKNOWN_OPTION}
+use Rattle.wkb_c.specs.Columns.{IsRefusedWith}
 use Rattle.wkb_c.specs.Requests.{request_of, IsRequested}
 use Rattle.wkb_c.specs.Classes.{IsRefusalStatus, IsNoRefusal}
 use Rattle.wkb_c.specs.Statuses.{IsFault, IsStatusOfWriting}
@@ -51,6 +52,12 @@ pub data WritesAsked (o : Options) (input before after : List ℕ) (status size 
       → WritesAsked o input before after status size size'
   meaningless : request_of o ≡ None → status ≡ UNKNOWN_OPTION → after ≡ before → size' ≡ size
       → WritesAsked o input before after status size size'
+
+-- The effect of options on any bytes: that on the geometry at their start, or the status of their refusal.
+pub data WritesAny (o : Options) (input before after : List ℕ) (status size size' : ℕ) : Type 0 where
+  accepted : WritesAsked o input before after status size size' → WritesAny o input before after status size size'
+  rejected : request_of o ≢ None → IsRefusedWith input status → after ≡ before → size' ≡ size
+      → WritesAny o input before after status size size'
 
 -- what a call does that writes the encoding that the options ask for
 pub record Encodes (o : Options) (input before after : List ℕ) (size size' : ℕ) (fault fault' : WkbFault)

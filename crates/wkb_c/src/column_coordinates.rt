@@ -3,15 +3,18 @@
 ghost use Rattle.std.specs.Prelude.{◌≡◌, ◌+◌, ◌<◌, ◌^◌, length};
 ghost use Rattle.wkb_c.specs.Classes.{FitsByte};
 ghost use Rattle.wkb_c.specs.Columns.{Reach};
+ghost use Rattle.wkb_geom.specs.Reading.{type_kind};
+ghost use Rattle.wkb_geom.specs.declared.code.TheConstants.{POLYGON};
 ghost use Rattle.wkb_check.specs.Public.{DescribesFront};
-ghost use Rattle.wkb_c.specs.LevelLists.{PutsFound, PutsRow, AreLevels, TotalsSuffice, AreSameSlices};
+ghost use Rattle.wkb_c.specs.LevelLists.{PutsFound, PutsAny, PutsRow, AreLevels, TotalsSuffice, AreSameSlices};
 ghost use Rattle.wkb_c.specs.RowItems.{KeepsFrom, rows_of};
 
 use crate::column::{Column, check_row};
-use crate::coordinates::{LevelSlices, Totals, has_room, put_levels};
+use crate::coordinates::{LevelSlices, Totals, has_room, put_levels, put_rings};
 use crate::status::{NO_ROOM, OK, UNKNOWN_OPTION};
 use wkb_check::{Piece, Summary, check_plain};
 use wkb_geom::Dimension;
+use wkb_geom::code::WkbType;
 
 /// Writes the levels of a row in which the check found this from the totals on, and moves the totals to their end.
 /// Without room it only moves the totals. Returns the row's status.
@@ -38,6 +41,92 @@ fn put_found(
     OK
 }
 
+/// As `put_found`, for any kind. It isn't inlined, so that the frames around the check of a row stay small.
+#[inline(never)]
+fn put_others(
+    row: &[u8],
+    found: &Summary,
+    asked: Dimension,
+    at: &mut Totals,
+    out: &mut LevelSlices<'_>,
+) -> u32
+    requires { DescribesFront row.now found.now }
+    ensures put { PutsFound asked row.now found.now result at.old at.new out.old out.new }
+    ensures same_slices { AreSameSlices out.old out.new }
+    ensures known { FitsByte result }
+{
+    put_found(row, found, asked, at, out)
+}
+
+/// As `put_found`, of a polygon. It isn't inlined, so that others don't pay for its frame.
+#[inline(never)]
+fn put_polygon_found(
+    row: &[u8],
+    found: &Summary,
+    asked: Dimension,
+    at: &mut Totals,
+    out: &mut LevelSlices<'_>,
+) -> u32
+    requires found { DescribesFront row.now found.now }
+    requires polygon { type_kind found.now.wkb_type ≡ POLYGON }
+    ensures put { PutsFound asked row.now found.now result at.old at.new out.old out.new }
+    ensures same_slices { AreSameSlices out.old out.new }
+    ensures known { FitsByte result }
+{
+    let first = Piece::polygon(row, found);
+    let from = *at;
+    *at = from.after(row, found, &first);
+    if !has_room(at, asked, out) {
+        return NO_ROOM;
+    }
+    put_rings(row, &first, from, asked, out);
+    OK
+}
+
+/// As `put_found`, with the kind known in each arm.
+#[inline(always)]
+fn put_by_kind(
+    row: &[u8],
+    found: &Summary,
+    asked: Dimension,
+    at: &mut Totals,
+    out: &mut LevelSlices<'_>,
+) -> u32
+    requires { DescribesFront row.now found.now }
+    ensures put { PutsFound asked row.now found.now result at.old at.new out.old out.new }
+    ensures same_slices { AreSameSlices out.old out.new }
+    ensures known { FitsByte result }
+{
+    match found.wkb_type {
+        WkbType::Point(_) => put_found(row, found, asked, at, out),
+        WkbType::LineString(_) => put_found(row, found, asked, at, out),
+        // Copies, so that the findings on points and line strings need no place in memory.
+        WkbType::Polygon(_) => {
+            let own = *found;
+            put_polygon_found(row, &own, asked, at, out)
+        }
+        _ => {
+            let own = *found;
+            put_others(row, &own, asked, at, out)
+        }
+    }
+}
+
+/// Writes the levels of a row by the long way, which collections and rejected rows need.
+///
+/// It isn't inlined, so that other rows don't pay for its frame.
+#[inline(never)]
+fn put_any(row: &[u8], asked: Dimension, at: &mut Totals, out: &mut LevelSlices<'_>) -> u32
+    ensures put { PutsAny asked row.now result at.old at.new out.old out.new }
+    ensures same_slices { AreSameSlices out.old out.new }
+    ensures known { FitsByte result }
+{
+    match check_row(row) {
+        Ok(found) => put_others(row, &found, asked, at, out),
+        Err(status) => status,
+    }
+}
+
 /// Writes the levels of row i from the totals on, and moves the totals to their end. Without room it only moves the
 /// totals. Returns the row's status.
 fn put_row(
@@ -62,12 +151,9 @@ fn put_row(
     let Some(asked) = Dimension::of_thousands(dimension) else {
         return UNKNOWN_OPTION;
     };
-    if let Some(found) = check_plain(row) {
-        return put_found(row, &found, asked, at, out);
-    }
-    match check_row(row) {
-        Ok(found) => put_found(row, &found, asked, at, out),
-        Err(status) => status,
+    match check_plain(row) {
+        Some(found) => put_by_kind(row, &found, asked, at, out),
+        None => put_any(row, asked, at, out),
     }
 }
 

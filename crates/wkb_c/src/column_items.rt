@@ -3,11 +3,12 @@
 ghost use Rattle.std.specs.Prelude.{◌≡◌, ◌+◌, ◌<◌, ◌^◌, length};
 ghost use Rattle.wkb_c.specs.Classes.{FitsByte};
 ghost use Rattle.wkb_c.specs.Columns.{Reach};
+ghost use Rattle.wkb_c.specs.Writings.{WritesAny};
 ghost use Rattle.wkb_c.specs.RowItems.{rows_of, AreTables, AreEncodings, IsTableStep, IsEncodingStep};
 ghost use Rattle.wkb_c.specs.RowItems.{KeepsRest, KeepsFrom, LastEndSuffices};
 
 use crate::column::{Column, check_row};
-use crate::encoding::write_requested;
+use crate::encoding::{write_others, write_plain};
 use crate::options::{Options, request_of};
 use crate::parts::list_parts;
 use crate::status::UNKNOWN_OPTION;
@@ -45,6 +46,24 @@ fn list_row(
     (status, count)
 }
 
+/// Writes the encoding of a row by the long way, which collections and rejected rows need. Options that mean nothing are
+/// reported whatever the row is.
+///
+/// It isn't inlined, so that other rows don't pay for its frame.
+#[inline(never)]
+fn write_any_row(row: &[u8], options: &Options, out: &mut [u8], size: &mut u64) -> u32
+    ensures writes { WritesAny options.now row.now out.old out.new result size.old size.new }
+    ensures known { FitsByte result }
+{
+    if request_of(options).is_none() {
+        return UNKNOWN_OPTION;
+    }
+    match check_row(row) {
+        Ok(found) => write_others(row, &found, options, out, size),
+        Err(status) => status,
+    }
+}
+
 /// Writes the encoding of row i from an index on. Returns its status, and how long its encoding is.
 fn write_wkb_row(
     column: &Column,
@@ -64,20 +83,13 @@ fn write_wkb_row(
         Ok(row) => row,
         Err(status) => return (status, 0),
     };
-    let Some(request) = request_of(options) else {
-        return (UNKNOWN_OPTION, 0);
-    };
     let at = start.min(out.len() as u64) as usize;
     let mut size = 0;
     if let Some(plain) = check_plain(row) {
-        let status = write_requested(row, &plain, request, &mut out[at..], &mut size);
+        let status = write_plain(row, &plain, options, &mut out[at..], &mut size);
         return (status, size);
     }
-    let found = match check_row(row) {
-        Ok(found) => found,
-        Err(status) => return (status, 0),
-    };
-    let status = write_requested(row, &found, request, &mut out[at..], &mut size);
+    let status = write_any_row(row, options, &mut out[at..], &mut size);
     (status, size)
 }
 

@@ -12,7 +12,7 @@ ghost use Rattle.wkb_check.specs.Public.{DescribesFront};
 ghost use Rattle.wkb_c.specs.Coordinates.{z_of, m_of, HasRoomUpTo};
 ghost use Rattle.wkb_c.specs.Coordinates.{totals_after};
 ghost use Rattle.wkb_c.specs.LevelLists.{levels_of, AreSameSlices, HasRoomFor, PutsLevels};
-ghost use Rattle.wkb_c.specs.PieceLevels.{ring_sizes, single_sizes, AreInside, IsRingInside, words_read, words_as};
+ghost use Rattle.wkb_c.specs.PieceLevels.{ring_sizes, single_sizes, AreInside, IsRingInside, words_read, words_from};
 ghost use Rattle.wkb_c.specs.PieceLevels.{words_asked_of, with_words, with_ring_end, with_single_end};
 ghost use Rattle.wkb_c.specs.PieceLevels.{coordinates_with, AreTotalsWith, ring_number, single_number, AreTotalsOf};
 ghost use Rattle.wkb_c.specs.PieceLevels.{PieceFits, PutsPiece};
@@ -21,7 +21,7 @@ ghost use Rattle.wkb_check.specs.Subjects.{subjects};
 
 use wkb_check::{Piece, Pieces, RING, Summary};
 use wkb_geom::code::{GEOMETRY_COLLECTION, MULTI_POINT, MULTI_POLYGON, POLYGON};
-use wkb_geom::words::{EMPTY_WORD, WORD_SIZE, u64_at};
+use wkb_geom::words::{EMPTY_WORD, WORD_SIZE, rest_from, u64_at};
 use wkb_geom::{Dimension, Endianness};
 
 /// How many coordinates, rings and singles some rows have.
@@ -102,44 +102,98 @@ fn put_coordinate(
     }
 }
 
-/// Writes the words that are asked for of the coordinates of a piece, which have this order and dimension.
+/// Writes the words that are asked for of `count` coordinates, which have this order and dimension.
 #[inline(always)]
 fn put_ordered(
-    row: &[u8],
-    piece: &Piece,
+    bytes: &[u8],
+    count: u32,
     order: Endianness,
     own: Dimension,
     asked: Dimension,
     out: &mut [u64],
     start: usize,
 )
-    requires inside { AreInside row.now own piece.now }
-    requires room { start + width asked * piece.now.count ≤ length out.old }
-    ensures { out.new ≡ sets out.old start (words_as asked order own row.now piece.now) }
+    requires inside { 8 * width own * count ≤ length bytes.now }
+    requires room { start + width asked * count ≤ length out.old }
+    ensures { out.new ≡ sets out.old start (words_from asked order own count bytes.now) }
 {
-    let mut from = piece.offset;
+    let mut from = 0;
     let mut at = start;
-    for _ in 0..piece.count {
-        put_coordinate(row, from, order, own, asked, out, at);
+    for _ in 0..count {
+        put_coordinate(bytes, from, order, own, asked, out, at);
         from += own.coordinate_size();
         at += asked.width();
     }
 }
 
-/// Writes the words that are asked for of the coordinates of a piece. The order is a constant in each loop, and where x
-/// and y alone are there and asked for, the dimensions are, too.
+/// As `put_many_coordinates`, of one coordinate. It is inlined, so that a point takes no call.
+#[inline(always)]
+fn put_one_coordinate(
+    bytes: &[u8],
+    order: Endianness,
+    own: Dimension,
+    asked: Dimension,
+    out: &mut [u64],
+    start: usize,
+)
+    requires inside { 8 * width own ≤ length bytes.now }
+    requires room { start + width asked ≤ length out.old }
+    ensures { out.new ≡ sets out.old start (words_from asked order own 1 bytes.now) }
+{
+    use Endianness::{BigEndian, LittleEndian};
+    match order {
+        LittleEndian => put_ordered(bytes, 1, LittleEndian, own, asked, out, start),
+        BigEndian => put_ordered(bytes, 1, BigEndian, own, asked, out, start),
+    }
+}
+
+/// Writes the words that are asked for of `count` coordinates. The order is a constant in each loop, and where x and y
+/// alone are there and asked for, the dimensions are, too. It takes scalars, so that its callers need no piece in
+/// memory.
+#[inline(never)]
+fn put_many_coordinates(
+    bytes: &[u8],
+    count: u32,
+    order: Endianness,
+    own: Dimension,
+    asked: Dimension,
+    out: &mut [u64],
+    start: usize,
+)
+    requires inside { 8 * width own * count ≤ length bytes.now }
+    requires room { start + width asked * count ≤ length out.old }
+    ensures { out.new ≡ sets out.old start (words_from asked order own count bytes.now) }
+{
+    use Dimension::Xy;
+    use Endianness::{BigEndian, LittleEndian};
+    match (order, own, asked) {
+        (LittleEndian, Xy, Xy) => put_ordered(bytes, count, LittleEndian, Xy, Xy, out, start),
+        (BigEndian, Xy, Xy) => put_ordered(bytes, count, BigEndian, Xy, Xy, out, start),
+        (LittleEndian, _, _) => put_ordered(bytes, count, LittleEndian, own, asked, out, start),
+        (BigEndian, _, _) => put_ordered(bytes, count, BigEndian, own, asked, out, start),
+    }
+}
+
+/// Writes the words that are asked for of the coordinates of a piece.
+#[inline(always)]
 fn put_piece_coordinates(row: &[u8], piece: &Piece, asked: Dimension, out: &mut [u64], start: usize)
     requires inside { AreInside row.now piece.now.dimension piece.now }
     requires room { start + width asked * piece.now.count ≤ length out.old }
     ensures { out.new ≡ sets out.old start (words_asked_of asked row.now piece.now) }
 {
-    use Dimension::Xy;
-    use Endianness::{BigEndian, LittleEndian};
-    match (piece.order, piece.dimension, asked) {
-        (LittleEndian, Xy, Xy) => put_ordered(row, piece, LittleEndian, Xy, Xy, out, start),
-        (BigEndian, Xy, Xy) => put_ordered(row, piece, BigEndian, Xy, Xy, out, start),
-        (LittleEndian, own, _) => put_ordered(row, piece, LittleEndian, own, asked, out, start),
-        (BigEndian, own, _) => put_ordered(row, piece, BigEndian, own, asked, out, start),
+    let bytes = rest_from(row, piece.offset);
+    if piece.count == 1 {
+        put_one_coordinate(bytes, piece.order, piece.dimension, asked, out, start);
+    } else {
+        put_many_coordinates(
+            bytes,
+            piece.count,
+            piece.order,
+            piece.dimension,
+            asked,
+            out,
+            start,
+        );
     }
 }
 
@@ -254,19 +308,29 @@ impl Totals {
     }
 }
 
+/// Whether so many words hold so many coordinates. The division is by a constant in each arm, so that it is a shift or
+/// a multiplication, and no product overflows.
+#[inline(always)]
+fn hold(words: u64, coordinates: u64, asked: Dimension) -> bool
+    ensures yes { IsTrue result → width asked * coordinates ≤ words }
+    ensures no { result ≡ false → width asked * coordinates ≤ words → ⊥ }
+{
+    match asked {
+        Dimension::Xy => coordinates <= words / 2,
+        Dimension::Xyz | Dimension::Xym => coordinates <= words / 3,
+        Dimension::Xyzm => coordinates <= words / 4,
+    }
+}
+
 /// Whether there is room for words, rings and singles up to these totals.
+#[inline(always)]
 pub fn has_room(to: &Totals, asked: Dimension, out: &LevelSlices<'_>) -> bool
     ensures yes { IsTrue result → HasRoomUpTo asked (levels_of out.now) to.now }
     ensures no { result ≡ false → HasRoomUpTo asked (levels_of out.now) to.now → ⊥ }
 {
-    match to.coordinates.checked_mul(asked.width() as u64) {
-        Some(words) if words <= out.words.len() as u64 => {}
-        _ => return false,
-    }
-    if (out.ring_ends.len() as u64) < to.rings {
-        return false;
-    }
-    to.singles <= out.single_ends.len() as u64
+    hold(out.words.len() as u64, to.coordinates, asked)
+        && to.rings <= out.ring_ends.len() as u64
+        && to.singles <= out.single_ends.len() as u64
 }
 
 /// Writes the words of a piece and where it ends, if it is a ring.
@@ -347,6 +411,31 @@ pub fn put_levels(
         put_piece_levels(row, first, asked, from, out);
     } else {
         put_walked(row, first, from, asked, out);
+    }
+}
+
+/// Writes the levels of a polygon from the totals on, for which there is room, by its first piece.
+#[inline(always)]
+pub fn put_rings(
+    row: &[u8],
+    first: &Piece,
+    from: Totals,
+    asked: Dimension,
+    out: &mut LevelSlices<'_>,
+)
+    requires here { HasGeometry row.now }
+    requires first { IsPieceAt row.now 0 first.now }
+    requires polygon { first.now.kind ≡ POLYGON }
+    requires room { HasRoomFor asked row.now from out.old }
+    ensures levels { PutsLevels asked row.now from out.old out.new }
+    ensures same_slices { AreSameSlices out.old out.new }
+{
+    let mut pieces = Pieces::behind(row, first);
+    put_piece_levels(row, first, asked, from, out);
+    let mut at = from.with(first);
+    while let Some(ring) = pieces.next_if_ring() {
+        put_piece_levels(row, &ring, asked, at, out);
+        at = at.with(&ring);
     }
 }
 

@@ -31,6 +31,9 @@ pub fn options_for(request: Request, srid: Option<u32>) -> WriteOptions
 
 /// Writes the encoding that is asked for of the geometry at the start of bytes in which the check found this, and
 /// reports its length. Without room nothing is written.
+///
+/// It is inlined, so that a row takes one call.
+#[inline(always)]
 pub fn write_requested(
     buf: &[u8],
     found: &Summary,
@@ -108,6 +111,24 @@ fn write_polygon(
     OK
 }
 
+/// As `write_one_piece`, for any geometry.
+#[inline(never)]
+pub fn write_others(
+    buf: &[u8],
+    found: &Summary,
+    options: &Options,
+    out: &mut [u8],
+    size: &mut u64,
+) -> u32
+    requires { DescribesFront buf.now found.now }
+    ensures { WritesAsked options.now buf.now out.old out.new result size.old size.new }
+{
+    match request_of(options) {
+        Some(request) => write_requested(buf, found, request, out, size),
+        None => UNKNOWN_OPTION,
+    }
+}
+
 /// As `write_requested` for these options, if they mean something, by shorter code for some kinds.
 ///
 /// These read the options themselves, so that they take no registers during the check, and no place in memory.
@@ -127,9 +148,6 @@ pub fn write_plain(
             write_one_piece(buf, found, options, out, size)
         }
         WkbType::Polygon(_) => write_polygon(buf, found, options, out, size),
-        _ => match request_of(options) {
-            Some(request) => write_requested(buf, found, request, out, size),
-            None => UNKNOWN_OPTION,
-        },
+        _ => write_others(buf, found, options, out, size),
     }
 }

@@ -10,8 +10,8 @@ pub loop-preserved : goal.loop-preserved
 loop-preserved c =
     let l = c.loop in
     let a = c.args in
-    let long = length-sets l.out l.at (words_asked a.asked a.own (coordinate a.order a.own (drop l.from a.row.now))) in
-    words_next l.invariant (a.piece.now.count - (l.counter + 1)) (omega (arith, c.loop-test.true))
+    let long = length-sets l.out l.at (words_asked a.asked a.own (coordinate a.order a.own (drop l.from a.bytes.now))) in
+    words_next l.invariant (a.count - (l.counter + 1)) (omega (arith, c.loop-test.true))
     (l.from + c.coordinate_size-from.result) (l.at + c.width-at.result) c.put_coordinate.new.out
     (ap length c.put_coordinate.ensures ∙ long)
     (omega (arith, c.coordinate_size-from.ensures)) (omega (arith, c.width-at.ensures)) c.put_coordinate.ensures
