@@ -1,5 +1,6 @@
 """The calls for one geometry."""
 import dataclasses
+import itertools
 import pickle
 import struct
 import sys
@@ -54,6 +55,15 @@ class Calls(unittest.TestCase):
             with self.assertRaises(Refused) as raised:
                 wkb.check(other)
             self.assertRegex(str(raised.exception), r"\(part 0\)$")
+
+    def test_tiny_points(self):
+        """So is what SpatiaLite's TinyPointEncode makes, in each dimension and byte order."""
+        orders, dimensions, srids = ((0x80, ">"), (0x81, "<")), enumerate((2, 3, 3, 4), 1), (4326, 0, -1)
+        for (mark, order), (dimension, width), srid in itertools.product(orders, dimensions, srids):
+            blob = struct.pack(f"{order}BBiB{width}dB", 0, mark, srid, dimension, *range(width), 0xFE)
+            self.assertRaisesRegex(Refused, r"SpatiaLite, whose AsBinary\(blob\)", wkb.check, blob)
+            for other in (blob[:-1], blob[:-1] + b"\xff", blob + b"\xfe", blob[:6], blob[:6] + b"\0" + blob[7:]):
+                self.assertRaisesRegex(Refused, r"\(part 0\)$", wkb.check, other)
 
     def test_each_number_of_parts(self):
         """The members of multi points, one after another, by their number."""
@@ -253,6 +263,16 @@ class Records(unittest.TestCase):
             values = {it.name: getattr(record, it.name) for it in dataclasses.fields(record)}
             made = type(record)(**values)
             self.assertEqual((made, repr(made), vars(made)), (record, repr(record), vars(record)))
+
+    def test_memory_again(self):
+        """Memory of a record that is gone becomes that of a later one of any type, and never that of two."""
+        found = [wkb.check(wkb.write(POINT, srid=srid)) for srid in range(1000, 1100)]
+        del found[::2]
+        boxes = [wkb.bounds(LINE) for _ in range(50)]
+        self.assertEqual([it.srid for it in found], [*range(1001, 1100, 2)])
+        self.assertEqual({(it.x, it.y, it.z) for it in boxes}, {(Range(1, 5, 2), Range(2, 2, 1), Range(-7, 3, 2))})
+        types = wkb.Found, wkb.Fault, wkb.Part, wkb.Range, wkb.Box, wkb.Table
+        self.assertEqual(len({it.__basicsize__ for it in types}), 1)
 
 
 class Pickling(unittest.TestCase):

@@ -1,11 +1,14 @@
 """The extension called directly, with buffers that are too short, missing, read-only or late: each is an error, since
 the package's own tests of its arguments may not be the last ones before memory is written."""
 import array
+import gc
 import importlib.machinery
 import importlib.util
 import itertools
 import struct
+import sys
 import unittest
+import weakref
 
 import porchsorrel_wkb as wkb
 from capsules import NOWHERE, Arrow, pointers
@@ -113,6 +116,11 @@ class Inputs(unittest.TestCase):
         self.assertEqual(_wkb.join([POINT, None, b""]), (POINT, array.array("q", [0, 21, 21, 21]).tobytes(), b"\5"))
         self.assertEqual((_wkb.join([b""]), _wkb.join([POINT, bytearray(POINT)])), ((b"", bytes(16), None), None))
 
+    def no_coordinates(self, data, part):
+        for call in (_wkb.coordinates, _wkb.place_of_words):
+            with self.assertRaisesRegex(ValueError, "have no such|has no coordinates", msg=part):
+                call(data, part)
+
     def test_parts(self):
         """A part may have any values, and the bytes have those of one."""
         ring = wkb.parts(POLYGON)[1]
@@ -120,19 +128,21 @@ class Inputs(unittest.TestCase):
         numbers = -1, 0, 5, 2**31, 2**32, 2**63, 2**64, None
         for name, value in itertools.product(("begin", "offset", "count"), numbers):
             if value != values[name]:
-                self.assertIsNone(_wkb.coordinates(POLYGON, wkb.Part(**dict(values, **{name: value}))), (name, value))
+                self.no_coordinates(POLYGON, wkb.Part(**dict(values, **{name: value})))
         for name, value in (("kind", 9), ("kind", -1), ("dimension", 4), ("order", 2), ("order", None)):
-            self.assertIsNone(_wkb.coordinates(POLYGON, wkb.Part(**dict(values, **{name: value}))), (name, value))
+            self.no_coordinates(POLYGON, wkb.Part(**dict(values, **{name: value})))
         for size in range(len(POLYGON)):
-            self.assertIsNone(_wkb.coordinates(POLYGON[:size], ring))
+            self.no_coordinates(POLYGON[:size], ring)
         for data in (POINT, LINE, wkb.write(LINE, srid=7)):
             (part,) = wkb.parts(data)
             values = {name: getattr(part, name) for name in part.__match_args__}
             for name, others in (("kind", Kind), ("dimension", wkb.Dimension), ("order", wkb.Order),
                                  ("srid", (None, 0, 7)), ("count", (0, 1, 2, 3)), ("offset", (0, 5, 9, 13))):
                 for other in others:
-                    found = _wkb.coordinates(data, wkb.Part(**dict(values, **{name: other})))
-                    self.assertEqual(found is not None, other == values[name], (name, other))
+                    if other == values[name]:
+                        self.assertEqual(len(_wkb.coordinates(data, part)), part.count)
+                    else:
+                        self.no_coordinates(data, wkb.Part(**dict(values, **{name: other})))
         self.assertEqual(_wkb.place_of_words(POLYGON + b"\0", ring), (17, 33))
         for other in (None, 1, POLYGON, wkb.Range(1.0, 2.0, 3)):
             self.assertRaisesRegex(TypeError, "a Part of parts", _wkb.coordinates, POLYGON, other)
@@ -220,6 +230,38 @@ class Late(unittest.TestCase):
         other.__loader__.exec_module(other)
         for given in ((), (1,), 6 * (int,) + (int,), 6 * (int,) + 5 * ((),) + (1,)):
             self.assertRaises((TypeError, IndexError), other.give, *given)
+        types = wkb.Found, wkb.Fault, wkb.Part, wkb.Range, wkb.Box, wkb.Table
+        for given in (types, self.types(other)[:1] + types[1:]):
+            self.assertRaisesRegex(TypeError, "inherit those of this module", other.give, *given)
+
+    @staticmethod
+    def types(other):
+        """Types of records for another extension."""
+        names = "Found", "Fault", "Part", "Range", "Box", "Table"
+        return tuple(type(name, (getattr(other, f"{name}Values"),), {"__slots__": ()}) for name in names)
+
+    def ended(self, kept):
+        """End an extension that has made records, of which so many are kept until it should have ended."""
+        other = self.fresh()
+        other.__loader__.exec_module(other)
+        members = 2 * (256 * ("",),) + (tuple(Kind), tuple(wkb.Dimension), tuple(wkb.Order))
+        other.give(*self.types(other), wkb.Refused, *members, len, len)
+        made = [other.check(POINT) for _ in range(50)]
+        ending = weakref.ref(other)
+        del made[kept:], other
+        gc.collect()
+        self.assertEqual(ending() is None, not kept)
+        del made
+        gc.collect()
+        self.assertIsNone(ending())
+
+    def test_ends(self):
+        """An extension ends with the memory of records that it keeps, and not before its records."""
+        self.ended(0)
+        before = sys.getallocatedblocks()
+        for kept in 10 * (0, 1, 40):
+            self.ended(kept)
+        self.assertLess(sys.getallocatedblocks() - before, 30 * 10)
 
     def test_arguments(self):
         for call in (_wkb.same, _wkb.write, _wkb.coordinates, _wkb.place_of_words):

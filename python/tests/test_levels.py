@@ -154,6 +154,19 @@ class RoundTrip(unittest.TestCase):
                 again = Column(it.data, it.offsets, bits).coordinates(dimension)
                 self.assertEqual(list(map(flat, levels[1:])), list(map(flat, again[1:])))
 
+    def test_rows_without_levels(self):
+        """A rejected row and a collection: with their bits, and with cleared ones."""
+        it = Column.of([POINT, POINT[:20], part(7, [POINT, POINT])]).coordinates()
+        levels, bad, null = (it.coordinates, None, None, it.row_offsets), Status.BAD_LEVELS, Status.NULL_ROW
+        both = part(4, [POINT, POINT])
+        for kind, validity, statuses, rows in (
+            (Kind.POINT, b"\7", [0, bad, bad], [POINT, None, None]),
+            (Kind.MULTI_POINT, b"\7", [0, 0, 0], [part(4, [POINT]), part(4, []), both]),
+            (Kind.MULTI_POINT, b"\1", [0, null, null], [part(4, [POINT]), None, None]),
+        ):
+            back = column_from_coordinates(kind, *levels, validity=validity)
+            self.assertEqual((list(back.statuses), list(back.rows)), (statuses, rows))
+
     def test_hostile(self):
         """Offsets of any numbers: a row that is written is a geometry of the kind, and no other row has bytes."""
         random.seed(8)

@@ -26,6 +26,8 @@ WORDS, ENDS = array.array("d", [1.0, 2.0, 3.0, 4.0]), array.array("i", [0, 1, 2]
 COLLECTION = bytes.fromhex("010700000064000000") + 100 * LINE
 COLUMN, COLUMN_OF_POINTS = Column.of(ROWS), Column.of([POINT, POINT])
 TABLE = wkb.parts(POLYGON)
+# Of so many records the extension keeps the memory once they are freed.
+MOST_SPARES = 16
 
 
 class Ready:
@@ -103,6 +105,7 @@ CALLS = {
     "polygons that go out": lambda: Column.of([POLYGON, None]).coordinates().__arrow_c_array__(),
     "coordinates there and back": lambda: column_from_coordinates(Kind.MULTI_POINT, Column.of([POINTS]).coordinates()),
     "a record": lambda: wkb.Range(1.0, 2.0, 3),
+    "many records": lambda: [wkb.check(POLYGON) for _ in range(MOST_SPARES + 9)],
 }
 ALL = {name: (lambda make=make: Ready(make()), take) for name, (make, take) in GIVEN.items()}
 ALL.update((name, (tuple, lambda _, call=call: call())) for name, call in CALLS.items())
@@ -168,10 +171,10 @@ class References(unittest.TestCase):
 
 def refuse_each(make, call):
     """Refuse one allocation after another during a call, until it has made none of so many. Return how often it has
-    raised a MemoryError; an error that no call documents is not caught."""
+    raised a MemoryError; an error that no call documents is not caught. No memory of records is kept before a call."""
     count, last = 0, 0
     for number in itertools.count():
-        made = make()
+        made, held = make(), [wkb.check(POINT) for _ in range(MOST_SPARES)]
         _testcapi.set_nomemory(number, number + 1)
         try:
             call(made)
@@ -185,6 +188,7 @@ def refuse_each(make, call):
                 raise
         finally:
             _testcapi.remove_mem_hooks()
+            del held
         if number > last + 50:
             return count
 

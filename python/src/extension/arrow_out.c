@@ -29,7 +29,8 @@ static void forget(inside *own) {
   PyMem_Free(own);
 }
 
-/* What others have released in sub-interpreters, which is let go when one of these hands out an array again. */
+/* What others have released in sub-interpreters, which is let go when one of these hands out an array again. Any thread
+ * adds to the list, without a lock; it is only taken whole, so that each struct in it has one owner. */
 static _Atomic(inside *) parked;
 
 static void park(inside *own) {

@@ -163,7 +163,7 @@ static PyObject *parts(PyObject *module, PyObject *data) {
   else
     refuse(s, status, &fault, 1, in);
   let(&h);
-  PyObject *table = memory == NULL ? NULL : table_of(s, PART, memory);
+  PyObject *table = memory == NULL ? NULL : table_of(s, PART, memory, count);
   Py_XDECREF(memory);
   return table;
 }
@@ -201,7 +201,7 @@ static PyObject *list_of(const void *data, const wkb_part *part) {
   return list;
 }
 
-/* The coordinates of a part, or the bytes where they begin and end; None if the data has no such part. */
+/* The coordinates of a part, or the bytes where they begin and end. The package raises that the data has none. */
 static PyObject *read_part_of(state *s, PyObject *const *args, Py_ssize_t count, int for_place) {
   holds h;
   span in;
@@ -210,9 +210,13 @@ static PyObject *read_part_of(state *s, PyObject *const *args, Py_ssize_t count,
   if (count != 2) return PyErr_Format(PyExc_TypeError, "two arguments are expected");
   int is_part = read_part(s, args[1], &part);
   if (is_part < 0 || hold_input(&h, args[0], &in) < 0) return NULL;
-  PyObject *result = !is_part || !is_there(in, &part) ? Py_NewRef(Py_None) : for_place ? NULL : list_of(in.at, &part);
-  if (result == NULL && for_place)
+  PyObject *result;
+  if (!is_part || !is_there(in, &part))
+    result = PyObject_CallFunctionObjArgs(s->it[NO_SUCH], args[1], NULL);
+  else if (for_place)
     result = Py_BuildValue("(nn)", (Py_ssize_t)part.offset, (Py_ssize_t)(part.offset + 8 * part.width * part.count));
+  else
+    result = list_of(in.at, &part);
   let(&h);
   return result;
 }

@@ -14,11 +14,14 @@
 
 _Static_assert(sizeof(size_t) == 8, "sizes and offsets are 64-bit integers");
 
-/* What `give` gets of the package: types, tuples of members, and a function. Then what is made here once. */
-enum { FOUND, FAULT, PART, RANGE, BOX, TABLE, REFUSED, STATUSES, TEXTS, KINDS, DIMENSIONS, ORDERS, OPTIONS, GIVEN };
-enum { EMPTY_RANGE = GIVEN, HELD };
+/* What `give` gets of the package: types, tuples of members, and functions. Then what is made here once, at last the
+ * types that those of records inherit. */
+enum { FOUND, FAULT, PART, RANGE, BOX, TABLE, REFUSED, STATUSES, TEXTS, KINDS, DIMENSIONS, ORDERS, OPTIONS, NO_SUCH };
+enum { GIVEN = NO_SUCH + 1, EMPTY_RANGE = GIVEN, VALUES, HELD = VALUES + TABLE + 1, MOST_SPARES = 16 };
 typedef struct {
   PyObject *it[HELD];
+  PyObject *spare[MOST_SPARES]; /* memory of records that were freed, for the next ones */
+  int spares;
 } state;
 
 /* Some bytes. */
@@ -46,10 +49,11 @@ void lock(PyThreadState *unlocked);
 
 /* records.c */
 int add_records(PyObject *module);
+void free_spares(state *s);
 PyObject *geometry_of(state *s, int which, const void *from);
 PyObject *box_of(state *s, const wkb_box *box);
 PyObject *fault_of(state *s, const wkb_fault *fault);
-PyObject *table_of(state *s, int which, PyObject *memory);
+PyObject *table_of(state *s, int which, PyObject *memory, size_t count);
 PyObject *refuse(state *s, uint32_t status, const wkb_fault *fault, uint32_t which, span input);
 int read_part(state *s, PyObject *given, wkb_part *out);
 PyObject *read_record(PyObject *module, PyObject *args);

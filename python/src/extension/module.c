@@ -2,14 +2,17 @@
 /* The module `porchsorrel_wkb._wkb`: its calls, and what it gets of the package. */
 #include "extension.h"
 
-/* give(Found, Fault, Part, Range, Box, Table, Refused, statuses, texts, kinds, dimensions, orders, make_options) */
+/* give(Found, Fault, Part, Range, Box, Table, Refused, statuses, texts, kinds, dimensions, orders, make_options,
+ * no_such) */
 static PyObject *give(PyObject *module, PyObject *args) {
   state *s = state_of(module);
   for (int i = 0; i < GIVEN; i++) {
     PyObject *it = PyTuple_GetItem(args, i), *before = s->it[i];
     if (it == NULL) return NULL;
     if (i <= REFUSED ? !PyType_Check(it) : i < OPTIONS ? !PyTuple_Check(it) : !PyCallable_Check(it))
-      return PyErr_Format(PyExc_TypeError, "types, tuples of members and a function are given");
+      return PyErr_Format(PyExc_TypeError, "types, tuples of members and functions are given");
+    if (i <= TABLE && !PyType_IsSubtype((PyTypeObject *)it, (PyTypeObject *)s->it[VALUES + i]))
+      return PyErr_Format(PyExc_TypeError, "the types of records inherit those of this module");
     s->it[i] = Py_NewRef(it);
     Py_XDECREF(before);
   }
@@ -35,6 +38,7 @@ static int visit_state(PyObject *module, visitproc visit, void *arg) {
 
 static int clear_state(PyObject *module) {
   state *s = state_of(module);
+  if (s != NULL) free_spares(s);
   for (int i = 0; s != NULL && i < HELD; i++) Py_CLEAR(s->it[i]);
   return 0;
 }

@@ -10,6 +10,7 @@
 enum { MOST_VALUES = 9 };
 typedef struct {
   PyObject_HEAD PyObject *value[MOST_VALUES];
+  state *home; /* which keeps its memory once it is freed; null unless it was made here */
 } record;
 
 static const struct {
@@ -21,13 +22,19 @@ static const struct {
     [PART] = {PACKAGE "PartValues", {"begin", "end", "offset", "count", "next", "srid", "kind", "dimension", "order"}},
     [RANGE] = {PACKAGE "RangeValues", {"least", "greatest", "count"}},
     [BOX] = {PACKAGE "BoxValues", {"x", "y", "z", "m"}},
-    [TABLE] = {PACKAGE "TableValues", {"_record", "_memory"}},
+    [TABLE] = {PACKAGE "TableValues", {"_record", "_memory", "_count"}},
 };
 
+/* A state lives as long as its records: they hold their types, and these the module. It keeps no memory once it has
+ * been cleared. */
 static void dealloc_record(PyObject *self) {
   for (int i = 0; i < MOST_VALUES; i++) Py_XDECREF(((record *)self)->value[i]);
   PyTypeObject *type = Py_TYPE(self); /* a heap type, of which each object has a reference */
-  ((freefunc)PyType_GetSlot(type, Py_tp_free))(self);
+  state *home = ((record *)self)->home;
+  if (home != NULL && home->it[FOUND] != NULL && home->spares < MOST_SPARES)
+    home->spare[home->spares++] = self;
+  else
+    ((freefunc)PyType_GetSlot(type, Py_tp_free))(self);
   Py_DECREF(type);
 }
 
@@ -42,19 +49,36 @@ int add_records(PyObject *module) {
     PyType_Slot slots[] = {{Py_tp_dealloc, (void *)dealloc_record}, {Py_tp_members, members}, {0, NULL}};
     PyType_Spec spec = {RECORD[which].name, sizeof(record), 0, Py_TPFLAGS_DEFAULT | Py_TPFLAGS_BASETYPE, slots};
     PyObject *type = PyType_FromModuleAndSpec(module, &spec, NULL);
-    int result = type == NULL ? -1 : PyModule_AddType(module, (PyTypeObject *)type);
-    Py_XDECREF(type);
-    if (result < 0) return -1;
+    if (type == NULL) return -1;
+    state_of(module)->it[VALUES + which] = type;
+    if (PyModule_AddType(module, (PyTypeObject *)type) < 0) return -1;
   }
   return 0;
 }
 
-/* CPython's collector of cycles tracks each object of a class that is written in Python, and so would track these. */
+/* In memory of a freed record, if there is such: all are equally long. The collector of cycles doesn't track it. */
 static record *new_record(state *s, int which) {
-  PyObject *type = s->it[which], *it = type == NULL ? NULL : PyType_GenericAlloc((PyTypeObject *)type, 0);
-  if (type == NULL) PyErr_SetString(PyExc_RuntimeError, "the package has not given its types");
-  if (it != NULL && PyObject_GC_IsTracked(it)) PyObject_GC_UnTrack(it);
-  return (record *)it;
+  PyTypeObject *type = (PyTypeObject *)s->it[which];
+  record *it = NULL;
+  if (type == NULL)
+    PyErr_SetString(PyExc_RuntimeError, "the package has not given its types");
+  else if (s->spares > 0)
+    it = (record *)PyObject_Init(s->spare[--s->spares], type);
+  else
+    it = PyObject_GC_New(record, type);
+  if (it == NULL) return NULL;
+  memset(it->value, 0, sizeof it->value);
+  it->home = s;
+  return it;
+}
+
+/* Frees the memory that is kept: each piece as a record that isn't kept. */
+void free_spares(state *s) {
+  while (s->spares > 0) {
+    record *it = new_record(s, FOUND);
+    it->home = NULL;
+    Py_DECREF(it);
+  }
 }
 
 /* The record if it has its values, of which there are so many; else null, with the error of one that it lacks. */
@@ -113,13 +137,14 @@ PyObject *box_of(state *s, const wkb_box *box) {
   return whole(it, 4);
 }
 
-/* The table of such records in this memory. */
-PyObject *table_of(state *s, int which, PyObject *memory) {
+/* The table of so many such records, in this memory. */
+PyObject *table_of(state *s, int which, PyObject *memory, size_t count) {
   record *it = new_record(s, TABLE);
   if (it == NULL) return NULL;
   it->value[0] = Py_NewRef(s->it[which]);
-  it->value[1] = PyMemoryView_FromObject(memory);
-  return whole(it, 2);
+  it->value[1] = Py_NewRef(memory);
+  it->value[2] = PyLong_FromSize_t(count);
+  return whole(it, 3);
 }
 
 PyObject *fault_of(state *s, const wkb_fault *f) {
@@ -152,6 +177,14 @@ static int is_spatialite(span input) {
          input.at[input.size - 1] == 0xfe;
 }
 
+/* Whether bytes are a TinyPoint of SpatiaLite: marks at both ends, and the size that its dimension needs. */
+static int is_tiny_point(span input) {
+  enum { DIMENSION = 6 };
+  static const unsigned char SIZES[] = {0, 24, 32, 32, 40};
+  return input.size > DIMENSION && input.at[0] == 0 && (input.at[1] | 1) == 0x81 && input.at[DIMENSION] <= 4 &&
+         input.size == SIZES[input.at[DIMENSION]] && input.at[input.size - 1] == 0xfe;
+}
+
 /* What to call where the bytes are rejected at the first one or in the first code, but are a geometry otherwise. */
 static PyObject *hint_for(const wkb_fault *fault, span input) {
   int is_start = fault->part == 0, front = front_of_geopackage(input);
@@ -159,7 +192,7 @@ static PyObject *hint_for(const wkb_fault *fault, span input) {
     return PyUnicode_FromString("; bytes.fromhex(data.decode()) are the bytes of this hexadecimal text");
   if (is_start && fault->status == WKB_STATUS_INVALID_BYTE_ORDER && front > 0)
     return PyUnicode_FromFormat("; this is the blob of a GeoPackage, whose geometry is data[%d:]", front);
-  if (is_start && fault->status == WKB_STATUS_CODE_OUT_OF_RANGE && is_spatialite(input))
+  if (is_start && fault->status == WKB_STATUS_CODE_OUT_OF_RANGE && (is_spatialite(input) || is_tiny_point(input)))
     return PyUnicode_FromString("; this is a blob of SpatiaLite, whose AsBinary(blob) is WKB");
   return PyUnicode_FromString("");
 }
@@ -172,19 +205,20 @@ PyObject *refuse(state *s, uint32_t status, const wkb_fault *fault, uint32_t whi
     return NULL;
   }
   PyObject *it = fault_of(s, fault), *held = it == NULL ? NULL : PyTuple_GetItem(s->it[TEXTS], status);
-  PyObject *hint = held == NULL ? NULL : hint_for(fault, input);
-  PyObject *error = hint == NULL ? NULL : PyObject_CallFunction(s->it[REFUSED], "OIOO", it, which, held, hint);
+  PyObject *number = held == NULL ? NULL : PyLong_FromUnsignedLong(which);
+  PyObject *hint = number == NULL ? NULL : hint_for(fault, input);
+  PyObject *values = hint == NULL ? NULL : PyTuple_Pack(4, it, number, held, hint);
   Py_XDECREF(hint);
+  Py_XDECREF(number);
   Py_XDECREF(it);
-  if (error != NULL) PyErr_SetObject(s->it[REFUSED], error);
-  Py_XDECREF(error);
+  if (values != NULL) PyErr_SetObject(s->it[REFUSED], values);
+  Py_XDECREF(values);
   return NULL;
 }
 
 /* The number of a value that a record has; 0, and 1 more of `wrong`, where it is none from 0 to `most`. */
 static uint64_t number_of(const record *it, int place, uint64_t most, int *wrong) {
-  PyObject *value = it->value[place];
-  uint64_t number = value == NULL || !PyLong_Check(value) ? UINT64_MAX : PyLong_AsUnsignedLongLong(value);
+  uint64_t number = PyLong_AsUnsignedLongLong(it->value[place]);
   if (number <= most) return number;
   PyErr_Clear();
   *wrong += 1;

@@ -1,14 +1,21 @@
 # SPDX-License-Identifier: MIT OR Apache-2.0
 """The calls for one geometry."""
 import operator
-from typing import TYPE_CHECKING, List, Optional, Tuple, Union
+from typing import TYPE_CHECKING, List, NoReturn, Optional, Tuple, Union
 
 from . import _wkb
 from ._buffers import Buffer, Numbers, view_of
 from ._enums import Dimension, Form, Kind, Order, Status
 from ._records import Box, Fault, Found, Part, Range, Table
+from ._wkb import bounds as _bounds
+from ._wkb import check as _check
+from ._wkb import coordinates as _coordinates
+from ._wkb import parts as _parts
+from ._wkb import same as _same
+from ._wkb import well_formed as _well_formed
+from ._wkb import write as _write
 
-# Members of enums, which take longer to find by their classes.
+# Members of enums, which take longer to find by their classes, as the calls of C do by their module.
 ISO, WITH_SRID = Form.ISO, Form.EWKB_WITH_SRID
 
 
@@ -57,7 +64,7 @@ class Refused(ValueError):
 
 def check(data: Buffer) -> Found:
     """Return what is at the start of the bytes. Raise `Refused` if it isn't a geometry."""
-    return _wkb.check(data)
+    return _check(data)
 
 
 def well_formed(data: Buffer) -> bool:
@@ -65,12 +72,12 @@ def well_formed(data: Buffer) -> bool:
 
     No bytes raise an error. Those of a GeoPackage or of SpatiaLite, and hexadecimal text, are no geometry.
     """
-    return _wkb.well_formed(data)
+    return _well_formed(data)
 
 
 def bounds(data: Buffer) -> Box:
     """Return the bounds of the geometry at the start of the bytes."""
-    return _wkb.bounds(data)
+    return _bounds(data)
 
 
 def make_options(order: Order, form: Optional[Form], srid: Optional[int]) -> Tuple[int, int, int]:
@@ -85,12 +92,20 @@ def make_options(order: Order, form: Optional[Form], srid: Optional[int]) -> Tup
     return order if isinstance(order, Order) else Order(order), form if isinstance(form, Form) else Form(form), number
 
 
+def no_such(part: Union[Part, Found]) -> NoReturn:
+    """Raise the error that some bytes have no such coordinates."""
+    kind = getattr(part.kind, "name", part.kind)
+    if part.kind > Kind.LINE_STRING:
+        raise ValueError(f"a {kind} has no coordinates of its own, but {part.count} rings or members")
+    raise ValueError(f"these are other bytes than those of the part: they have no such {kind} there")
+
+
 # The statuses that fit a byte, and what they say.
 STATUSES = range(256)
 _wkb.give(
     Found, Fault, Part, Range, Box, Table, Refused,
     tuple(map(Status, STATUSES)), tuple(map(_wkb.status_text, STATUSES)),
-    tuple(Kind), tuple(Dimension), tuple(Order), make_options,
+    tuple(Kind), tuple(Dimension), tuple(Order), make_options, no_such,
 )
 
 
@@ -103,24 +118,17 @@ def write(
     form takes one. With the default options, two geometries of one value have the same encoding, whatever their byte
     orders and SRIDs are.
     """
-    return _wkb.write(data, order, form, srid)
+    return _write(data, order, form, srid)
 
 
 def same(first: Buffer, second: Buffer) -> bool:
     """Return whether both begin with geometries of one value: SRIDs aside, and coordinates compared by their bits."""
-    return _wkb.same(first, second)
+    return _same(first, second)
 
 
 def parts(data: Buffer) -> Table[Part]:
     """Return the parts of the geometry at the start of the bytes, in preorder: itself, and its rings and members."""
-    return _wkb.parts(data)
-
-
-def _no_such(part: Union[Part, Found]) -> ValueError:
-    """Return the error that these bytes have no such coordinates."""
-    if part.kind > Kind.LINE_STRING:
-        return ValueError(f"a {part.kind.name} has no coordinates of its own, but {part.count} rings or members")
-    return ValueError(f"these are other bytes than those of the part: they have no such {part.kind.name} there")
+    return _parts(data)
 
 
 def coordinates(data: Buffer, part: Union[Part, Found]) -> List[Tuple[float, ...]]:
@@ -129,10 +137,7 @@ def coordinates(data: Buffer, part: Union[Part, Found]) -> List[Tuple[float, ...
     The part is one that `parts` has found in these bytes, or `check` if it is a point or a line string. Raise
     `ValueError` where the bytes have no such part at its place.
     """
-    found = _wkb.coordinates(data, part)
-    if found is None:
-        raise _no_such(part)
-    return found
+    return _coordinates(data, part)
 
 
 def view(data: Buffer, part: Union[Part, Found]) -> Numbers:
@@ -144,8 +149,6 @@ def view(data: Buffer, part: Union[Part, Found]) -> Numbers:
     import numpy
 
     place = _wkb.place_of_words(data, part)
-    if place is None:
-        raise _no_such(part)
     order = ">" if part.order == Order.BIG else "<"
     words = view_of(data).cast("B")[place[0] : place[1]]
     return numpy.frombuffer(words, order + "f8").reshape(-1, part.dimension.width)

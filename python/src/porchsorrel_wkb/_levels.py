@@ -96,7 +96,9 @@ def column_from_coordinates(
     32-bit or 64-bit numbers that begin with 0; where they are raw bytes, `offset_size` says how many bytes one has.
     `coordinates` has 64-bit floats, `dimension.width` for each; an empty point is one of NaNs. `validity` is the
     validity bitmap, as for `Column`, with the first row's bit at `validity_offset`. Without a `dimension` it is XY.
-    Clear the bits of rejected rows and of collections, which have no levels of their own.
+    Clear the bits of rejected rows and of collections. Otherwise a rejected row comes back as an empty multi geometry,
+    or is BAD_LEVELS if the kind is no multi geometry; a collection comes back as the geometry of this kind that its
+    singles make, if they make one.
 
     In the place of all these, `coordinates` may be an Arrow array of GeoArrow's type for the kind, or a slice of one:
     any object with the method `__arrow_c_array__`. Coordinates that are interleaved are not copied, nor are offsets of

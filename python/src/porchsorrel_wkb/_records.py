@@ -203,16 +203,17 @@ class Table(_wkb.TableValues, Sequence[Record]):
     __slots__ = ()
 
     _record: Any
-    _memory: memoryview
+    _memory: Union[memoryview, bytearray]
+    _count: int
 
     def __init__(self, record: Type[Record], memory: Buffer):
         buffer: Any = memory
         self._record = record
-        self._memory = memoryview(buffer)
+        self._memory = view = memoryview(buffer)
+        self._count = view.nbytes // record.LAYOUT.size
 
     def __len__(self) -> int:
-        size: int = self._record.LAYOUT.size
-        return self._memory.nbytes // size
+        return self._count
 
     @overload
     def __getitem__(self, index: int) -> Record: ...
@@ -238,7 +239,7 @@ class Table(_wkb.TableValues, Sequence[Record]):
         return table.astype(dtype) if dtype is not None else table.copy() if copy else table
 
     def __reduce__(self) -> Any:
-        return type(self), (self._record, self._memory.tobytes())
+        return type(self), (self._record, bytes(self._memory))
 
     def __eq__(self, other: object) -> bool:
         if not isinstance(other, Table):

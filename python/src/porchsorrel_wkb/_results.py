@@ -78,7 +78,8 @@ class ColumnBounds(_Result, _Bounds):  # type: ignore[misc]
         """Return the boxes as an array of Arrow."""
         bits, nulls = validity_of(self.statuses)
         metadata = metadata_of("geoarrow.box", self._metadata)
-        return exported(records(b"", metadata, len(self.statuses), nulls, bits, boxes_of(self.boxes._memory)))
+        boxes = boxes_of(memoryview(self.boxes._memory))
+        return exported(records(b"", metadata, len(self.statuses), nulls, bits, boxes))
 
 
 class _Found(NamedTuple):
