@@ -42,11 +42,13 @@ fn run(command: &mut Command) {
     assert!(status.success(), "{command:?} fails");
 }
 
-/// Compiles a file of the library. The assembly takes another file of that folder in.
+/// Compiles a file of the library. The assembly takes another file of that folder in. The names are hidden, those of the
+/// proved calls by the assembly itself: a shared library that takes the archive in doesn't export them. But they are
+/// global, other than in the archive of make, which takes objcopy.
 fn object(name: &str, library: &Path, out: &Path) -> PathBuf {
     let object = out.join(name).with_extension("o");
     let mut command = program("CC", "cc");
-    command.args(["-std=c11", "-O2", "-fPIC", "-c", "-I"]).arg(library).arg(library.join(name));
+    command.args(["-std=c11", "-O2", "-fPIC", "-fvisibility=hidden", "-c", "-I"]).arg(library).arg(library.join(name));
     run(command.arg("-o").arg(&object));
     object
 }

@@ -41,6 +41,11 @@ impl Levels<'_> {
     /// [`Status::BAD_LEVELS`](crate::Status::BAD_LEVELS); no row stops the others. If the words are no whole number of
     /// coordinates, all rows are that; a level without ends has an item for the rest of them as well.
     ///
+    /// Of [`Coordinates`](crate::Coordinates) leave out null and rejected rows, and collections. Otherwise a null or
+    /// rejected row, which has no singles, comes back as an empty multi geometry, or is
+    /// [`Status::BAD_LEVELS`](crate::Status::BAD_LEVELS) if the kind is no multi geometry. A collection comes back as
+    /// the geometry of this kind that its singles make, if they make one.
+    ///
     /// # Panics
     ///
     /// If the kind is a ring or a collection, which rows can't have.

@@ -117,6 +117,26 @@ fn coordinates_out_and_in() {
     assert_eq!(read.words, words[..4]);
 }
 
+/// Of a point, a null row, a rejected one, and a collection of two points.
+#[test]
+fn levels_without_a_row_of_their_own() {
+    let point = point(1.0, 2.0, Order::LittleEndian);
+    let collection = [&[1, 7, 0, 0, 0, 2, 0, 0, 0][..], &point, &point].concat();
+    let rows = Rows::of([Some(&point[..]), None, Some(&point[..20]), Some(&collection)]);
+    let out = rows.column().coordinates(Dimension::Xy);
+    assert_eq!(out.row_ends, [1, 1, 1, 3]);
+    let levels = Levels { words: &out.words, row_ends: Some(&out.row_ends), ..Levels::default() };
+
+    let points = levels.encode(Kind::Point, Dimension::Xy, &Options::default());
+    assert_eq!(points.statuses, [Status::OK, Status::BAD_LEVELS, Status::BAD_LEVELS, Status::BAD_LEVELS]);
+    assert_eq!(points.data, point);
+
+    let multi = |members: &[u8]| [&[1, 4, 0, 0, 0, members.len() as u8 / 21, 0, 0, 0], members].concat();
+    let multis = levels.encode(Kind::MultiPoint, Dimension::Xy, &Options::default());
+    assert_eq!(multis.statuses, [Status::OK; 4]);
+    assert_eq!(multis.data, [multi(&point), multi(&[]), multi(&[]), multi(&collection[9..])].concat());
+}
+
 #[test]
 fn multi_polygons() {
     // Two rows: one of two polygons with a ring each, one without polygons.
