@@ -7,7 +7,7 @@ from checks.pages import test_limits
 from checks.sources import (
     test_cases, test_dialect, test_interface, test_licenses, test_scripts, test_sentences, test_versions)
 from checks.test_runners import module
-from pages import PAGES, ROOT, text_of
+from pages import PAGES, ROOT, paths, text_of
 
 FLOORS, EDITS = "checks/floors", "checks/edits/wkb*/*.edit"
 # The floor of mutants, for a control.
@@ -47,7 +47,7 @@ def counts():
         "worked cases": len({*rows, *test_cases.listed()}),
         "test vectors of worked cases": sum(rows.values()),
         "tests and programs whose allocations fail": len(text_of("checks/memory/expected").splitlines()),
-        **{name: len([*ROOT.glob(pattern)]) for name, pattern in files.items()},
+        **{name: len(paths(pattern)) for name, pattern in files.items()},
     }
 
 
@@ -55,7 +55,7 @@ class Floors(judge.Judge):
     """Each count, and its floor."""
 
     controls = [
-        (FLOORS, FLOOR, f"\nmutants: {len([*ROOT.glob(EDITS)]) + 1}\n", "mutants: there are "),
+        (FLOORS, FLOOR, f"\nmutants: {len(paths(EDITS)) + 1}\n", "mutants: there are "),
         (FLOORS, "faults: ", "lost faults: ", "there is no floor of faults"),
         (FLOORS, "faults: ", "lost faults: ", "nothing counts lost faults"),
     ]

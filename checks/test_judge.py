@@ -5,6 +5,7 @@ import os
 import pathlib
 import shutil
 import subprocess
+import sys
 import tempfile
 import unittest
 
@@ -53,7 +54,7 @@ def saying(says, given, is_alone=False):
 def failures_of(case):
     """The names of the tests of a judge that fail."""
     result = unittest.TestResult()
-    unittest.defaultTestLoader.loadTestsFromTestCase(case).run(result)
+    unittest.TestLoader().loadTestsFromTestCase(case).run(result)
     return {it.id().split(" ")[0].split(".")[-1] for it, _ in result.failures + result.errors}
 
 
@@ -70,7 +71,6 @@ class Judges(unittest.TestCase):
         for controls in ([CONTROL], [], [("README.md", "a text that no page has", "", "")]):
             with self.subTest(controls=controls):
                 self.assertEqual(failures_of(blind(*controls)), {"test_controls"})
-
 
     def test_each_control_has_to_be_found_by_its_own_words(self):
         second = ("README.md", "", "gone", "it begins with gone")
@@ -107,6 +107,30 @@ class Judged(unittest.TestCase):
     def test_the_status(self):
         with contextlib.redirect_stdout(io.StringIO()):
             self.assertEqual([judge.pages.ended(it, "in all") for it in ([], ["a fault"])], [0, 1])
+
+
+class Files(unittest.TestCase):
+    """The files that are judged, of a folder with one page, another one that git doesn't know, and one of a build."""
+
+    def judged(self, *commands):
+        """The paths of the pages, after these commands."""
+        with tempfile.TemporaryDirectory() as name:
+            for path in ("README.md", "docs/MINE.md", "rust/target/MADE.md"):
+                pathlib.Path(name, path).parent.mkdir(parents=True, exist_ok=True)
+                shutil.copy2(ROOT / "README.md", pathlib.Path(name, path))
+            shutil.copytree(ROOT / "tools", pathlib.Path(name, "tools"), ignore=shutil.ignore_patterns("__pycache__"))
+            for words in commands:
+                subprocess.run(words, cwd=name, check=True)
+            code = "import pages; print(*pages.paths('**/*.md'))"
+            ran = subprocess.run([sys.executable, "-Bc", code], cwd=f"{name}/tools", stdout=subprocess.PIPE, text=True)
+            return ran.stdout.split()
+
+    def test_with_git(self):
+        judge.need("git")
+        self.assertEqual(self.judged(["git", "init", "-q"], ["git", "add", "README.md"]), ["README.md"])
+
+    def test_without_git(self):
+        self.assertEqual(self.judged(), ["README.md", "docs/MINE.md"])
 
 
 class Run(unittest.TestCase):

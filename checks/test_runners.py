@@ -14,7 +14,7 @@ import unittest
 from unittest import mock
 
 from checks.judge import need
-from pages import ROOT
+from pages import ROOT, paths
 
 # A program of tests that allocates, and passes on that there is none; and one that hides it.
 TESTS = """
@@ -171,8 +171,42 @@ echo "$it" >>"$TOP/said"
                 self.assertNotEqual(self.status(call)[0], 0)
 
     def test_a_script_of_a_system_is_started(self):
-        scripts = [it for it in (ROOT / "checks/systems").iterdir() if it.name.endswith(("_test", "_compiler"))]
-        self.assertLessEqual({f"checks/systems/{it.name}" for it in scripts}, {*self.CALLS})
+        self.assertLessEqual({*paths("checks/systems/*_test", "checks/systems/*_compiler")}, {*self.CALLS})
+
+
+class Program(Copy):
+    """The script wkb_hex, which builds the program, over a kit that proves nothing and one that makes a program."""
+
+    def ran_with(self, builds, rt="rt"):
+        """The status, the output and the errors of the script, over a stub of tools/kit.py."""
+        self.copy("wkb_hex")
+        self.write("tools/kit.py", f"#!/bin/sh\n[ $1 = take ] || {{ {builds}; }}\n", 0o755)
+        self.write("tools/crates", "#!/bin/sh\n", 0o755)
+        self.write(f"bin/{rt}", "#!/bin/sh\n", 0o755)
+        for name in "bash chmod dirname flock grep mkdir mv readlink tail touch".split():
+            (self.top / "bin" / name).symlink_to(shutil.which(name))
+        how = {"env": {"PATH": f"{self.top}/bin"}, "capture_output": True, "text": True}
+        ran = subprocess.run([self.top / "wkb_hex", "le"], **how)
+        return ran.returncode, ran.stdout, ran.stderr
+
+    def setUp(self):
+        super().setUp()
+        need("bash", "flock")
+
+    def test_it_says_that_it_builds(self):
+        status, printed, errors = self.ran_with('printf "#!/bin/sh\\necho it runs" >$3; chmod +x $3')
+        self.assertEqual((status, printed), (0, "it runs\n"), errors)
+        self.assertRegex(errors, "^wkb_hex: proving and building it, up to 20 minutes")
+
+    def test_it_says_why_it_builds_nothing(self):
+        status, printed, errors = self.ran_with("echo 'error: a goal is open'; exit 1")
+        self.assertEqual((status, printed), (3, ""))
+        self.assertIn("in the log: error: a goal is open\n", errors)
+
+    def test_it_says_that_the_kit_is_missing(self):
+        status, printed, errors = self.ran_with("true", rt="no_kit")
+        self.assertEqual((status, printed), (3, ""))
+        self.assertRegex(errors, "^wkb_hex: rt of the Rattle kit, .* is not on the PATH\n$")
 
 
 class LeftOut(unittest.TestCase):

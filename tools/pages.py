@@ -7,11 +7,6 @@ import subprocess
 import sys
 
 ROOT = pathlib.Path(__file__).resolve().parent.parent
-PAGES = [
-    str(it.relative_to(ROOT))
-    for pattern in ("*.md", "docs/*.md", "docs/api/*.md", "c/package/package.md")
-    for it in sorted(ROOT.glob(pattern))
-]
 # What a build makes, and what a checkout keeps beside its files.
 NOT_OURS = {".git", "out", "build", "target", "__pycache__", "wkb.so", "wkb_postgres.o"}
 SPAN = re.compile(r"`([^`\n]+)`")
@@ -19,6 +14,23 @@ SPAN = re.compile(r"`([^`\n]+)`")
 TOOLS = "cd cc ldconfig rt make printf python3 pip".split()
 
 
+@functools.lru_cache(maxsize=None)
+def files():
+    """The files of the repository: those that git knows, or, without git, all but those of a build."""
+    asked = subprocess.run(["git", "ls-files"], cwd=ROOT, stdout=subprocess.PIPE, stderr=subprocess.DEVNULL)
+    if asked.returncode == 0:
+        found = [ROOT / line for line in asked.stdout.decode().splitlines()]
+    else:
+        found = [it for it in ROOT.rglob("*") if not NOT_OURS & {*it.relative_to(ROOT).parts}]
+    return [it for it in found if it.is_file()]
+
+
+def paths(*patterns):
+    """The paths of those files that fit one of the patterns."""
+    return [str(it.relative_to(ROOT)) for pattern in patterns for it in sorted({*files()} & {*ROOT.glob(pattern)})]
+
+
+PAGES = paths("*.md", "docs/*.md", "docs/api/*.md", "c/package/package.md")
 # The texts that files have in a control, in place of their own.
 PLANTED = {}
 
@@ -36,8 +48,7 @@ def text_of(path):
 
 def texts(*patterns):
     """The text of each file that fits one of the patterns, by its path in the repository."""
-    paths = [str(it.relative_to(ROOT)) for pattern in patterns for it in sorted(ROOT.glob(pattern))]
-    return {path: text_of(path) for path in paths}
+    return {path: text_of(path) for path in paths(*patterns)}
 
 
 def judged(judge, *controls):
@@ -134,16 +145,6 @@ def rows_of(page):
 def spans(text):
     """The texts in backticks."""
     return SPAN.findall(text)
-
-
-def files():
-    """The files of the repository: those that git knows, or, without git, all but those of a build."""
-    asked = subprocess.run(["git", "ls-files"], cwd=ROOT, stdout=subprocess.PIPE, stderr=subprocess.DEVNULL)
-    if asked.returncode == 0:
-        found = [ROOT / line for line in asked.stdout.decode().splitlines()]
-    else:
-        found = [it for it in ROOT.rglob("*") if not NOT_OURS & {*it.relative_to(ROOT).parts}]
-    return [it for it in found if it.is_file()]
 
 
 def copy_files(to):

@@ -226,8 +226,9 @@ def lost_words(page):
             verbs = {it for it in more[:1] if re.fullmatch("[a-z]+", it) and not (ROOT / "crates" / it).is_dir()}
             yield from (f"{page}: {first} has no {it}" for it in flags | verbs if own[0] == 0 or it in flags
                         if not re.search(rf"(?<![\w-]){it}(?![\w-])", text_of(first)))
-        elif own == [0] and len(words) > 1 and "/out/" not in first and not any(ROOT.glob(f"**/{first}*")):
-            yield f"{page}: no file {first}"
+        elif own == [0] and len(words) > 1 and "/out/" not in first:
+            if not any(f"/{first}" in str(it) for it in files()):
+                yield f"{page}: no file {first}"
 
 
 def lost_targets(page):

@@ -90,10 +90,9 @@ def paths_of_code():
         parts = [it for it in parts if it]
         ends.update("::".join(parts[at:]) for at in range(len(parts)))
 
-    for path in ROOT.glob("crates/*/src/**/*.rt"):
-        crate, _src, *modules = path.relative_to(ROOT / "crates").with_suffix("").parts
+    for path, text in texts("crates/*/src/**/*.rt").items():
+        _crates, crate, _src, *modules = path.removesuffix(".rt").split("/")
         modules = [crate, *(it for it in modules if it not in ("lib", "main"))]
-        text = path.read_text(encoding="utf-8")
         add(modules)
         for owner, name in names_in(text):
             # A check names a method by the module of its type, wherever the `impl` block is.
@@ -107,11 +106,10 @@ def paths_of_code():
     for crate, owner, name in methods:
         for modules in homes.get((crate, owner), []):
             add([*modules, owner, name])
-    for path in ROOT.glob("crates/*/specs/**/*.antt"):
-        crate, *rest = path.relative_to(ROOT / "crates").with_suffix("").parts
-        text = path.read_text(encoding="utf-8")
+    for path, text in texts("crates/*/specs/**/*.antt").items():
+        _crates, *rest = path.removesuffix(".antt").split("/")
         for name in re.findall(r"(?m)^ *(?:(?:abbrev|unfoldable|record|data|pub) )*(\w+)\b", text):
-            add([crate, *rest, name])
+            add([*rest, name])
     return ends
 
 

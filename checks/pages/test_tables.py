@@ -1,6 +1,7 @@
 """Compares the rows of tables with their sources.
 
-- docs/PROGRAM.md: the output of each command, and each status with its line, in runs of the program `wkb_hex`.
+- docs/PROGRAM.md: the output of each command, and each status with its line, in runs of the program `wkb_hex`, which
+  write nothing to standard error.
 - ARCHITECTURE.md: its crates are those of crates.txt, each below those that use it. A path in the table of rules is one
   of the crate that its row names last.
 - c/package/package.md: each file is in the package that c/package/dist writes.
@@ -20,7 +21,7 @@ import subprocess
 
 from checks import judge
 from library import wkb
-from pages import ROOT, program, rows_of, spans, text_of, texts
+from pages import ROOT, paths, program, rows_of, spans, text_of, texts
 
 SPEED = "docs/SPEED.md"
 # What a script names that builds for a system or a processor.
@@ -31,6 +32,7 @@ QUOTIENTS = "our time / plain C"
 PAGE, PROGRAM = "docs/PROGRAM.md", program("wkb_hex")
 POLYGON, POINT = text_of("examples/polygon_with_hole.hex").strip(), text_of("examples/point.hex").strip()
 REFUSED = "0107000000ffffffff"
+SILENCE = "The program writes nothing to standard error"
 NUMBERS = {"two": 2, "three": 3, "four": 4, "five": 5, "six": 6, "seven": 7}
 # So much memory that the program starts, and has none for the lists of a long input.
 LITTLE = 16 << 20
@@ -39,16 +41,17 @@ LONG = "0102000000" + (10**6).to_bytes(4, "little").hex() + "00" * 16 * 10**6
 
 @functools.lru_cache(maxsize=None)
 def run(words, text="", stdin=None, stdout=None, memory=None):
-    """(status, output) of a run of the program on a text, or with other files; and with so much memory."""
+    """(status, output, errors) of a run of the program on a text, or with other files; and with so much memory."""
     limit = memory and (lambda: resource.setrlimit(resource.RLIMIT_AS, (memory, memory)))
     given = os.open(stdin, os.O_RDONLY) if stdin else None
     taken = os.open(stdout, os.O_WRONLY) if stdout else None
     how = {"stdin": given} if stdin else {"input": text.encode()}
-    ran = subprocess.run([PROGRAM, *words], stdout=taken or subprocess.PIPE, preexec_fn=limit, **how)
+    how.update(stdout=taken or subprocess.PIPE, stderr=subprocess.PIPE, preexec_fn=limit)
+    ran = subprocess.run([PROGRAM, *words], **how)
     for file in (given, taken):
         if file is not None:
             os.close(file)
-    return ran.returncode, (ran.stdout or b"").decode()
+    return ran.returncode, (ran.stdout or b"").decode(), ran.stderr.decode(errors="replace")
 
 
 def usage():
@@ -99,10 +102,17 @@ def wrong_statuses():
             if when not in known:
                 yield f"docs/PROGRAM.md:{number}: no run shows `{when}`"
             for words, how, expected in known.get(when, []):
-                status, printed = run(words, **how)
+                status, printed, _ = run(words, **how)
                 if str(status) != row[0] or not is_line(row[2], printed, expected):
                     yield f"docs/PROGRAM.md:{number}: {when}: the program prints {printed!r} and ends with {status}"
     yield from (f"docs/PROGRAM.md: no row of the statuses says `{it}`" for it in known.keys() - seen)
+
+
+def wrong_silence():
+    """What the runs of the statuses write to standard error, beside what the page says of it."""
+    found = {run(words, **how)[2] for runs in cases().values() for words, how, _ in runs} - {""}
+    if bool(found) == (SILENCE in text_of(PAGE)):
+        yield f"{PAGE}: to standard error the program writes {found or 'nothing'}"
 
 
 def written(command, text):
@@ -186,7 +196,7 @@ def packaged():
     text = text_of("c/package/dist").replace("\\\n", " ")
     words = re.findall(r'(?m)^cp -r (.*) "\$to/"$', text) + re.findall(r'(?m)^mkdir "\$to"/(\{.*\})$', text)
     ran = subprocess.run(["bash", "-c", f"printf '%s\\n' {' '.join(words)}"], cwd=ROOT / "c", stdout=subprocess.PIPE)
-    proved = [f"proved/{it.name}" for it in (ROOT / "c/proved").iterdir() if it.suffix == ".s" or it.name == "PROVED"]
+    proved = [it.removeprefix("c/") for it in paths("c/proved/*.s", "c/proved/PROVED")]
     written = re.findall(r'>"\$to/([^"]*)"$', text, re.M)
     return {os.path.basename(it) for it in ran.stdout.decode().split()} | {*proved, *written, "SUMS"}
 
@@ -213,7 +223,7 @@ def wrong_citation():
     """The errors in the licences and the title of CITATION.cff."""
     text = text_of("CITATION.cff")
     listed = re.findall(r"(?m)^  - (.*)$", re.search(r"(?m)^license:\n((?:  - .*\n)+)", text)[1])
-    files = sorted(it.name for it in ROOT.glob("LICENSE-*"))
+    files = paths("LICENSE-*")
     if sorted(f"LICENSE-{it.split('-')[0].upper()}" for it in listed) != files:
         yield f"CITATION.cff: the licences are {files}"
     title = re.search(r"(?m)^# (.*)$", text_of("README.md"))[1]
@@ -308,6 +318,7 @@ class Program(judge.Judge):
         (PAGE, "| `le`, `be` | the ISO", "| `ewkb-le`, `be` | the ISO", "ewkb-le prints"),
         (PAGE, "the geometry's own SRID", "SRID 4326", "ewkb-be prints"),
         (PAGE, "| `srid` | the", "| `lost` | the", "the program's commands are"),
+        (PAGE, "writes nothing to", "writes its errors to", "to standard error the program writes nothing"),
     ]
     is_apart = True
 
@@ -317,4 +328,4 @@ class Program(judge.Judge):
         judge.need_program()
 
     def wrong(self):
-        yield from (*wrong_statuses(), *wrong_commands())
+        yield from (*wrong_statuses(), *wrong_commands(), *wrong_silence())

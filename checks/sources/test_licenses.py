@@ -2,12 +2,13 @@
 import hashlib
 import json
 import os
+import pathlib
 import re
 import subprocess
 import unittest
 
 from checks import judge
-from pages import ROOT, files, text_of
+from pages import ROOT, files, paths, text_of
 
 LINE = "SPDX-License-Identifier: MIT OR Apache-2.0"
 # What is compiled, imported, installed or built with, by its path.
@@ -51,7 +52,7 @@ class Texts(judge.Judge):
 
     def wrong(self):
         named = set(re.findall(r"[\w.-]+", " ".join(re.findall(r'License-Identifier = "(.*)"', text_of("REUSE.toml")))))
-        texts = {it.stem for it in (ROOT / "LICENSES").glob("*.txt")}
+        texts = {pathlib.PurePath(it).stem for it in paths("LICENSES/*.txt")}
         if texts != named - {"OR", "AND"}:
             yield f"LICENSES has {texts}, and REUSE.toml names {named}"
         for copy, name in self.copies.items():

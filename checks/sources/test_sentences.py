@@ -87,8 +87,7 @@ def rows():
 def definitions(crate):
     """The definitions of a crate's specs that are public: those at the start of a line, and those of mutual blocks."""
     found = set()
-    for path in sorted(ROOT.glob(f"crates/{crate}/specs/**/*.antt")):
-        text = path.read_text(encoding="utf-8")
+    for text in texts(f"crates/{crate}/specs/**/*.antt").values():
         found.update(re.findall(r"(?m)^(?:abbrev )?pub (?:record |data )?([\w-]+)", text))
         inside = re.findall(r"(?m)^  pub ([\w-]+) :", text)
         found.update(it for it in inside if re.search(rf"(?m)^  {re.escape(it)} .*=", text))

@@ -55,5 +55,4 @@ class Versions(unittest.TestCase):
         self.assertEqual(re.findall(RUST[1], pages.text_of(RUST[0])), [oldest])
 
     def test_the_script_of_postgres_is_of_it(self):
-        found = [it.name for it in pages.ROOT.glob("postgres/wkb--*.sql") if it.name.count("--") == 1]
-        self.assertEqual(found, [f"wkb--{self.version}.sql"])
+        self.assertEqual(pages.paths("postgres/wkb--*.sql"), [f"postgres/wkb--{self.version}.sql"])

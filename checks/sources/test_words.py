@@ -11,11 +11,11 @@ import collections
 import re
 
 from checks import judge
-from pages import ROOT, text_of, texts
-from specs import CRATES, Specs, defined
+from pages import text_of, texts
+from specs import Specs, defined
 
 FACE = "wkb"
-TESTS = re.compile(r"_cases$|^rows$")
+TESTS = re.compile(r"^crates/(\w+_cases|rows)/")
 DERIVED = {"new", "main", "drop", "clone", "eq", "hash"}
 RUST = re.compile(r"^\s*(?:pub(?:\([a-z]+\))? )?(?:const )?(?:fn|struct|enum|trait|type|const) ([A-Za-z_]\w*)")
 LEANING = re.compile(r" *(--|///?) (so|the same|those|they)\b", re.I)
@@ -48,17 +48,14 @@ def promises(text, name):
 def places():
     """The files that define each name."""
     found = collections.defaultdict(set)
-    for crate in sorted(path for path in CRATES.iterdir() if not TESTS.search(path.name)):
-        for path in crate.glob("specs/**/*.antt"):
-            for name in defined(text_of(path.relative_to(ROOT))):
-                found[name].add(str(path.relative_to(ROOT)))
+    for path, text in texts("crates/*/specs/**/*.antt").items():
+        for name in () if TESTS.search(path) else defined(text):
+            found[name].add(path)
     meant = set(found)
-    for crate in sorted(path for path in CRATES.iterdir() if not TESTS.search(path.name)):
-        for path in crate.glob("src/**/*.rt"):
-            text = text_of(path.relative_to(ROOT))
-            for name in in_code(text):
-                if name not in meant or not promises(text, name):
-                    found[name].add(str(path.relative_to(ROOT)))
+    for path, text in texts("crates/*/src/**/*.rt").items():
+        for name in () if TESTS.search(path) else in_code(text):
+            if name not in meant or not promises(text, name):
+                found[name].add(path)
     return found
 
 
