@@ -1,6 +1,6 @@
 /* SPDX-License-Identifier: MIT OR Apache-2.0 */
-/* Well-Known Binary in SQLite. `make sqlite` in the folder above builds it as sqlite/wkb.so, which `.load ./wkb` loads
- * in that folder. These functions have the names and the meanings of those of the PostgreSQL extension:
+/* Well-Known Binary in SQLite. `make sqlite` in the folder of wkb.h builds it as out/sqlite/wkb.so, which
+ * `.load out/sqlite/wkb` loads there. These functions have the names and the meanings of those of the PostgreSQL extension:
  *
  *   wkb_well_formed(b)     1 if the blob is exactly one well-formed geometry, without trailing bytes, else 0
  *   wkb_fault(b)           why it is not, as text; NULL if it is
