@@ -246,7 +246,7 @@ class Late(unittest.TestCase):
         other.__loader__.exec_module(other)
         members = 2 * (256 * ("",),) + (tuple(Kind), tuple(wkb.Dimension), tuple(wkb.Order))
         other.give(*self.types(other), wkb.Refused, *members, len, len)
-        made = [other.check(POINT) for _ in range(50)]
+        made = [it for _ in range(25) for it in (other.check(POINT), other.bounds(POINT))]
         ending = weakref.ref(other)
         del made[kept:], other
         gc.collect()

@@ -1,6 +1,7 @@
 /* SPDX-License-Identifier: MIT OR Apache-2.0 */
 /* Records: objects with a few values at fixed places, which the package's frozen dataclasses and its tables inherit.
- * They hold numbers, members of enums, memory and other such records: the collector of cycles doesn't track them. */
+ * They hold numbers, members of enums, memory and other such records. The collector of cycles doesn't track them, but for
+ * the range without numbers. */
 #include "extension.h"
 
 #include <string.h>
@@ -114,7 +115,8 @@ PyObject *geometry_of(state *s, int which, const void *from) {
   return whole(it, 9);
 }
 
-/* A range. Those without numbers are one object. */
+/* A range. Those without numbers are one object, which the collector tracks: the module holds it, and it its type, which
+ * holds the module. */
 static PyObject *range_of(state *s, const wkb_range *r) {
   if (r->count == 0 && s->it[EMPTY_RANGE] != NULL) return Py_NewRef(s->it[EMPTY_RANGE]);
   record *it = new_record(s, RANGE);
@@ -123,8 +125,9 @@ static PyObject *range_of(state *s, const wkb_range *r) {
   it->value[1] = PyFloat_FromDouble(r->greatest);
   it->value[2] = PyLong_FromLongLong((int64_t)r->count);
   PyObject *made = whole(it, 3);
-  if (r->count == 0 && r->least > r->greatest) s->it[EMPTY_RANGE] = Py_XNewRef(made);
-  return made;
+  if (made == NULL || r->count > 0 || !(r->least > r->greatest)) return made;
+  PyObject_GC_Track(made);
+  return s->it[EMPTY_RANGE] = Py_NewRef(made);
 }
 
 PyObject *box_of(state *s, const wkb_box *box) {

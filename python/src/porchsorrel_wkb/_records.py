@@ -222,7 +222,9 @@ class Table(_wkb.TableValues, Sequence[Record]):
     def __getitem__(self, index: slice) -> List[Record]: ...
 
     def __getitem__(self, index: Union[int, slice]) -> Union[Record, List[Record]]:
-        place = range(len(self))[index]
+        if isinstance(index, int) and 0 <= index < self._count:
+            return self._at(index)
+        place = range(self._count)[index]
         return self._at(place) if isinstance(place, int) else [self._at(i) for i in place]
 
     def __iter__(self) -> Iterator[Record]:
