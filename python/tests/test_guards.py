@@ -230,15 +230,18 @@ class Late(unittest.TestCase):
         other.__loader__.exec_module(other)
         for given in ((), (1,), 6 * (int,) + (int,), 6 * (int,) + 5 * ((),) + (1,)):
             self.assertRaises((TypeError, IndexError), other.give, *given)
-        types = wkb.Found, wkb.Fault, wkb.Part, wkb.Range, wkb.Box, wkb.Table
-        for given in (types, self.types(other)[:1] + types[1:]):
-            self.assertRaisesRegex(TypeError, "inherit those of this module", other.give, *given)
+        types, own = (wkb.Found, wkb.Fault, wkb.Part, wkb.Range, wkb.Box, wkb.Table), self.types(other)
+        for given in (types, own[:1] + types[1:], [it.__base__ for it in own], own[:5] + (own[5].__base__,),
+                      self.types(other, __slots__="more"), self.types(other, __slots__="__dict__"),
+                      self.types(other, __slots__="__weakref__"), own[:3] + self.types(other, __doc__="")[3:]):
+            with self.subTest(given):
+                self.assertRaisesRegex(TypeError, "inherit those of this module", other.give, *given)
 
     @staticmethod
-    def types(other):
-        """Types of records for another extension."""
-        names = "Found", "Fault", "Part", "Range", "Box", "Table"
-        return tuple(type(name, (getattr(other, f"{name}Values"),), {"__slots__": ()}) for name in names)
+    def types(other, **fields):
+        """Types of records for another extension, without a field if none is given."""
+        names, fields = ("Found", "Fault", "Part", "Range", "Box", "Table"), fields or {"__slots__": ()}
+        return tuple(type(name, (getattr(other, f"{name}Values"),), dict(fields)) for name in names)
 
     def ended(self, kept):
         """End an extension that has made records, of which so many are kept until it should have ended."""

@@ -2,6 +2,25 @@
 /* The module `porchsorrel_wkb._wkb`: its calls, and what it gets of the package. */
 #include "extension.h"
 
+/* Whether the records of a type lie in memory as those of the type that it inherits: behind a header of the collector,
+ * and without more fields. */
+static int is_of_records(PyObject *type, PyObject *inherited) {
+  static const char *const PLACES[] = {"__basicsize__", "__dictoffset__", "__weakrefoffset__", NULL};
+  int is_equal = PyType_IsSubtype((PyTypeObject *)type, (PyTypeObject *)inherited) &&
+                 (PyType_GetFlags((PyTypeObject *)type) & Py_TPFLAGS_HAVE_GC) != 0;
+  for (int i = 0; is_equal && PLACES[i] != NULL; i++) {
+    /* Interned, since the interpreter keeps a name with each type that it was looked up in. */
+    PyObject *place = PyUnicode_InternFromString(PLACES[i]);
+    PyObject *own = place == NULL ? NULL : PyObject_GetAttr(type, place);
+    PyObject *its = own == NULL ? NULL : PyObject_GetAttr(inherited, place);
+    is_equal = its != NULL && PyObject_RichCompareBool(own, its, Py_EQ) == 1;
+    Py_XDECREF(its);
+    Py_XDECREF(own);
+    Py_XDECREF(place);
+  }
+  return is_equal;
+}
+
 /* give(Found, Fault, Part, Range, Box, Table, Refused, statuses, texts, kinds, dimensions, orders, make_options,
  * no_such) */
 static PyObject *give(PyObject *module, PyObject *args) {
@@ -11,8 +30,10 @@ static PyObject *give(PyObject *module, PyObject *args) {
     if (it == NULL) return NULL;
     if (i <= REFUSED ? !PyType_Check(it) : i < OPTIONS ? !PyTuple_Check(it) : !PyCallable_Check(it))
       return PyErr_Format(PyExc_TypeError, "types, tuples of members and functions are given");
-    if (i <= TABLE && !PyType_IsSubtype((PyTypeObject *)it, (PyTypeObject *)s->it[VALUES + i]))
-      return PyErr_Format(PyExc_TypeError, "the types of records inherit those of this module");
+    if (i <= TABLE && !is_of_records(it, s->it[VALUES + i])) {
+      if (PyErr_Occurred()) return NULL;
+      return PyErr_Format(PyExc_TypeError, "the types of records inherit those of this module, without a field");
+    }
     s->it[i] = Py_NewRef(it);
     Py_XDECREF(before);
   }
