@@ -13,7 +13,7 @@ use Rattle.wkb_geom.specs.Encodings.{encoding, IsRewriting, IsRewritingWithSrid}
 use Rattle.wkb_geom.specs.Errors.{Tells}
 use Rattle.wkb_geom.specs.Fronts.{Front}
 use Rattle.wkb_geom.specs.Geometries.{geometry_of}
-use Rattle.wkb_check.specs.Bounded.{HasGeometry}
+use Rattle.wkb_check.specs.Known.{HasGeometry}
 use Rattle.wkb_check.specs.Public.{DescribesFront, DescribesOnlyFront, IsRefusedFor}
 use Rattle.wkb_check.specs.declared.answer.Refused.{Refused}
 use Rattle.wkb_check.specs.declared.answer.Summary.{Summary}

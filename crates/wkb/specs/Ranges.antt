@@ -7,7 +7,7 @@ use Rattle.wkb.specs.Values.{Coordinate, Value, Values, no_members, member}
 use Rattle.wkb.specs.Checks.{Range, rank, lower, higher, with_number, with_word, widened, range_of, no_numbers, Axis}
 use Rattle.wkb.specs.Checks.{axis_place, words_in, words_on, Bounds, AreBounds, x_axis, y_axis, z_axis, m_axis}
 use Rattle.wkb.specs.Reads.{list_of_values}
-use Rattle.wkb_check.specs.Ordinates.{words_of_each, word_at, words_on_each}
+use Rattle.wkb_bounds.specs.Ordinates.{words_of_each, word_at, words_on_each}
 pub use Rattle.wkb.specs.Terms.{IsWithin, BringsWithin}
 
 -- ---- a range that is widened by a word

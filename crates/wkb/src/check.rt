@@ -11,6 +11,7 @@
 //!
 //! Reading rejected bytes directly is right as well, but may first allocate up to 15 list entries for each byte.
 
-pub use wkb_check::{Bounds, Range, Refused, Summary, bounds, check};
+pub use wkb_bounds::{Bounds, Range, bounds};
+pub use wkb_check::{Refused, Summary, check};
 pub use wkb_geom::Cause;
 pub use wkb_geom::code::WkbType;

@@ -6,12 +6,12 @@ use lib.Seq.{sets, sets-eq}
 use Rattle.std.proofs.Common.{set}
 use Rattle.std.proofs.lemmas.List.{nil_from_length}
 use Rattle.wkb_geom.specs.Fronts.{Front}
-use Rattle.wkb_check.specs.Bounded.{HasGeometries}
+use Rattle.wkb_check.specs.Known.{HasGeometries}
 use Rattle.wkb_check.specs.Pieces.{leading, count_of, size}
 use Rattle.wkb_check.specs.Tables.{geometry_entries, FitGeometries, entry, place, entry_count}
 use Rattle.wkb_check.specs.declared.parts.Part.{Part}
 use Rattle.wkb_check.proofs.Placing.{spelled_size, alone}
-use Rattle.wkb_check.proofs.Scanning.{geometry_of_front}
+use Rattle.wkb_check.proofs.Joining.{geometry_of_front}
 use Rattle.wkb_c.specs.Checks.{IsFound, whole_entry}
 use Rattle.wkb_c.specs.declared.found.Found.{Found}
 use Rattle.wkb_c.specs.Columns.{IsRow, IsRefusedWith}

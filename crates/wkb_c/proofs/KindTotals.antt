@@ -10,8 +10,8 @@ use Rattle.std.proofs.lemmas.List.Sums.{sum_by-cons}
 use Rattle.wkb_geom.specs.declared.common.Endianness.{Endianness}
 use Rattle.wkb_geom.specs.Values.{each}
 use Rattle.wkb_laws.proofs.OneFront.{one_spelling}
-use Rattle.wkb_check.specs.Bounded.{HasGeometry}
-use Rattle.wkb_check.specs.Counted.{coordinate_count}
+use Rattle.wkb_check.specs.Known.{HasGeometry}
+use Rattle.wkb_geom.specs.Counted.{coordinate_count}
 use Rattle.wkb_check.specs.Pieces.{piece_of, IsPieceAt}
 use Rattle.wkb_check.specs.Public.{DescribesFront}
 use Rattle.wkb_check.specs.declared.answer.Summary.{Summary}

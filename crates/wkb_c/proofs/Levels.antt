@@ -15,7 +15,7 @@ use Rattle.wkb_geom.specs.Items.{length-items}
 use Rattle.wkb_geom.specs.Reading.{coordinate, coordinates}
 use Rattle.wkb_laws.proofs.Lengths.{width-least}
 use Rattle.wkb_laws.proofs.Parts.{item_at}
-use Rattle.wkb_check.specs.Bounded.{HasGeometry}
+use Rattle.wkb_check.specs.Known.{HasGeometry}
 use Rattle.wkb_check.specs.Pieces.{rings_of, pieces_of, IsAhead, IsTaken, IsPieceAt}
 use Rattle.wkb_check.specs.declared.pieces.Pieces.{Pieces}
 use Rattle.wkb_check.specs.declared.pieces.Piece.{Piece}

@@ -1,7 +1,7 @@
 -- The bounds of a column's rows: one box a row.
 use Rattle.std.specs.Prelude.{◌≡◌, ℕ, ◌<◌, List, slice_index, slice_index_or}
-use Rattle.wkb_check.specs.Bounded.{BoundsFront, nothing}
-use Rattle.wkb_check.specs.declared.range.Bounds.{Bounds}
+use Rattle.wkb_bounds.specs.Bounded.{BoundsFront, nothing}
+use Rattle.wkb_bounds.specs.declared.range.Bounds.{Bounds}
 use Rattle.wkb_c.specs.Columns.{IsRow, LacksRow, IsRefusedWith}
 use Rattle.wkb_c.specs.declared.column.Column.{Column}
 use Rattle.wkb_c.specs.declared.status.TheConstants.{OK}

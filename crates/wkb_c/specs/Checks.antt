@@ -7,14 +7,14 @@ use Rattle.wkb_geom.specs.Numbers.{order_byte}
 use Rattle.wkb_geom.specs.Values.{Value, kind, dimension, member_count}
 use Rattle.wkb_geom.specs.Spellings.{Spelling, header}
 use Rattle.wkb_geom.specs.Fronts.{Front}
-use Rattle.wkb_check.specs.Counted.{coordinate_count}
+use Rattle.wkb_geom.specs.Counted.{coordinate_count}
 use Rattle.wkb_check.specs.Pieces.{count_of, leading}
 use Rattle.wkb_check.specs.declared.parts.Part.{Part}
 use Rattle.wkb_c.specs.declared.fault.WkbFault.{WkbFault}
 use Rattle.wkb_c.specs.declared.found.Found.{Found}
 use Rattle.wkb_c.specs.declared.status.TheConstants.{OK, NO_MEMORY}
-use Rattle.wkb_check.specs.Bounded.{BoundsFront}
-use Rattle.wkb_check.specs.declared.range.Bounds.{Bounds}
+use Rattle.wkb_bounds.specs.Bounded.{BoundsFront}
+use Rattle.wkb_bounds.specs.declared.range.Bounds.{Bounds}
 use Rattle.wkb_c.specs.Statuses.{IsFault}
 
 -- the input begins with a geometry, and these are its numbers

@@ -10,8 +10,8 @@ use denote.Struct.Values.{Values}
 use mir.Syntax.{Ty}
 use prog.Offsets.{Lies}
 use Rattle.wkb_check.specs.contracts.parts.Part.{the_type as part}
-use Rattle.wkb_check.specs.contracts.range.Bounds.{the_type as bounds}
-use Rattle.wkb_check.specs.contracts.range.Range.{the_type as range}
+use Rattle.wkb_bounds.specs.contracts.range.Bounds.{the_type as bounds}
+use Rattle.wkb_bounds.specs.contracts.range.Range.{the_type as range}
 use Rattle.wkb_c.specs.contracts.column.Column.{the_type as column}
 use Rattle.wkb_c.specs.contracts.coordinates.LevelSlices.{the_type as level_slices}
 use Rattle.wkb_c.specs.contracts.coordinates.Totals.{the_type as totals}

@@ -1,7 +1,7 @@
 //! The bounds of a column's rows.
 
 ghost use Rattle.std.specs.Prelude.{◌≡◌, ◌+◌, ◌<◌, ◌^◌, length, IfOk, IfErr};
-ghost use Rattle.wkb_check.specs.Bounded.{BoundsFront};
+ghost use Rattle.wkb_bounds.specs.Bounded.{BoundsFront};
 ghost use Rattle.wkb_c.specs.Boxes.{IsRowBox, AreRowBoxes};
 ghost use Rattle.wkb_c.specs.Classes.{FitsByte};
 ghost use Rattle.wkb_c.specs.Columns.{Reach, IsRefusedWith};
@@ -10,7 +10,7 @@ ghost use Rattle.wkb_c.specs.RowItems.{KeepsFrom, rows_of};
 use crate::column::Column;
 use crate::fault::status_of_cause;
 use crate::status::OK;
-use wkb_check::{Bounds, put_any_bounds, put_plain_bounds};
+use wkb_bounds::{Bounds, put_any_bounds, put_plain_bounds};
 
 /// Puts the bounds of row i, and returns its status.
 fn bound_row(column: &Column, i: usize, reach: &mut u64, found: &mut Bounds) -> u32

@@ -6,7 +6,7 @@ ghost use Rattle.wkb_geom.specs.declared.code.TheConstants.{POLYGON};
 ghost use lib.Seq.{sets};
 ghost use Rattle.wkb_geom.specs.Dimensions.{width};
 ghost use Rattle.wkb_geom.specs.Reading.{coordinate};
-ghost use Rattle.wkb_check.specs.Bounded.{HasGeometry};
+ghost use Rattle.wkb_check.specs.Known.{HasGeometry};
 ghost use Rattle.wkb_check.specs.Pieces.{IsPieceAt};
 ghost use Rattle.wkb_check.specs.Public.{DescribesFront};
 ghost use Rattle.wkb_c.specs.Coordinates.{z_of, m_of, HasRoomUpTo};

@@ -23,7 +23,7 @@ mod status;
 mod there_and_back;
 
 ghost use Rattle.std.specs.Prelude.{◌≡◌, ◌≢◌, ◌≤◌, ◌+◌, ◌⊎◌, ◌↔◌, None, length};
-ghost use Rattle.wkb_check.specs.Bounded.{BoundsFront};
+ghost use Rattle.wkb_bounds.specs.Bounded.{BoundsFront};
 ghost use Rattle.wkb_c.specs.Checks.{IsFound, TellsFound, TellsBounds};
 ghost use Rattle.wkb_c.specs.Classes.{IsRefusalStatus, IsNoRefusal};
 ghost use Rattle.wkb_c.specs.Requests.{request_of};
@@ -39,7 +39,8 @@ use inputs::{FIRST, SECOND, compare};
 use options::{Options, request_of};
 use parts::list_parts;
 use status::{NO_MEMORY, NO_ROOM, OK, UNKNOWN_OPTION};
-use wkb_check::{Bounds, Part, check_plain, put_any_bounds, put_plain_bounds};
+use wkb_bounds::{Bounds, put_any_bounds, put_plain_bounds};
+use wkb_check::{Part, check_plain};
 
 /// Whether a geometry is at the start of the bytes.
 ///

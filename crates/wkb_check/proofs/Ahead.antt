@@ -15,7 +15,7 @@ use Rattle.wkb_geom.specs.Codes.{iso_code}
 use Rattle.wkb_geom.specs.Spellings.{header, Header}
 use Rattle.wkb_laws.proofs.Parts.{then_append, begins_number, drop_front, header_length}
 use Rattle.wkb_laws.proofs.Complete.{head_of}
-use Rattle.wkb_check.specs.Bounded.{HasGeometry}
+use Rattle.wkb_check.specs.Known.{HasGeometry}
 use Rattle.wkb_laws.proofs.OneFront.{one_spelling}
 use Rattle.wkb_check.specs.declared.answer.Summary.{Summary}
 use Rattle.wkb_check.specs.Public.{DescribesFront}

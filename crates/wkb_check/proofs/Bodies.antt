@@ -11,7 +11,7 @@ unfoldable use Rattle.wkb_laws.specs.Prelude.{head_at}
 use Rattle.wkb_laws.proofs.Parts.{then_length, then_append, drop_front, header_length}
 use Rattle.wkb_laws.proofs.Complete.{ring_read}
 use Rattle.wkb_laws.proofs.Lengths.{coordinates_length}
-use Rattle.wkb_check.specs.Bounded.{AreWhole, decoded_rings, HasGeometry}
+use Rattle.wkb_check.specs.Known.{AreWhole, decoded_rings, HasGeometry}
 use Rattle.wkb_check.proofs.Public.{geometry_opens}
 
 -- the members of one kind are geometries

@@ -2,7 +2,7 @@
 use Rattle.std.proofs.Common.{◌≡◌, ℕ, suc, ◌+◌, ◌-◌, ◌<◌, ◌≤◌, List, length, drop, refl, sym, ap, ◌∙◌, arith}
 use lib.Seq.{sets, length-sets}
 use Rattle.wkb_laws.specs.Prelude.{Value, Spelling, node}
-use Rattle.wkb_check.specs.Bounded.{HasGeometry, HasGeometries}
+use Rattle.wkb_check.specs.Known.{HasGeometry, HasGeometries}
 use Rattle.wkb_check.specs.Pieces.{sizes}
 use Rattle.wkb_check.specs.Tables.{geometry_entries, member_entries, entry_count, entry_counts}
 use Rattle.wkb_check.specs.declared.parts.Part.{Part}

@@ -5,7 +5,7 @@ use Rattle.std.proofs.Common.{lt-ltb, le-ltb}
 use Rattle.std.specs.Prelude.{Some, None}
 use Rattle.std.specs.Iterator.{MakesProgress, Yields, at_most}
 use Rattle.wkb_laws.specs.Prelude.{Endianness, Dimension, number}
-use Rattle.wkb_check.specs.Bounded.{HasGeometry, HasGeometries, decoded_rings}
+use Rattle.wkb_check.specs.Known.{HasGeometry, HasGeometries, decoded_rings}
 use Rattle.wkb_check.specs.Pieces.{Ahead, own_end, ring_piece, piece_of, pieces_of, pieces_of_rings, pieces_of_each}
 use Rattle.wkb_check.specs.Pieces.{size_of_rings, sizes, IsPieceAt, IsInside, IsAhead, HasAhead, Takes, Steps}
 use Rattle.wkb_check.specs.Pieces.{bytes_left, AreRings, IsRing}
@@ -14,7 +14,7 @@ use Rattle.wkb_check.specs.declared.pieces.Pieces.{Pieces}
 use Rattle.wkb_check.proofs.Placing.{First, alone, first_one, of_first, Inside, leaf_inside, rings_inside}
 use Rattle.wkb_check.proofs.Placing.{members_inside, own_piece, geometry_inside, onward, none_of}
 use Rattle.wkb_check.proofs.Rings.{NextRing, next_ring}
-use Rattle.wkb_check.proofs.Scanning.{few_geometries, join_spellings, join_values, joined}
+use Rattle.wkb_check.proofs.Joining.{few_geometries, join_spellings, join_values, joined}
 
 pub ahead_first : (buf : List ℕ) (order : Endianness) (d : Dimension) (g : HasGeometry buf)
     → Ahead buf order d 0 1 0 (pieces_of 0 g.spelled g.value)

@@ -4,14 +4,11 @@ pub mod Counting
 pub mod Walking
 pub mod Leaves
 pub mod Public
-pub mod Ranking
-pub mod Widening
 pub mod Bodies
-pub mod Scanning
 pub mod Subjects
 pub mod Ahead
 pub mod Rings
 pub mod Placing
 pub mod Filling
 pub mod Following
-pub mod Words
+pub mod Joining

@@ -23,7 +23,7 @@ use Rattle.wkb_geom.specs.Numbers.{all_nan}
 use Rattle.std.proofs.lemmas.Bool.{cond_both}
 use Rattle.std.proofs.Common.{Bool, true, false, nat_lt}
 unfoldable use Rattle.wkb_geom.specs.Reading.{repeated, collection_told}
-use Rattle.wkb_check.specs.Counted.{coordinate_count_each}
+use Rattle.wkb_geom.specs.Counted.{coordinate_count_each}
 use Rattle.wkb_check.specs.declared.nested.OpenCounts.{OpenCounts}
 use Rattle.wkb_check.specs.declared.walk.Walk.{Walk}
 use Rattle.wkb_check.specs.Passes.{tally, open_counts, counts_of, IsFollowed, Passes, PassesOrOpens}

@@ -17,7 +17,7 @@ use Rattle.wkb_geom.specs.Spellings.{Header, IsHeader, member_part}
 use Rattle.wkb_laws.proofs.Parts.{then_length, then_append, drop_front, header_length}
 use Rattle.wkb_laws.proofs.Lengths.{coordinate_length, coordinates_length}
 use Rattle.wkb_laws.proofs.Lists.{count-each}
-use Rattle.wkb_check.specs.Bounded.{HasGeometry, HasGeometries, AreWhole, decoded_rings}
+use Rattle.wkb_check.specs.Known.{HasGeometry, HasGeometries, AreWhole, decoded_rings}
 use Rattle.wkb_check.specs.Pieces.{count_of, leading, rings_of, size_of_rings, content_size, size, sizes, own_end}
 use Rattle.wkb_check.specs.Pieces.{piece_of, pieces_of, pieces_of_rings, pieces_of_each, IsInside}
 use Rattle.wkb_check.specs.Tables.{entry_of, ring_entries, geometry_entries, member_entries, entry_count, entry_counts}

@@ -15,7 +15,7 @@ use Rattle.wkb_geom.specs.Values.{Coordinate}
 use Rattle.wkb_check.specs.declared.parts.Part.{Part}
 use Rattle.wkb_check.specs.Tables.{entry_of, ring_entries}
 use Rattle.wkb_check.specs.Pieces.{own_end, ring_piece, size_of_rings}
-use Rattle.wkb_check.specs.Bounded.{decoded_rings, AreWhole}
+use Rattle.wkb_check.specs.Known.{decoded_rings, AreWhole}
 
 pub width_is_small : (d : Dimension) → width d < 2 ^ 32
 width_is_small Xy = omega arith

@@ -14,7 +14,7 @@ use Rattle.wkb_geom.specs.Reading.{kind_told, collection_within_told, at_no_cost
 use Rattle.wkb_geom.specs.Reading.{type_kind, layout_of}
 unfoldable use Rattle.wkb_geom.specs.Reading.{repeated, geometry_told, point_told, line_string_told, polygon_told}
 unfoldable use Rattle.wkb_geom.specs.Reading.{multi_point_told}
-use Rattle.wkb_check.specs.Counted.{coordinate_count}
+use Rattle.wkb_geom.specs.Counted.{coordinate_count}
 
 -- parts that are begun, and coordinates that are passed
 abbrev pub Tally : Type 0

@@ -4,7 +4,7 @@ ghost use Rattle.std.specs.Prelude.{◌≡◌, ◌+◌, ◌≤◌, ◌<◌, ◌^
 ghost use Rattle.std.specs.Iterator.{at_most};
 ghost use Rattle.wkb_geom.specs.Numbers.{number};
 ghost use Rattle.wkb_geom.specs.Reading.{type_kind};
-ghost use Rattle.wkb_check.specs.Bounded.{HasGeometry};
+ghost use Rattle.wkb_check.specs.Known.{HasGeometry};
 ghost use Rattle.wkb_check.specs.Pieces.{own_end, ring_piece, IsPieceAt, IsHeaderAt, HasAhead, HasAll, IsBehind};
 ghost use Rattle.wkb_check.specs.Pieces.{Takes, TakesOrStays, Steps, AreRings, IsRing, bytes_left};
 ghost use Rattle.wkb_check.specs.Public.{DescribesFront};
@@ -61,7 +61,7 @@ impl Piece {
 
     /// The geometry that begins at this byte and has this header, up to its rings or members.
     #[inline(always)]
-    pub(crate) fn of_header(
+    pub fn of_header(
         bytes: &[u8],
         begin: usize,
         kind: u32,

@@ -8,7 +8,7 @@ use Rattle.wkb_laws.proofs.OneFront.{SameSpelling, one_spelling}
 use Rattle.wkb_laws.proofs.Rewritings.{one_encoding}
 use Rattle.wkb_check.specs.declared.pieces.Piece.{Piece}
 use Rattle.wkb_check.specs.declared.pieces.Pieces.{Pieces}
-use Rattle.wkb_check.specs.Bounded.{HasGeometry}
+use Rattle.wkb_check.specs.Known.{HasGeometry}
 use Rattle.wkb_rewrite.specs.Shares.{Share, share_in, is_empty_point, own_words, written_words, word_count}
 use Rattle.wkb_rewrite.proofs.ValueShares.{shares_of, shares_same}
 use Rattle.wkb_rewrite.proofs.Encodings.{shares_encoding, shares_encoded}

@@ -10,7 +10,7 @@ use Rattle.wkb_laws.proofs.Parts.{take_front}
 use Rattle.wkb_geom.specs.Refusals.{srid_size}
 use Rattle.wkb_check.specs.declared.pieces.Piece.{Piece}
 use Rattle.wkb_check.specs.declared.pieces.Pieces.{Pieces}
-use Rattle.wkb_check.specs.Bounded.{HasGeometry}
+use Rattle.wkb_check.specs.Known.{HasGeometry}
 use Rattle.wkb_check.specs.Pieces.{own_end, pieces_of, ring_piece, Ahead, IsAhead, HasAhead, IsTaken, IsPieceAt}
 use Rattle.wkb_check.proofs.Following.{ahead_first, polygon_takes, ring_takes, none_ahead}
 use Rattle.wkb_check.proofs.Placing.{onward}

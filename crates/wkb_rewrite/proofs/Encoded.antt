@@ -5,7 +5,7 @@ use lib.Seq.{sets}
 use Rattle.wkb_laws.specs.Prelude.{Endianness, Form, inner, encoding, geometry_of}
 use Rattle.wkb_check.specs.declared.pieces.Piece.{Piece}
 use Rattle.wkb_check.specs.declared.pieces.Pieces.{Pieces}
-use Rattle.wkb_check.specs.Bounded.{HasGeometry}
+use Rattle.wkb_check.specs.Known.{HasGeometry}
 use Rattle.wkb_check.specs.Pieces.{own_end, IsPieceAt, IsTaken, pieces_of}
 use Rattle.wkb_check.proofs.Placing.{sets_after, own_piece, leaf_of, geometry_inside}
 use Rattle.wkb_check.specs.declared.answer.Summary.{Summary}

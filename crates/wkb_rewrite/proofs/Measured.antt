@@ -12,7 +12,7 @@ use Rattle.wkb_geom.specs.Reading.{type_kind}
 use Rattle.wkb_geom.specs.Spellings.{Header}
 use Rattle.wkb_check.specs.declared.pieces.Piece.{Piece}
 use Rattle.wkb_check.specs.declared.answer.Summary.{Summary}
-use Rattle.wkb_check.specs.Bounded.{HasGeometry}
+use Rattle.wkb_check.specs.Known.{HasGeometry}
 use Rattle.wkb_check.specs.Public.{DescribesFront}
 use Rattle.wkb_check.specs.Pieces.{leading, rings_of, size, piece_of, pieces_of, pieces_of_rings, pieces_of_each}
 use Rattle.wkb_check.proofs.Ahead.{type_kind_is}

@@ -10,7 +10,7 @@ use Rattle.wkb_geom.specs.Refusals.{srid_size}
 use Rattle.wkb_geom.specs.Reading.{ring_in}
 use Rattle.wkb_geom.specs.Items.{length-items}
 use Rattle.wkb_check.specs.declared.pieces.Piece.{Piece}
-use Rattle.wkb_check.specs.Bounded.{HasGeometry}
+use Rattle.wkb_check.specs.Known.{HasGeometry}
 use Rattle.wkb_check.specs.Pieces.{own_end, count_of, piece_of, pieces_of_each, ring_piece, size, Ahead}
 use Rattle.wkb_check.proofs.Ahead.{says, begins_inside}
 use Rattle.wkb_check.proofs.Placing.{own_piece, inner_pieces, first_one, of_first}

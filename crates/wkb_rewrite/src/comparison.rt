@@ -1,7 +1,7 @@
 //! Whether two geometries that are known to be there have one value.
 
 ghost use Rattle.std.specs.Prelude.{◌≡◌, ◌≤◌, ◌↔◌, length, IsTrue};
-ghost use Rattle.wkb_check.specs.Bounded.{HasGeometry};
+ghost use Rattle.wkb_check.specs.Known.{HasGeometry};
 ghost use Rattle.wkb_check.specs.Pieces.{own_end};
 ghost use Rattle.wkb_rewrite.specs.Shares.{share_in, written_words};
 

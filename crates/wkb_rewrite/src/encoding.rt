@@ -6,7 +6,7 @@ ghost use Rattle.wkb_geom.specs.declared.code.TheConstants.{MULTI_POINT, POLYGON
 ghost use Rattle.wkb_geom.specs.declared.header.TheConstants.{SRID_SIZE};
 ghost use Rattle.wkb_geom.specs.Encodings.{form_srid};
 ghost use Rattle.wkb_geom.specs.Reading.{type_kind};
-ghost use Rattle.wkb_check.specs.Bounded.{HasGeometry};
+ghost use Rattle.wkb_check.specs.Known.{HasGeometry};
 ghost use Rattle.wkb_check.specs.Pieces.{IsPieceAt};
 ghost use Rattle.wkb_check.specs.Public.{DescribesFront};
 ghost use Rattle.wkb_rewrite.specs.Targets.{IsFrontSize, FrontFits, PutsFront};

@@ -1,5 +1,5 @@
 use Rattle.wkb_c.proofs.Common.{arith}
-use Rattle.wkb_check.specs.Bounded.{nothing}
+use Rattle.wkb_bounds.specs.Bounded.{nothing}
 use Rattle.wkb_c.specs.Boxes.{IsRowBox}
 use Rattle.wkb_c.proofs.RowItems.{set_more}
 use Rattle.wkb_c.proofs.Rows.{items_more}

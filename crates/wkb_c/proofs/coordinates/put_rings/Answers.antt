@@ -1,5 +1,5 @@
 use Rattle.wkb_c.proofs.Common.{arith, ap, ◌∙◌, length}
-use Rattle.wkb_check.specs.Bounded.{HasGeometry}
+use Rattle.wkb_check.specs.Known.{HasGeometry}
 use Rattle.wkb_check.specs.Pieces.{pieces_of}
 use Rattle.wkb_c.specs.LevelLists.{levels_of}
 use Rattle.wkb_check.specs.Subjects.{subjects}

@@ -1,5 +1,5 @@
 use Rattle.std.specs.Prelude.{◌≡◌, ◌≤◌, length}
-use Rattle.wkb_check.specs.Bounded.{HasGeometry}
+use Rattle.wkb_check.specs.Known.{HasGeometry}
 use Rattle.wkb_check.specs.Pieces.{bytes_left}
 use Rattle.wkb_c.specs.LevelLists.{levels_of, AreSameSlices}
 use Rattle.wkb_check.specs.Subjects.{subjects}

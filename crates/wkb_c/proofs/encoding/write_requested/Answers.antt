@@ -1,7 +1,7 @@
 use Rattle.wkb_c.proofs.Common.{arith, length, ◌≤◌}
 use Rattle.wkb_geom.specs.Encodings.{encoding}
 use Rattle.wkb_geom.specs.Geometries.{geometry_of}
-use Rattle.wkb_check.specs.Bounded.{HasGeometry}
+use Rattle.wkb_check.specs.Known.{HasGeometry}
 use Rattle.wkb_rewrite.proofs.Measured.{at_most, here}
 use Rattle.wkb_c.proofs.Encodings.{writes, lacks_room}
 use Rattle.wkb_c.proofs.encoding.write_requested.Goals as goal

@@ -1,6 +1,6 @@
 use Rattle.std.proofs.Common.{◌≡◌, ◌+◌, ◌∷◌, [], arith, ap, length, is_some}
 use Rattle.wkb_laws.specs.Prelude.{Endianness, LittleEndian, srid_size, encoding, geometry_of}
-use Rattle.wkb_check.specs.Bounded.{HasGeometry}
+use Rattle.wkb_check.specs.Known.{HasGeometry}
 use Rattle.wkb_check.specs.Pieces.{IsAhead, pieces_of}
 use Rattle.wkb_check.proofs.Following.{given, all_given}
 use Rattle.wkb_rewrite.proofs.Measured.{srid_sizes, sizes_append, here, long_of, found_inside, measured}

@@ -1,5 +1,5 @@
 use Rattle.std.specs.Prelude.{◌≡◌, ◌≤◌, ◌-◌, length}
-use Rattle.wkb_check.specs.Bounded.{HasGeometry}
+use Rattle.wkb_check.specs.Known.{HasGeometry}
 use Rattle.wkb_check.specs.Subjects.{subjects}
 use Rattle.wkb_c.proofs.Levels.{Coming, TotalsLeft}
 use Rattle.wkb_c.proofs.coordinates.Totals.after_walk.Given as goal

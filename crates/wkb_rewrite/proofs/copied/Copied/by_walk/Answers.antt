@@ -1,5 +1,5 @@
 use Rattle.std.proofs.Common.{◌+◌, arith}
-use Rattle.wkb_check.specs.Bounded.{HasGeometry}
+use Rattle.wkb_check.specs.Known.{HasGeometry}
 use Rattle.wkb_rewrite.proofs.Measured.{here, long_of, found_inside}
 use Rattle.wkb_rewrite.proofs.Copying.{first_stands, one_more_stands, still_ahead, IsCopied, all_stand}
 use Rattle.wkb_rewrite.proofs.copied.Copied.by_walk.Goals as goal

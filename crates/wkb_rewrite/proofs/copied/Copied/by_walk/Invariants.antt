@@ -1,5 +1,5 @@
 use Rattle.std.proofs.Common.{◌-◌, length}
-use Rattle.wkb_check.specs.Bounded.{HasGeometry}
+use Rattle.wkb_check.specs.Known.{HasGeometry}
 use Rattle.wkb_rewrite.proofs.Copying.{StandSoFar}
 use Rattle.wkb_rewrite.proofs.copied.Copied.by_walk.Given as goal
 

@@ -1,5 +1,5 @@
 use Rattle.std.proofs.Common.{◌+◌, arith}
-use Rattle.wkb_check.specs.Bounded.{HasGeometry}
+use Rattle.wkb_check.specs.Known.{HasGeometry}
 use Rattle.wkb_check.specs.declared.pieces.Pieces.{Pieces}
 use Rattle.wkb_rewrite.proofs.Measured.{here, long_of, found_inside}
 use Rattle.wkb_rewrite.proofs.Copying.{IsCopied, polygon_stands}

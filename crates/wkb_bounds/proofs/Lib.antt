@@ -1,0 +1,4 @@
+pub mod Ranking
+pub mod Widening
+pub mod Words
+pub mod Scanning

@@ -1,0 +1,250 @@
+-- The words of a geometry's pieces: they widen a range as the words of its value do.
+use Rattle.std.proofs.Common.{◌≡◌, ℕ, zero, suc, ◌+◌, ◌*◌, List, [], ◌∷◌, ◌++◌, take, drop}
+use Rattle.std.proofs.Common.{Some, None, Option, true, false, nat_lt, refl, sym, ap, ◌∙◌}
+use Rattle.std.proofs.Common.{append-nil, append_assoc, subst}
+use Rattle.std.proofs.lemmas.Bool.{cond-true, cond-false}
+use Rattle.std.specs.Cmp.{first_so, second_so}
+use Rattle.wkb_geom.specs.Numbers.{is_nan}
+use Rattle.wkb_laws.specs.Prelude.{Endianness, Dimension, all_nan, width, Coordinate, Value, Values}
+use Rattle.wkb_laws.specs.Prelude.{point, line_string, polygon, multi_point, multi_line_string, multi_polygon}
+use Rattle.wkb_laws.specs.Prelude.{collection}
+use Rattle.wkb_laws.specs.Prelude.{no_members, member, each, members, kind, Spelling, node, Spellings}
+use Rattle.wkb_laws.specs.Prelude.{no_spellings, spelling, Spells, SpellsEach, Wanted}
+use Rattle.wkb_laws.specs.Prelude.{coordinates}
+use Rattle.wkb_check.specs.declared.pieces.Piece.{Piece}
+use Rattle.wkb_bounds.specs.declared.range.Range.{Range}
+use Rattle.wkb_bounds.specs.declared.range.Bounds.{Bounds}
+use Rattle.wkb_bounds.specs.Ranges.{widened, range_of, no_numbers}
+use Rattle.wkb_bounds.specs.Ordinates.{Axis, x_axis, y_axis, z_axis, m_axis, axis_place, word_at, words_of_each}
+use Rattle.wkb_bounds.specs.Ordinates.{words_in}
+use Rattle.wkb_bounds.specs.Ordinates.{words_on, words_on_each, point_words_on}
+use Rattle.wkb_bounds.specs.declared.axes.AxisRanks.{AxisRanks}
+use Rattle.wkb_check.specs.Known.{HasGeometry}
+use Rattle.wkb_bounds.specs.Bounded.{on, nothing, bounds_by, AreBounds, ArePlaneNumbers}
+use Rattle.wkb_check.specs.Pieces.{pieces_of, piece_of, own_end, IsRing, IsAhead, IsTaken, IsNext, Steps}
+use Rattle.wkb_check.specs.declared.pieces.Pieces.{Pieces}
+use Rattle.wkb_bounds.proofs.Widening.{widened-append}
+use Rattle.wkb_check.proofs.Placing.{leaf_of, own_piece}
+use Rattle.wkb_check.specs.Subjects.{Subject, dimension_in, subject_coordinates, subjects, subjects_of_rings}
+use Rattle.wkb_check.specs.Subjects.{subjects_of_each}
+use Rattle.wkb_check.proofs.Subjects.{piece_coordinates, ArePiecesOf, pieces_match}
+
+-- the words of a piece's own coordinates on an axis
+abbrev pub piece_words : Axis → List ℕ → Piece → List ℕ
+piece_words a buf p = words_in a p.dimension (piece_coordinates buf p)
+
+-- of a piece with coordinates its words, and where they end; other pieces have none
+pub leaf_words : (a : Axis) (buf : List ℕ) (p : Piece) → nat_lt p.kind 3 ≡ true
+    → piece_words a buf p ≡ words_in a p.dimension (coordinates p.order p.dimension p.count (drop p.offset buf))
+leaf_words a buf p leaf = ap (words_in a p.dimension) (cond-true (nat_lt p.kind 3) _ _ leaf)
+
+pub leaf_end : (p : Piece) → nat_lt p.kind 3 ≡ true → own_end p ≡ p.offset + 8 * width p.dimension * p.count
+leaf_end p leaf = cond-true (nat_lt p.kind 3) _ _ leaf
+
+pub no_words : (a : Axis) (buf : List ℕ) (p : Piece) → nat_lt p.kind 3 ≡ false → piece_words a buf p ≡ []
+no_words a buf p high = ap (words_in a p.dimension) (cond-false (nat_lt p.kind 3) _ _ high)
+
+words_append : {A : Type 0} (f : A → List ℕ) (xs ys : List A)
+    → words_of_each f (xs ++ ys) ≡ words_of_each f xs ++ words_of_each f ys
+words_append f [] ys = refl
+words_append f (x ∷ xs) ys = simp (words_append f xs ys, append_assoc)
+
+-- ---- points
+
+no_number : (r : Range) (ws : List ℕ) (k : ℕ) → all_nan ws ≡ true → widened r (take 1 (drop k ws)) ≡ r
+no_number r [] zero e = refl
+no_number r [] (suc k) e = refl
+no_number r (w ∷ ws) zero e = cond-true (is_nan w) _ _ (first_so (is_nan w) (all_nan ws) e)
+no_number r (w ∷ ws) (suc k) e = no_number r ws k (second_so (is_nan w) (all_nan ws) e)
+
+-- the words of an empty point widen no range
+empty_words : (r : Range) (p : Option ℕ) (ws : List ℕ) → all_nan ws ≡ true → widened r (word_at p ws) ≡ r
+empty_words r None ws e = refl
+empty_words r (Some k) ws e = no_number r ws k e
+
+each_words : {A : Type 0} (a : Axis) (f : A → Value) (own : A → List ℕ) → ((x : A) → words_on a (f x) ≡ own x)
+    → (l : List A)
+    → words_on_each a (each f l) ≡ words_of_each own l
+each_words a f own same [] = refl
+each_words a f own same (x ∷ l) = let others = each_words a f own same l in λ i. same x i ++ others i
+
+-- the words of members are those of the value
+member_words : (a : Axis) (t : Value) → nat_lt (kind t) 4 ≡ false → words_on_each a (members t) ≡ words_on a t
+member_words a (multi_point d points) high = each_words a (point d) (point_words_on a d) (λ c. refl) points
+member_words a (multi_line_string d lines) high = each_words a (line_string d) (words_in a d) (λ c. refl) lines
+member_words a (multi_polygon d polygons) high =
+    each_words a (polygon d) (words_of_each (words_in a d)) (λ c. refl) polygons
+member_words a (collection d ts) high = refl
+member_words a _ high = absurd cc
+
+-- ---- a geometry and its members
+
+-- the words of a subject's own coordinates on an axis
+abbrev subject_words : Axis → Subject → List ℕ
+subject_words a x = words_in a (dimension_in x) (subject_coordinates x)
+
+same_words : (a : Axis) (buf : List ℕ) (ps : List Piece) (xs : List Subject) → ArePiecesOf buf ps xs
+    → words_of_each (piece_words a buf) ps ≡ words_of_each (subject_words a) xs
+same_words a buf [] [] m = refl
+same_words a buf (p ∷ ps) (x ∷ xs) m =
+    λ i. words_in a (m.0.dimension_is i) (m.0.coordinates_are i) ++ same_words a buf ps xs m.1 i
+same_words a buf _ _ m = absurd m
+
+rings_words : (a : Axis) (order : Endianness) (d : Dimension) (rings : List (List Coordinate))
+    → words_of_each (subject_words a) (subjects_of_rings order d rings ++ []) ≡ words_of_each (words_in a d) rings
+rings_words a order d [] = refl
+rings_words a order d (cs ∷ rings) = ap (λ z. words_in a d cs ++ z) (rings_words a order d rings)
+
+mutual
+  value_words : (a : Axis) (s : Spelling) (t : Value) (x : List ℕ) → Spells s t x → (r : Range)
+      → widened r (words_of_each (subject_words a) (subjects s t)) ≡ widened r (words_on a t)
+  value_words a (node h words ss) (point d None) x sp r =
+      simp append-nil (empty_words r (axis_place a d) words sp.second.first.0)
+  value_words a (node h words ss) (point d (Some c)) x sp r = simp append-nil
+  value_words a (node h words ss) (line_string d cs) x sp r = simp append-nil
+  value_words a (node h words ss) (polygon d rings) x sp r = ap (widened r) (rings_words a h.order d rings)
+  value_words a (node h words ss) t x sp r =
+      members_words a _ ss (members t) sp.second.rest sp.second.second r ∙ ap (widened r) (member_words a t refl)
+
+  members_words : (a : Axis) (w : Wanted) (ss : Spellings) (ts : Values) (x : List ℕ) → SpellsEach w ss ts x
+      → (r : Range)
+      → widened r (words_of_each (subject_words a) (subjects_of_each ss ts)) ≡ widened r (words_on_each a ts)
+  members_words a w no_spellings no_members x h r = refl
+  members_words a w (spelling s ss) (member t ts) x h r =
+      simp (words_append, widened-append)
+      (ap (λ q. widened q (words_of_each (subject_words a) (subjects_of_each ss ts)))
+      (value_words a s t h.front h.first.0 r) ∙ members_words a w ss ts h.rest h.second (widened r (words_on a t)))
+  members_words a w _ _ x h r = absurd h
+
+-- the words of all pieces
+all_words : (a : Axis) (buf : List ℕ) (g : HasGeometry buf)
+    → widened no_numbers (words_of_each (piece_words a buf) (pieces_of 0 g.spelled g.value))
+    ≡ range_of (words_on a g.value)
+all_words a buf g =
+    ap (widened no_numbers)
+    (same_words a buf (pieces_of 0 g.spelled g.value) _ (pieces_match buf 0 g.spelled g.value g.begins))
+    ∙ value_words a g.spelled g.value g.begins.front g.begins.first no_numbers
+
+-- a geometry with coordinates is one piece, and its words are that piece's
+pub one_words : (a : Axis) (buf : List ℕ) (g : HasGeometry buf) (p : Piece) → p ≡ piece_of 0 g.spelled g.value
+    → nat_lt p.kind 3 ≡ true
+    → widened no_numbers (words_in a p.dimension (coordinates p.order p.dimension p.count (drop p.offset buf)))
+    ≡ range_of (words_on a g.value)
+one_words a buf g p is low =
+    ap (widened no_numbers) (sym (leaf_words a buf p low) ∙ sym (append-nil (piece_words a buf p)))
+    ∙ ap (λ ps. widened no_numbers (words_of_each (piece_words a buf) ps))
+    (sym (own_piece 0 g.spelled g.value ∙ (λ i. sym is i ∷ (leaf_of buf 0 0 g p is low).3 i)))
+    ∙ all_words a buf g
+
+-- ---- the loop over the pieces
+
+pub on_nothing : (a : Axis) → on a nothing ≡ no_numbers
+on_nothing x_axis = refl
+on_nothing _ = refl
+
+pub none_counted : (a : Axis) → (on a nothing).count ≡ 0
+none_counted a = ap (λ (r : Range). r.count) (on_nothing a)
+
+-- one piece more, after these
+pub widened_push : (a : Axis) (buf : List ℕ) (r : Range) (ps : List Piece) (p : Piece) (q : Range)
+    → q ≡ widened r (words_of_each (piece_words a buf) ps)
+    → widened q (piece_words a buf p) ≡ widened r (words_of_each (piece_words a buf) (ps ++ p ∷ []))
+widened_push a buf r ps p q e = simp (e, words_append, append-nil, widened-append)
+
+-- all pieces
+pub all_widened : (buf : List ℕ) (b : Bounds) (ps : List Piece) (g : HasGeometry buf)
+    → pieces_of 0 g.spelled g.value ≡ ps
+    → ((a : Axis) → on a b ≡ widened (on a nothing) (words_of_each (piece_words a buf) ps)) → AreBounds b g.value
+all_widened buf b ps g all widens = λ a. rw (widens a, on_nothing a, ← all) (all_words a buf g)
+
+-- ---- the loop over the rings of a polygon
+
+-- the words of a ring
+pub ring_words : (a : Axis) (buf : List ℕ) (p : Piece) {order : Endianness} {d : Dimension} → IsRing order d p
+    → piece_words a buf p ≡ words_in a d (coordinates order d p.count (drop p.offset buf))
+ring_words a buf p r =
+    leaf_words a buf p (ap (λ k. nat_lt k 3) r.kind_is)
+    ∙ (λ i. words_in a (r.dimension_is i) (coordinates (r.order_is i) (r.dimension_is i) p.count (drop p.offset buf)))
+
+-- the bounds are widened by the pieces that were passed, and the others are to come
+pub record WidenedSoFar (buf : List ℕ) (w : Pieces) (b : Bounds) (g : HasGeometry buf) : Type 0 where
+  pub passed : List Piece
+  pub left : List Piece
+  pub all : pieces_of 0 g.spelled g.value ≡ passed ++ left
+  pub ahead : IsAhead w left
+  pub widens : (a : Axis) → on a b ≡ widened (on a nothing) (words_of_each (piece_words a buf) passed)
+
+module _ {buf : List ℕ} where
+  -- the first piece has no coordinates
+  pub first_passed : {w : Pieces} {first : Piece} {b : Bounds} (g : HasGeometry buf)
+      → IsTaken w (pieces_of 0 g.spelled g.value) first → nat_lt first.kind 3 ≡ false → b ≡ nothing
+      → WidenedSoFar buf w b g
+  first_passed {first = first} g taken high none = record {
+    passed = first ∷ [];
+    left = taken.rest;
+    all = taken.first;
+    ahead = taken.ahead;
+    widens = λ a.
+        ap (on a) none ∙ ap (λ ws. widened (on a nothing) (ws ++ [])) (sym (no_words a buf first high));
+  }
+
+  pub one_passed : {old new : Pieces} {b now : Bounds} {p : Piece} {g : HasGeometry buf} → WidenedSoFar buf old b g
+      → Steps old (Some p) new → ((a : Axis) → on a now ≡ widened (on a b) (piece_words a buf p))
+      → WidenedSoFar buf new now g
+  one_passed {p = p} x s more =
+      let taken = s.steps x.left x.ahead in
+      record {
+        passed = x.passed ++ p ∷ [];
+        left = taken.rest;
+        all = x.all ∙ ap (λ ps. x.passed ++ ps) taken.first ∙ sym (append_assoc x.passed (p ∷ []) taken.rest);
+        ahead = taken.ahead;
+        widens = λ a. more a ∙ widened_push a buf (on a nothing) x.passed p _ (x.widens a);
+      }
+
+  pub all_passed : {old new : Pieces} {b : Bounds} {r : Option Piece} {g : HasGeometry buf} → WidenedSoFar buf old b g
+      → r ≡ None → Steps old r new → AreBounds b g.value
+  all_passed {new = new} {b = b} {g = g} x none s =
+      all_widened buf b x.passed g
+      (x.all ∙ ap (λ ps. x.passed ++ ps) (subst (IsNext new x.left) none (s.steps x.left x.ahead)) ∙ append-nil x.passed)
+      x.widens
+
+-- As `WidenedSoFar`, if the ranks are of numbers: what they are then is known of any.
+pub record NumbersSoFar (buf : List ℕ) (w : Pieces) (k : AxisRanks) (g : HasGeometry buf) : Type 0 where
+  pub bounds : Bounds
+  pub so_far : WidenedSoFar buf w bounds g
+  pub same : ArePlaneNumbers k → (a : Axis) → on a (bounds_by k) ≡ on a bounds
+
+-- the bounds with these ranges
+abbrev by_axis : (Axis → Range) → Bounds
+by_axis f = record { x = f x_axis; y = f y_axis; z = f z_axis; m = f m_axis }
+
+on_by_axis : (f : Axis → Range) (a : Axis) → on a (by_axis f) ≡ f a
+on_by_axis f x_axis = refl
+on_by_axis f _ = refl
+
+module _ {buf : List ℕ} where
+  pub first_of_numbers : {w : Pieces} {first : Piece} {k : AxisRanks} (g : HasGeometry buf)
+      → IsTaken w (pieces_of 0 g.spelled g.value) first → nat_lt first.kind 3 ≡ false → bounds_by k ≡ nothing
+      → NumbersSoFar buf w k g
+  first_of_numbers {k = k} g taken high none = record {
+    bounds = bounds_by k;
+    so_far = first_passed g taken high none;
+    same = λ n a. refl;
+  }
+
+  pub ring_of_numbers : {old new : Pieces} {k now : AxisRanks} {p : Piece} {g : HasGeometry buf}
+      → NumbersSoFar buf old k g → Steps old (Some p) new → (ArePlaneNumbers now → ArePlaneNumbers k)
+      → (ArePlaneNumbers now → (a : Axis) → on a (bounds_by now) ≡ widened (on a (bounds_by k)) (piece_words a buf p))
+      → NumbersSoFar buf new now g
+  ring_of_numbers {p = p} x s before widens =
+      let more : Axis → Range = λ a. widened (on a x.bounds) (piece_words a buf p) in
+      record {
+        bounds = by_axis more;
+        so_far = one_passed x.so_far s (on_by_axis more);
+        same = λ n a.
+            widens n a ∙ ap (λ r. widened r (piece_words a buf p)) (x.same (before n) a) ∙ sym (on_by_axis more a);
+      }
+
+  pub all_of_numbers : {old new : Pieces} {k : AxisRanks} {r : Option Piece} {g : HasGeometry buf}
+      → NumbersSoFar buf old k g → r ≡ None → Steps old r new → ArePlaneNumbers k → AreBounds (bounds_by k) g.value
+  all_of_numbers x none s n = λ a. x.same n a ∙ all_passed x.so_far none s a

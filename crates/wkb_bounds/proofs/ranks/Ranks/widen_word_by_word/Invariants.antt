@@ -1,0 +1,10 @@
+use Rattle.wkb_bounds.specs.Ranges.{widened, range_by}
+use Rattle.wkb_bounds.specs.Ordinates.{column_words}
+use Rattle.wkb_bounds.proofs.Widening.{ColumnLeft}
+use Rattle.wkb_bounds.proofs.ranks.Ranks.widen_word_by_word.Given as goal
+
+abbrev pub invariant-loop : goal.invariant-loop
+invariant-loop l = record {
+  left : ColumnLeft l.order l.size l.at l.count l.counter l.rest l.ranks
+      (widened (range_by l.initial.self) (column_words l.order l.size l.at l.count l.bytes));
+}

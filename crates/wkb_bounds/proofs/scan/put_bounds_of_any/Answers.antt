@@ -1,0 +1,9 @@
+use Rattle.std.proofs.Common.{arith, refl}
+use Rattle.wkb_bounds.proofs.Words.{none_counted}
+use Rattle.wkb_bounds.proofs.scan.put_bounds_of_any.Goals as goal
+
+pub widen-requires-clause-room : goal.widen-requires-clause-room
+widen-requires-clause-room c = λ a. rw c.empty-ranks.ensures (omega (arith, none_counted a))
+
+pub returns : goal.returns
+returns c = λ a. rw (c.bounds.ensures, c.widen.ensures a, c.empty-ranks.ensures) refl

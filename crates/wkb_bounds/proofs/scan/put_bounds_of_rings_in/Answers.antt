@@ -1,0 +1,68 @@
+use Rattle.std.proofs.Common.{◌*◌, length, ap, sym, ◌∙◌, subst, arith, nat_lt}
+use Rattle.wkb_geom.specs.Dimensions.{width}
+use Rattle.wkb_bounds.specs.Bounded.{on, bounds_by, AreBounds}
+use Rattle.wkb_bounds.specs.Ranges.{widened}
+use Rattle.wkb_check.proofs.Ahead.{piece_by}
+use Rattle.wkb_check.proofs.Following.{ring_of, rings_after}
+use Rattle.wkb_bounds.proofs.Words.{first_of_numbers, ring_of_numbers, all_of_numbers, ring_words, leaf_end}
+use Rattle.wkb_bounds.proofs.Words.{none_counted}
+use Rattle.wkb_bounds.proofs.scan.put_bounds_of_rings_in.Goals as goal
+
+pub loop-ring-init : goal.loop-ring-init
+loop-ring-init c =
+    let here = c.requires.here in
+    let behind = c.behind-pieces.ensures in
+    let first = piece_by 0 here.spelled here.value (c.requires.header here) _ (c.of_header-first.ensures here) in
+    let rings = behind.rings first.kind_is in
+    record {
+      so_far = λ g.
+          first_of_numbers g (behind.steps g) (ap (λ k. nat_lt k 3) first.kind_is) c.empty-ranks.ensures;
+      rings = record {
+        order_is = rings.order_is ∙ first.order_is;
+        dimension_is = rings.dimension_is ∙ first.dimension_is;
+        alone = rings.alone;
+      };
+      same = behind.same;
+      few = λ a. omega (arith, ap (λ b. (on a b).count) c.empty-ranks.ensures, none_counted a);
+      inside = behind.inside.inside;
+    }
+
+pub next_if_ring-requires-clause-ahead : goal.next_if_ring-requires-clause-ahead
+next_if_ring-requires-clause-ahead c =
+    let x = (c.loop-ring.invariant.so_far c.requires.here).so_far in
+    record { pieces = x.left; are = x.ahead }
+
+pub loop-ring-preserved : goal.loop-ring-preserved
+loop-ring-preserved c =
+    let l = c.loop-ring.invariant in
+    let p = c.in-Some.ring in
+    let s = c.in-Some.ensures.steps in
+    let ring = ring_of l.rings c.in-Some.ensures.ring in
+    let low = ap (λ k. nat_lt k 3) ring.kind_is in
+    record {
+      so_far = λ g.
+          ring_of_numbers (l.so_far g) s c.widen_xy_by_numbers.ensures.before
+          (λ n a.
+          c.widen_xy_by_numbers.ensures.widens n a
+          ∙ rw c.rest_from-bytes.ensures
+          (ap (widened (on a (bounds_by c.loop-ring.ranks))) (sym (ring_words a c.args.buf.now p ring))));
+      rings = rings_after l.rings c.next_if_ring.ensures.rings;
+      same = s.same ∙ l.same;
+      few = λ a.
+          omega (
+            arith,
+            l.few a,
+            c.widen_xy_by_numbers.ensures.few a,
+            s.inside.begins,
+            s.inside.ends,
+            leaf_end p low,
+            ap (λ d. 8 * width d * p.count) ring.dimension_is,
+          );
+      inside = omega (arith, s.inside.inside, ap length l.same);
+    }
+
+pub returns : goal.returns
+returns c = λ g.
+    subst (λ b. AreBounds b g.value) (sym c.bounds.ensures)
+    (all_of_numbers (c.loop-ring.invariant.so_far g) c.in_default.is c.next_if_ring.ensures.steps
+    (c.are_plane_numbers.ensures c.if-not-are_plane_numbers.false))

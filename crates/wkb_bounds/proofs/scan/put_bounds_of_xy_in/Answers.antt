@@ -1,0 +1,14 @@
+use Rattle.std.proofs.Common.{arith, refl}
+use Rattle.wkb_bounds.proofs.Words.{none_counted}
+use Rattle.wkb_bounds.proofs.scan.put_bounds_of_xy_in.Goals as goal
+
+pub widen_xy_by_numbers-requires-clause-room : goal.widen_xy_by_numbers-requires-clause-room
+widen_xy_by_numbers-requires-clause-room c = λ a. rw c.empty-ranks.ensures (omega (arith, none_counted a))
+
+pub returns : goal.returns
+returns c = λ a.
+    rw (
+      c.bounds.ensures,
+      c.widen_xy_by_numbers.ensures.widens (c.are_plane_numbers.ensures c.if-not-are_plane_numbers.false) a,
+      c.empty-ranks.ensures,
+    ) refl

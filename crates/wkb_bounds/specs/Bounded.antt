@@ -1,0 +1,76 @@
+-- What the bounds of a geometry say of it, and how they are found.
+use Rattle.std.specs.Prelude.{◌≡◌, ℕ, zero, suc, ◌+◌, ◌<◌, ◌≤◌, ◌^◌, List, [], ◌∷◌, length, drop}
+use Rattle.std.specs.Prelude.{Result, Err, IfOk, IfErr}
+use Rattle.wkb_geom.specs.declared.common.Dimension.{Dimension}
+use Rattle.wkb_geom.specs.declared.common.Endianness.{Endianness}
+use Rattle.wkb_geom.specs.Fronts.{Front}
+use Rattle.wkb_geom.specs.Grammar.{Begins}
+use Rattle.wkb_geom.specs.Numbers.{number}
+use Rattle.wkb_geom.specs.Reading.{ring_in}
+use Rattle.wkb_geom.specs.Refusals.{ring_end}
+use Rattle.wkb_geom.specs.Spellings.{Spelling, Spellings, Spells, SpellsEach, any}
+use Rattle.wkb_geom.specs.Values.{Coordinate, Value, Values, count}
+use Rattle.wkb_check.specs.declared.answer.Refused.{Refused}
+use Rattle.wkb_bounds.specs.declared.range.Range.{Range}
+use Rattle.wkb_bounds.specs.declared.range.Bounds.{Bounds}
+use Rattle.wkb_check.specs.Public.{Checks}
+use Rattle.wkb_bounds.specs.declared.axes.AxisRanks.{AxisRanks}
+use Rattle.wkb_bounds.specs.Ranges.{no_numbers, widened, range_of, range_by, AreNumbers}
+use Rattle.wkb_bounds.specs.Ordinates.{Axis, x_axis, y_axis, z_axis, m_axis, words_in}
+use Rattle.wkb_bounds.specs.Ordinates.{words_on}
+
+-- the range on an axis
+abbrev pub on : Axis → Bounds → Range
+on x_axis b = b.x
+on y_axis b = b.y
+on z_axis b = b.z
+on m_axis b = b.m
+
+-- on each axis the range of the value's words
+abbrev pub AreBounds : Bounds → Value → Type 0
+AreBounds b t = (a : Axis) → on a b ≡ range_of (words_on a t)
+
+-- the input begins with a geometry that has these bounds
+pub record BoundsFront (input : List ℕ) (b : Bounds) : Type 0 where
+  pub spelled : Spelling
+  pub value : Value
+  pub rest : List ℕ
+  pub front : Front input spelled value rest
+  pub bounded : AreBounds b value
+
+-- whatever geometry the input begins with, it has these bounds
+abbrev pub BoundsOnlyFront : List ℕ → Bounds → Type 0
+BoundsOnlyFront input b = (s : Spelling) (t : Value) (rest : List ℕ) → Front input s t rest → AreBounds b t
+
+-- What a result says of the bytes: the bounds of the geometry at the start, or the refusal that the check returns.
+pub record FindsBounds (input : List ℕ) (r : Result Bounds Refused) : Type 0 where
+  pub front : IfOk r (λ b. BoundsFront input b)
+  pub one_front : IfOk r (λ b. BoundsOnlyFront input b)
+  pub refused : IfErr r (λ e. Checks input (Err e))
+
+-- ---- how they are found
+
+-- the bounds of no coordinate
+abbrev pub nothing : Bounds
+nothing = record { x = no_numbers; y = no_numbers; z = no_numbers; m = no_numbers }
+
+-- the bounds that have these ranges
+abbrev pub bounds_by : AxisRanks → Bounds
+bounds_by k = record { x = range_by k.x; y = range_by k.y; z = k.z; m = k.m }
+
+-- the bounds are widened by these words on each axis
+abbrev pub Widens : Bounds → Bounds → (Axis → List ℕ) → Type 0
+Widens old new words = (a : Axis) → on a new ≡ widened (on a old) (words a)
+
+-- the bounds of these ranges are widened by some coordinates
+abbrev pub WidensBounds : AxisRanks → AxisRanks → Dimension → List Coordinate → Type 0
+WidensBounds old new d cs = Widens (bounds_by old) (bounds_by new) (λ a. words_in a d cs)
+
+-- the ranks of x and y are those of numbers
+pub record ArePlaneNumbers (k : AxisRanks) : Type 0 where
+  pub x : AreNumbers k.x
+  pub y : AreNumbers k.y
+
+-- as many more words can be counted as there are bytes
+abbrev pub HasRoom : Bounds → List ℕ → Type 0
+HasRoom b bytes = (a : Axis) → (on a b).count + length bytes < 2 ^ 64

@@ -1,0 +1,13 @@
+//! The bounds of a geometry: on each axis the least and the greatest of its numbers, over the pieces that `wkb_check`
+//! finds. It allocates nothing.
+#![tactic(auto)]
+
+mod axes;
+mod coordinate;
+mod range;
+mod ranks;
+mod scan;
+mod widen;
+
+pub use range::{Bounds, Range};
+pub use scan::{bounds, put_any_bounds, put_plain_bounds};

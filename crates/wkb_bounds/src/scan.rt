@@ -1,0 +1,252 @@
+//! The bounds of a geometry, by one walk over its pieces.
+
+ghost use Rattle.std.specs.Prelude.{◌≡◌, ◌≤◌, ◌*◌, length, nat_lt, true, false, Err, IfOk, IfErr, IfSome};
+ghost use Rattle.wkb_geom.specs.declared.code.TheConstants.{POLYGON};
+ghost use Rattle.wkb_geom.specs.declared.common.Dimension.TheVariants.{Xy};
+ghost use Rattle.wkb_geom.specs.Dimensions.{width};
+ghost use Rattle.wkb_geom.specs.Reading.{coordinates};
+ghost use Rattle.wkb_bounds.specs.declared.axes.TheConstants.{XY_SIZE};
+ghost use Rattle.wkb_check.specs.Known.{HasGeometry};
+ghost use Rattle.wkb_bounds.specs.Bounded.{AreBounds, BoundsFront, BoundsOnlyFront, FindsBounds};
+ghost use Rattle.wkb_bounds.specs.Bounded.{nothing as no_bounds, Widens};
+ghost use Rattle.wkb_bounds.specs.Ordinates.{words_in};
+ghost use Rattle.wkb_check.specs.Pieces.{IsPieceAt, IsHeaderAt};
+ghost use Rattle.wkb_check.specs.Public.{Checks, DescribesFront};
+
+use crate::axes::AxisRanks;
+use crate::range::Bounds;
+use wkb_check::{Piece, Pieces, Refused, Summary, check, check_plain};
+use wkb_geom::code::{POLYGON, WkbType};
+use wkb_geom::words::rest_from;
+use wkb_geom::{Dimension, Endianness};
+
+/// Puts the bounds of `count` coordinates of x and y, with a test of each word. It isn't inlined, so that the ranks of
+/// others stay in registers.
+#[inline(never)]
+fn put_bounds_word_by_word(order: Endianness, count: u32, bytes: &[u8], bounds: &mut Bounds)
+    requires { XY_SIZE * count ≤ length bytes.now }
+    ensures { Widens no_bounds bounds.new (λ a. words_in a Xy (coordinates order Xy count bytes.now)) }
+{
+    let mut ranks = AxisRanks::empty();
+    ranks.widen_xy_word_by_word(order, count, bytes);
+    *bounds = ranks.bounds();
+}
+
+/// Puts the bounds of `count` coordinates of x and y in an order that is a constant if this is inlined.
+#[inline(always)]
+fn put_bounds_of_xy_in(order: Endianness, count: u32, bytes: &[u8], bounds: &mut Bounds)
+    requires { XY_SIZE * count ≤ length bytes.now }
+    ensures { Widens no_bounds bounds.new (λ a. words_in a Xy (coordinates order Xy count bytes.now)) }
+{
+    let mut ranks = AxisRanks::empty();
+    ranks.widen_xy_by_numbers(order, count, bytes);
+    if !ranks.are_plane_numbers() {
+        put_bounds_word_by_word(order, count, bytes, bounds);
+        return;
+    }
+    *bounds = ranks.bounds();
+}
+
+/// Puts the bounds of `count` coordinates of x and y, with a loop for each order. It isn't inlined, so that its
+/// counters stay in registers.
+#[inline(never)]
+fn put_bounds_of_xy(order: Endianness, count: u32, bytes: &[u8], bounds: &mut Bounds)
+    requires { XY_SIZE * count ≤ length bytes.now }
+    ensures { Widens no_bounds bounds.new (λ a. words_in a Xy (coordinates order Xy count bytes.now)) }
+{
+    match order {
+        Endianness::BigEndian => {
+            put_bounds_of_xy_in(Endianness::BigEndian, count, bytes, bounds);
+        }
+        Endianness::LittleEndian => {
+            put_bounds_of_xy_in(Endianness::LittleEndian, count, bytes, bounds);
+        }
+    }
+}
+
+/// Puts the bounds of `count` coordinates of any dimension. It isn't inlined, so that others don't pay for its frame.
+#[inline(never)]
+fn put_bounds_of_any(
+    order: Endianness,
+    dimension: Dimension,
+    count: u32,
+    bytes: &[u8],
+    bounds: &mut Bounds,
+)
+    requires { 8 * width dimension * count ≤ length bytes.now }
+    ensures { Widens no_bounds bounds.new (λ a. words_in a dimension (coordinates order dimension count bytes.now)) }
+{
+    let mut ranks = AxisRanks::empty();
+    ranks.widen(order, dimension, count, bytes);
+    *bounds = ranks.bounds();
+}
+
+/// Puts the bounds of a geometry that has coordinates, and so is this piece alone.
+#[inline(always)]
+fn put_bounds_of_piece(buf: &[u8], only: &Piece, bounds: &mut Bounds)
+    requires here { HasGeometry buf.now }
+    requires only { IsPieceAt buf.now 0 only.now }
+    requires low { nat_lt only.now.kind POLYGON ≡ true }
+    ensures { (g : HasGeometry buf.now) → AreBounds bounds.new g.value }
+{
+    let bytes = rest_from(buf, only.offset);
+    if only.count == 1 {
+        *bounds = Bounds::of_coordinate(only.order, only.dimension, bytes);
+        return;
+    }
+    match only.dimension {
+        Dimension::Xy => put_bounds_of_xy(only.order, only.count, bytes, bounds),
+        dimension => put_bounds_of_any(only.order, dimension, only.count, bytes, bounds),
+    }
+}
+
+/// The first piece of a geometry that has coordinates, and so is this piece alone. `None` for any other geometry: the
+/// walk visits its first piece anyway.
+#[inline(always)]
+fn only_piece(buf: &[u8], found: &Summary) -> Option<Piece>
+    requires { DescribesFront buf.now found.now }
+    ensures here { IfSome result (IsPieceAt buf.now 0) }
+    ensures low { IfSome result (λ p. nat_lt p.kind POLYGON ≡ true) }
+{
+    if found.wkb_type.kind() >= POLYGON {
+        return None;
+    }
+    let first = Piece::outermost(buf, found);
+    if first.has_coordinates() {
+        Some(first)
+    } else {
+        None
+    }
+}
+
+/// Puts the bounds of a polygon of x and y in an order that is a constant if this is inlined.
+#[tactic(auto, using(wkb_check::proofs::Following::fewer_left))]
+#[inline(always)]
+fn put_bounds_of_rings_in(buf: &[u8], order: Endianness, srid: Option<u32>, bounds: &mut Bounds)
+    requires here { HasGeometry buf.now }
+    requires header { IsHeaderAt buf.now 0 POLYGON Xy order srid }
+    ensures { (g : HasGeometry buf.now) → AreBounds bounds.new g.value }
+{
+    let first = Piece::of_header(buf, 0, POLYGON, Dimension::Xy, order, srid);
+    let mut ranks = AxisRanks::empty();
+    let mut pieces = Pieces::behind(buf, &first);
+    while let Some(ring) = pieces.next_if_ring() {
+        let bytes = rest_from(buf, ring.offset);
+        ranks.widen_xy_by_numbers(order, ring.count, bytes);
+    }
+    if !ranks.are_plane_numbers() {
+        put_bounds_of_front(buf, bounds);
+        return;
+    }
+    *bounds = ranks.bounds();
+}
+
+/// Puts the bounds of a polygon of x and y, with a loop for each order. It takes scalars, so that the findings on other
+/// geometries need no place in memory.
+#[inline(never)]
+fn put_bounds_of_rings(buf: &[u8], order: Endianness, srid: Option<u32>, bounds: &mut Bounds)
+    requires here { HasGeometry buf.now }
+    requires header { IsHeaderAt buf.now 0 POLYGON Xy order srid }
+    ensures { (g : HasGeometry buf.now) → AreBounds bounds.new g.value }
+{
+    match order {
+        Endianness::BigEndian => {
+            put_bounds_of_rings_in(buf, Endianness::BigEndian, srid, bounds);
+        }
+        Endianness::LittleEndian => {
+            put_bounds_of_rings_in(buf, Endianness::LittleEndian, srid, bounds);
+        }
+    }
+}
+
+/// Puts the bounds of a geometry that has no coordinates itself.
+#[inline(always)]
+fn put_bounds_of_others(buf: &[u8], found: &Summary, bounds: &mut Bounds)
+    requires { DescribesFront buf.now found.now }
+    ensures { (g : HasGeometry buf.now) → AreBounds bounds.new g.value }
+{
+    if let WkbType::Polygon(dimension) = found.wkb_type {
+        if let Dimension::Xy = dimension {
+            put_bounds_of_rings(buf, found.order, found.srid, bounds);
+            return;
+        }
+    }
+    put_bounds_of_front(buf, bounds);
+}
+
+/// Puts the bounds of the geometry at the start of bytes in which the check found this.
+#[inline(always)]
+fn put_bounds_found(buf: &[u8], found: &Summary, bounds: &mut Bounds)
+    requires { DescribesFront buf.now found.now }
+    ensures { (g : HasGeometry buf.now) → AreBounds bounds.new g.value }
+{
+    match only_piece(buf, found) {
+        Some(only) => put_bounds_of_piece(buf, &only, bounds),
+        None => put_bounds_of_others(buf, found, bounds),
+    }
+}
+
+/// Puts the bounds of the geometry at the start of the bytes, which is known to be there.
+#[inline(never)]
+fn put_bounds_of_front(buf: &[u8], bounds: &mut Bounds)
+    requires here { HasGeometry buf.now }
+    ensures { (g : HasGeometry buf.now) → AreBounds bounds.new g.value }
+{
+    let mut ranks = AxisRanks::empty();
+    for piece in Pieces::of(buf) {
+        if piece.has_coordinates() {
+            let bytes = rest_from(buf, piece.offset);
+            ranks.widen(piece.order, piece.dimension, piece.count, bytes);
+        }
+    }
+    *bounds = ranks.bounds();
+}
+
+/// Puts the bounds of the geometry at the start of the bytes, if `check_plain` finds it. Else [`put_any_bounds`] has to
+/// look.
+///
+/// It returns no `Result`, which would need a place in memory.
+#[tactic(auto, using(crate::proofs::Scanning::front_there))]
+#[inline(always)]
+pub fn put_plain_bounds(buf: &[u8], bounds: &mut Bounds) -> bool
+    ensures front { result ≡ true → BoundsFront buf.now bounds.new }
+    ensures one_front { result ≡ true → BoundsOnlyFront buf.now bounds.new }
+    ensures kept { result ≡ false → bounds.new ≡ bounds.old }
+{
+    match check_plain(buf) {
+        Some(found) => {
+            put_bounds_found(buf, &found, bounds);
+            true
+        }
+        None => false,
+    }
+}
+
+/// Puts what [`bounds`] finds into the caller's bounds, or leaves these as they are and returns its refusal.
+#[tactic(auto, using(crate::proofs::Scanning::front_there))]
+pub fn put_any_bounds(buf: &[u8], bounds: &mut Bounds) -> Result<(), Refused>
+    ensures front { IfOk result (λ _. BoundsFront buf.now bounds.new) }
+    ensures one_front { IfOk result (λ _. BoundsOnlyFront buf.now bounds.new) }
+    ensures refused { IfErr result (λ e. Checks buf.now (Err e)) }
+    ensures kept { IfErr result (λ _. bounds.new ≡ bounds.old) }
+{
+    check(buf)?;
+    put_bounds_of_front(buf, bounds);
+    Ok(())
+}
+
+/// The bounds of the geometry at the start of the bytes, over its coordinates at every level. What follows it is not
+/// looked at. It accepts and rejects what `check` does, and allocates nothing.
+///
+/// Each word that is a number counts, whatever the other words of its coordinate are. The order is that of numbers,
+/// with minus zero below zero.
+pub fn bounds(buf: &[u8]) -> Result<Bounds, Refused>
+    ensures { FindsBounds buf.now result }
+{
+    let mut found = Bounds::empty();
+    if put_plain_bounds(buf, &mut found) {
+        return Ok(found);
+    }
+    put_any_bounds(buf, &mut found)?;
+    Ok(found)
+}

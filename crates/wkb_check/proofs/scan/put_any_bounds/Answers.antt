@@ -1,8 +1,0 @@
-use Rattle.wkb_check.proofs.Scanning.{geometry_of_front, bounds_front}
-use Rattle.wkb_check.proofs.scan.put_any_bounds.Goals as goal
-
-pub returns-clause-front : goal.returns-clause-front
-returns-clause-front c = bounds_front c.in_ok-check.ensures.checks c.put_bounds_of_front.ensures
-
-pub returns-clause-one_front : goal.returns-clause-one_front
-returns-clause-one_front c = λ s t rest f. c.put_bounds_of_front.ensures (geometry_of_front f)

@@ -1,8 +1,0 @@
-use Rattle.wkb_check.proofs.Scanning.{geometry_of_front, bounds_front}
-use Rattle.wkb_check.proofs.scan.put_plain_bounds.Goals as goal
-
-pub returns-in-Some-clause-front : goal.returns-in-Some-clause-front
-returns-in-Some-clause-front c = λ _. bounds_front c.in-Some.ensures.checks c.put_bounds_found.ensures
-
-pub returns-in-Some-clause-one_front : goal.returns-in-Some-clause-one_front
-returns-in-Some-clause-one_front c = λ _ s t rest f. c.put_bounds_found.ensures (geometry_of_front f)
