@@ -1,7 +1,7 @@
 /* SPDX-License-Identifier: MIT OR Apache-2.0 */
 /* The proved calls of crates/wkb_c, which wkb.c calls and the library hides. A slice is a pointer and a length, also in
  * a struct. No pointer may be null, not even if its length is 0, and each is aligned. A size_t is a usize or a u64
- * of Rattle, of 64 bits as these are. The contracts of crates/wkb_c/src/lib.rt define the calls. */
+ * of Rattle, of 64 bits as these are. The contracts in crates/wkb_c/src define the calls. */
 #ifndef WKB_RAW_H
 #define WKB_RAW_H
 

@@ -13,7 +13,7 @@ use Rattle.wkb_check.specs.declared.parts.Part.{Part}
 use Rattle.wkb_check.proofs.Placing.{spelled_size, alone}
 use Rattle.wkb_check.proofs.Joining.{geometry_of_front}
 use Rattle.wkb_c.specs.Checks.{IsFound, whole_entry}
-use Rattle.wkb_c.specs.declared.found.Found.{Found}
+use Rattle.wkb_c.specs.declared.check.Found.{Found}
 use Rattle.wkb_c.specs.Columns.{IsRow, IsRefusedWith}
 use Rattle.wkb_c.specs.declared.column.Column.{Column}
 use Rattle.wkb_c.specs.RowItems.{IsRowStep, RowHas, RowFails}

@@ -4,7 +4,7 @@ use Rattle.std.proofs.Common.{set}
 use lib.Seq.{get_or-set_same, get_or-set_other}
 use Rattle.wkb_c.specs.declared.column.Column.{Column}
 use Rattle.wkb_c.specs.Coordinates.{LevelLists, AreColumnCoordinates, IsCoordinatesRow}
-use Rattle.wkb_c.specs.declared.coordinates.Totals.{Totals}
+use Rattle.wkb_c.specs.declared.totals.Totals.{Totals}
 
 module _ (c : Column) (dimension : ℕ) (statuses row_ends : List ℕ) (out : LevelLists) (i s e : ℕ) where
   -- the rows above aren't changed by what is written for a later one

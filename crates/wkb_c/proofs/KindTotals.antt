@@ -17,7 +17,7 @@ use Rattle.wkb_check.specs.Public.{DescribesFront}
 use Rattle.wkb_check.specs.declared.answer.Summary.{Summary}
 use Rattle.wkb_check.specs.declared.pieces.Piece.{Piece}
 use Rattle.wkb_c.specs.Coordinates.{ring_counts, single_counts, totals_after, AreTotals}
-use Rattle.wkb_c.specs.declared.coordinates.Totals.{Totals}
+use Rattle.wkb_c.specs.declared.totals.Totals.{Totals}
 use Rattle.wkb_c.specs.PieceLevels.{ring_number, single_number}
 use Rattle.wkb_c.specs.RowItems.{end_of}
 use Rattle.wkb_check.specs.Subjects.{Subject, ring, subjects, subjects_of_rings, subjects_of_each}

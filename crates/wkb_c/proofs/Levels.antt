@@ -23,8 +23,8 @@ use Rattle.wkb_check.proofs.Placing.{sets_after, own_piece, leaf_of}
 use Rattle.wkb_c.specs.Coordinates.{words_asked, asked_subject_words, ring_counts, single_counts, ends, totals_after}
 use Rattle.wkb_c.specs.Coordinates.{LevelLists, HasRoomUpTo, with_levels}
 use Rattle.wkb_c.specs.LevelLists.{AreSameSlices}
-use Rattle.wkb_c.specs.declared.coordinates.LevelSlices.{LevelSlices}
-use Rattle.wkb_c.specs.declared.coordinates.Totals.{Totals}
+use Rattle.wkb_c.specs.declared.level_slices.LevelSlices.{LevelSlices}
+use Rattle.wkb_c.specs.declared.totals.Totals.{Totals}
 use Rattle.wkb_c.specs.PieceLevels.{ring_sizes, single_sizes, piece_words, PieceFits, PutsPiece, AreTotalsWith}
 use Rattle.wkb_c.specs.RowItems.{end_of}
 use Rattle.wkb_check.proofs.Subjects.{IsPieceOf, ArePiecesOf, kind_in, count_in, pieces_match}

@@ -13,9 +13,9 @@ use Rattle.wkb_c.specs.declared.column.Column.{Column}
 use Rattle.wkb_c.specs.Coordinates.{LevelLists, HasRoomUpTo, LevelsSuffice, written, no_room, LacksCoordinates}
 use Rattle.wkb_c.specs.Coordinates.{IsCoordinatesRow, HasCoordinates, handed, failed, refused}
 use Rattle.wkb_c.specs.LevelLists.{PutsAny, PutsRow, accepted, rejected}
-use Rattle.wkb_c.specs.declared.coordinates.LevelSlices.{LevelSlices}
+use Rattle.wkb_c.specs.declared.level_slices.LevelSlices.{LevelSlices}
 use Rattle.wkb_c.specs.Coordinates.{totals_after, with_levels, ring_counts, single_counts, ends, asked_subject_words}
-use Rattle.wkb_c.specs.declared.coordinates.Totals.{Totals}
+use Rattle.wkb_c.specs.declared.totals.Totals.{Totals}
 use Rattle.wkb_c.specs.declared.status.TheConstants.{NO_ROOM}
 use Rattle.wkb_check.specs.Subjects.{Subject, subjects}
 use Rattle.wkb_c.proofs.Levels.{AreSmall, none_added}

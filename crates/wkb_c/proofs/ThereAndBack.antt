@@ -30,7 +30,7 @@ use Rattle.wkb_c.specs.RowItems.{IsRowAnswer, handed, no_room, failed}
 use Rattle.wkb_c.specs.ThereAndBack.{as_spelled, HasEmptyWords, bytes_of, AreShort, AreGivenOn, IsLevelled}
 use Rattle.wkb_c.specs.ThereAndBack.{BackAsSpelled, NullStaysNull, IsWrittenBack, ThereAndBack}
 use Rattle.wkb_c.specs.declared.column.Column.{Column}
-use Rattle.wkb_c.specs.declared.coordinates.Totals.{Totals}
+use Rattle.wkb_c.specs.declared.totals.Totals.{Totals}
 use Rattle.wkb_c.specs.declared.from_coordinates.LevelColumn.{LevelColumn}
 use Rattle.wkb_c.specs.declared.from_coordinates.LevelTarget.{LevelTarget}
 use Rattle.wkb_c.specs.declared.options.Options.{Options}

@@ -19,7 +19,7 @@ use Rattle.wkb_c.specs.LevelRows.{HasLevelEncoding}
 use Rattle.wkb_c.specs.LevelTargets.{target_asked}
 use Rattle.wkb_c.specs.ThereAndBack.{AreGivenOn, IsLevelled, ComesBack, stays_null, is_levelled}
 use Rattle.wkb_c.specs.declared.column.Column.{Column}
-use Rattle.wkb_c.specs.declared.coordinates.Totals.{Totals}
+use Rattle.wkb_c.specs.declared.totals.Totals.{Totals}
 use Rattle.wkb_c.specs.declared.from_coordinates.LevelColumn.{LevelColumn}
 use Rattle.wkb_c.specs.declared.options.Options.{Options}
 use Rattle.wkb_c.specs.declared.options.Request.TheVariants.{Encoding}

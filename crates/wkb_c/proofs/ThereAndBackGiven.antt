@@ -16,7 +16,7 @@ use Rattle.wkb_c.specs.Coordinates.{LevelLists, levels, HasRoomUpTo, AreColumnCo
 use Rattle.wkb_c.specs.LevelTargets.{levels_in}
 use Rattle.wkb_c.specs.ThereAndBack.{AreGivenOn}
 use Rattle.wkb_c.specs.declared.column.Column.{Column}
-use Rattle.wkb_c.specs.declared.coordinates.Totals.{Totals}
+use Rattle.wkb_c.specs.declared.totals.Totals.{Totals}
 use Rattle.wkb_c.specs.declared.from_coordinates.LevelColumn.{LevelColumn}
 use Rattle.wkb_c.proofs.Rooms.{Reaches, scaled, room_in}
 use Rattle.wkb_c.proofs.ThereAndBackRows.{Stage, IsDone, rows_done, Keeps, keeps_on, keeps_fewer}

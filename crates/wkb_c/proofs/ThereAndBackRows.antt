@@ -26,7 +26,7 @@ use Rattle.wkb_c.specs.Coordinates.{asked_subject_words}
 use Rattle.wkb_c.specs.RowItems.{end_of}
 use Rattle.wkb_c.specs.ThereAndBack.{AreShort}
 use Rattle.wkb_c.specs.declared.column.Column.{Column}
-use Rattle.wkb_c.specs.declared.coordinates.Totals.{Totals}
+use Rattle.wkb_c.specs.declared.totals.Totals.{Totals}
 use Rattle.wkb_c.specs.declared.status.TheConstants.{OK}
 use Rattle.wkb_c.proofs.Gathering.{one_row, never_lacks, never_refused}
 use Rattle.wkb_c.proofs.Levels.{AreSmall, sum-first, sum_append, wide_enough}

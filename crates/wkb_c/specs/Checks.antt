@@ -11,7 +11,7 @@ use Rattle.wkb_geom.specs.Counted.{coordinate_count}
 use Rattle.wkb_check.specs.Pieces.{count_of, leading}
 use Rattle.wkb_check.specs.declared.parts.Part.{Part}
 use Rattle.wkb_c.specs.declared.fault.WkbFault.{WkbFault}
-use Rattle.wkb_c.specs.declared.found.Found.{Found}
+use Rattle.wkb_c.specs.declared.check.Found.{Found}
 use Rattle.wkb_c.specs.declared.status.TheConstants.{OK, NO_MEMORY}
 use Rattle.wkb_bounds.specs.Bounded.{BoundsFront}
 use Rattle.wkb_bounds.specs.declared.range.Bounds.{Bounds}

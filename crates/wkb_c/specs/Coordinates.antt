@@ -15,7 +15,7 @@ use Rattle.wkb_c.specs.Columns.{IsRow, LacksRow, IsRefusedWith}
 use Rattle.wkb_c.specs.declared.column.Column.{Column}
 use Rattle.wkb_c.specs.RowItems.{end_of, NoneLacksRoom}
 use Rattle.wkb_check.specs.Subjects.{Subject, whole, ring, dimension_in, subject_coordinates, subjects}
-use Rattle.wkb_c.specs.declared.coordinates.Totals.{Totals}
+use Rattle.wkb_c.specs.declared.totals.Totals.{Totals}
 use Rattle.wkb_c.specs.declared.status.TheConstants.{OK, NO_ROOM, UNKNOWN_OPTION}
 
 -- the z of a coordinate of this dimension

@@ -11,7 +11,7 @@ use Rattle.wkb_geom.specs.declared.common.Endianness.TheVariants.{BigEndian, Lit
 use Rattle.wkb_geom.specs.declared.error.Cause.{Cause}
 use Rattle.wkb_c.specs.Classes.{IsRefusalStatus, IsShortStatus}
 use Rattle.wkb_c.specs.Statuses.{cause_status, cause_fault}
-use Rattle.wkb_c.specs.declared.inputs.TheConstants.{FIRST, SECOND, DIFFERENT, EQUAL}
+use Rattle.wkb_c.specs.declared.same.TheConstants.{FIRST, SECOND, DIFFERENT, EQUAL}
 use Rattle.wkb_c.specs.declared.options.TheConstants.{BIG_ENDIAN, LITTLE_ENDIAN, ISO, EWKB_OWN_SRID, EWKB_WITH_SRID}
 use Rattle.wkb_c.specs.declared.options.TheConstants.{EWKB_WITHOUT_SRID}
 use Rattle.wkb_c.specs.declared.status.TheConstants.{OK, NO_MEMORY, NO_ROOM, UNKNOWN_OPTION, TOO_MANY_ROWS, NULL_ROW}

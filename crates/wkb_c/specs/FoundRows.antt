@@ -3,7 +3,7 @@ use Rattle.std.specs.Prelude.{◌≡◌, ℕ, ◌<◌, List, slice_index, slice_
 use Rattle.wkb_c.specs.Checks.{IsFound}
 use Rattle.wkb_c.specs.Columns.{IsRow, LacksRow, IsRefusedWith}
 use Rattle.wkb_c.specs.declared.column.Column.{Column}
-use Rattle.wkb_c.specs.declared.found.Found.{Found}
+use Rattle.wkb_c.specs.declared.check.Found.{Found}
 use Rattle.wkb_c.specs.declared.status.TheConstants.{OK}
 
 -- the entry of a row without a geometry

@@ -13,10 +13,10 @@ use Rattle.wkb_check.specs.contracts.parts.Part.{the_type as part}
 use Rattle.wkb_bounds.specs.contracts.range.Bounds.{the_type as bounds}
 use Rattle.wkb_bounds.specs.contracts.range.Range.{the_type as range}
 use Rattle.wkb_c.specs.contracts.column.Column.{the_type as column}
-use Rattle.wkb_c.specs.contracts.coordinates.LevelSlices.{the_type as level_slices}
-use Rattle.wkb_c.specs.contracts.coordinates.Totals.{the_type as totals}
+use Rattle.wkb_c.specs.contracts.level_slices.LevelSlices.{the_type as level_slices}
+use Rattle.wkb_c.specs.contracts.totals.Totals.{the_type as totals}
 use Rattle.wkb_c.specs.contracts.fault.WkbFault.{the_type as fault}
-use Rattle.wkb_c.specs.contracts.found.Found.{the_type as found}
+use Rattle.wkb_c.specs.contracts.check.Found.{the_type as found}
 use Rattle.wkb_c.specs.contracts.from_coordinates.LevelColumn.{the_type as level_column}
 use Rattle.wkb_c.specs.contracts.options.Options.{the_type as options}
 

@@ -10,8 +10,8 @@ use Rattle.wkb_c.specs.RowItems.{rows_of}
 use Rattle.wkb_check.specs.Subjects.{subjects}
 use Rattle.wkb_c.specs.Columns.{IsRefusedWith}
 use Rattle.wkb_c.specs.declared.column.Column.{Column}
-use Rattle.wkb_c.specs.declared.coordinates.LevelSlices.{LevelSlices}
-use Rattle.wkb_c.specs.declared.coordinates.Totals.{Totals}
+use Rattle.wkb_c.specs.declared.level_slices.LevelSlices.{LevelSlices}
+use Rattle.wkb_c.specs.declared.totals.Totals.{Totals}
 
 -- what they hold
 abbrev pub levels_of : LevelSlices → LevelLists

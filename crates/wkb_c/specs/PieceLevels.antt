@@ -15,7 +15,7 @@ use Rattle.wkb_check.specs.Public.{DescribesFront}
 use Rattle.wkb_check.specs.Subjects.{subjects}
 use Rattle.wkb_c.specs.Coordinates.{LevelLists, words_asked, ends, AreTotals}
 use Rattle.wkb_c.specs.RowItems.{end_of}
-use Rattle.wkb_c.specs.declared.coordinates.Totals.{Totals}
+use Rattle.wkb_c.specs.declared.totals.Totals.{Totals}
 
 -- how many coordinates it has, if it is a ring
 abbrev pub ring_sizes : Piece → List ℕ

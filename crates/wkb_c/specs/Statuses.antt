@@ -20,7 +20,7 @@ use Rattle.wkb_c.specs.declared.status.TheConstants.{SHORT_HEADER, INVALID_BYTE_
 use Rattle.wkb_c.specs.declared.status.TheConstants.{INCORRECT_TYPE}
 use Rattle.wkb_c.specs.declared.status.TheConstants.{NESTING_DEPTH_EXCEEDED, SHORT_POINT}
 use Rattle.wkb_c.specs.declared.status.TheConstants.{SHORT_LINE_STRING, SHORT_MULTI_POINT, SHORT_LINEAR_RING}
-use Rattle.wkb_c.specs.declared.inputs.TheConstants.{FIRST, SECOND, DIFFERENT, EQUAL}
+use Rattle.wkb_c.specs.declared.same.TheConstants.{FIRST, SECOND, DIFFERENT, EQUAL}
 use Rattle.wkb_c.specs.declared.fault.WkbFault.{WkbFault}
 
 -- the status of a fault of the bytes (no reading rejects an unsupported dimension)

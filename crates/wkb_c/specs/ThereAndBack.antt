@@ -20,7 +20,7 @@ use Rattle.wkb_c.specs.Requests.{request_of, options_for}
 use Rattle.wkb_c.specs.RowItems.{RowHas, IsRowAnswer, AreEncodings, rows_of}
 use Rattle.wkb_c.specs.Writings.{HasEncoding}
 use Rattle.wkb_c.specs.declared.column.Column.{Column}
-use Rattle.wkb_c.specs.declared.coordinates.Totals.{Totals}
+use Rattle.wkb_c.specs.declared.totals.Totals.{Totals}
 use Rattle.wkb_c.specs.declared.from_coordinates.LevelColumn.{LevelColumn}
 use Rattle.wkb_c.specs.declared.from_coordinates.LevelTarget.{LevelTarget}
 use Rattle.wkb_c.specs.declared.options.Options.{Options}

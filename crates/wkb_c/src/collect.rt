@@ -16,10 +16,10 @@ ghost use Rattle.wkb_c.specs.Columns.{Reach};
 ghost use Rattle.wkb_c.specs.Statuses.{IsFaultWithin};
 
 use crate::column::{Column, found_in};
-use crate::encoding::{options_for, write_requested};
 use crate::fault::{NO_FAULT, WkbFault, report_refusal};
 use crate::options::{Options, Request, request_of};
 use crate::status::{INCORRECT_TYPE, NO_ROOM, OK, TOO_MANY_ROWS, UNKNOWN_OPTION};
+use crate::write::{options_for, write_requested};
 use wkb_check::{Summary, check_member, check_plain};
 use wkb_geom::Dimension;
 use wkb_geom::code::{GEOMETRY_COLLECTION, MULTI_POINT, WkbType, of_kind};

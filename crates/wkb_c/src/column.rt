@@ -1,15 +1,13 @@
 //! A column as Arrow has it: the bytes of its rows, where each of them begins, and which rows are null.
 
-ghost use Rattle.std.specs.Prelude.{◌≡◌, ◌+◌, ◌<◌, ◌≤◌, ◌^◌, length, IfSome, IfNone, IfOk, IfErr};
+ghost use Rattle.std.specs.Prelude.{◌≡◌, ◌+◌, ◌<◌, ◌^◌, IfSome, IfNone, IfOk, IfErr};
 ghost use Rattle.wkb_check.specs.Public.{DescribesFront};
 ghost use Rattle.wkb_c.specs.Classes.{IsRowStatus, FitsByte};
-ghost use Rattle.wkb_c.specs.Columns.{is_unset_bit, is_null_row, IsOffset, HasNoOffset};
-ghost use Rattle.wkb_c.specs.Columns.{IsSpan, HasNoSpan, Reach, RowsFollow, RowsFit};
-ghost use Rattle.wkb_c.specs.Columns.{IsRow, LacksRow};
-ghost use Rattle.wkb_c.specs.Columns.{IsRefusedWith, IsStatusOf, IsStatusOfRow, AreStatuses};
+ghost use Rattle.wkb_c.specs.Columns.{is_unset_bit, IsOffset, HasNoOffset, IsSpan, HasNoSpan, Reach, RowsFollow};
+ghost use Rattle.wkb_c.specs.Columns.{RowsFit, IsRow, LacksRow, IsRefusedWith};
 
 use crate::fault::status_of_cause;
-use crate::status::{BAD_OFFSETS, NULL_ROW, OK};
+use crate::status::{BAD_OFFSETS, NULL_ROW};
 use wkb_check::{Summary, check, check_plain};
 use wkb_geom::Endianness;
 use wkb_geom::words::{u32_at, u64_at};
@@ -168,46 +166,5 @@ pub fn found_in(row: &[u8]) -> Result<Summary, u32>
     match check_plain(row) {
         Some(plain) => Ok(plain),
         None => check_row(row),
-    }
-}
-
-/// The status of some bytes.
-#[tactic(auto, using(crate::proofs::Telling::found_is_accepted))]
-fn status_of_bytes(row: &[u8]) -> u32
-    ensures status { IsStatusOf row.now result }
-    ensures known { FitsByte result }
-{
-    match found_in(row) {
-        Ok(_found) => OK,
-        Err(status) => status,
-    }
-}
-
-/// The status of row i.
-fn status_of_row(column: &Column, i: usize, reach: &mut u64) -> u32
-    requires small { i < 2 ^ 63 }
-    requires before { Reach column.now i reach.old }
-    ensures reach { Reach column.now (i + 1) reach.new }
-    ensures status { IsStatusOfRow column.now i result }
-    ensures known { FitsByte result }
-{
-    match column.row(i, reach) {
-        Ok(row) => status_of_bytes(row),
-        Err(status) => status,
-    }
-}
-
-/// Whether a geometry is at the start of each row of a column: a status a row.
-///
-/// Row i has the bytes from offset i up to offset i + 1. An offset is a signed little-endian number of `offset_size`
-/// bytes, 4 or 8. A row is null if bit `validity_offset + i` of `validity` is 0. No row stops the others.
-#[unsafe(no_mangle)]
-pub extern "C" fn wkb_raw_column_check(column: &Column<'_>, statuses: &mut [u8])
-    ensures each { AreStatuses column.now (length statuses.old) statuses.new }
-    ensures as_many { length statuses.new ≡ length statuses.old }
-{
-    let mut reach = 0;
-    for i in 0..statuses.len() {
-        statuses[i] = status_of_row(column, i, &mut reach) as u8;
     }
 }

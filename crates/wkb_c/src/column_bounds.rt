@@ -28,7 +28,7 @@ fn bound_row(column: &Column, i: usize, reach: &mut u64, found: &mut Bounds) -> 
     if put_plain_bounds(row, found) {
         return OK;
     }
-    match bound_any(row, found) {
+    match bounds_or_status(row, found) {
         Ok(()) => OK,
         Err(status) => status,
     }
@@ -38,7 +38,7 @@ fn bound_row(column: &Column, i: usize, reach: &mut u64, found: &mut Bounds) -> 
 ///
 /// It isn't inlined, so that other rows don't pay for its frame.
 #[inline(never)]
-fn bound_any(row: &[u8], found: &mut Bounds) -> Result<(), u32>
+fn bounds_or_status(row: &[u8], found: &mut Bounds) -> Result<(), u32>
     ensures front { IfOk result (λ _. BoundsFront row.now found.new) }
     ensures refused { IfErr result (IsRefusedWith row.now) }
     ensures kept { IfErr result (λ _. found.new ≡ found.old) }

@@ -10,8 +10,9 @@ ghost use Rattle.wkb_c.specs.LevelLists.{PutsFound, PutsAny, PutsRow, AreLevels,
 ghost use Rattle.wkb_c.specs.RowItems.{KeepsFrom, rows_of};
 
 use crate::column::{Column, check_row};
-use crate::coordinates::{LevelSlices, Totals, has_room, put_levels, put_rings};
+use crate::level_slices::{LevelSlices, has_room, put_levels, put_rings};
 use crate::status::{NO_ROOM, OK, UNKNOWN_OPTION};
+use crate::totals::Totals;
 use wkb_check::{Piece, Summary, check_plain};
 use wkb_geom::Dimension;
 use wkb_geom::code::WkbType;

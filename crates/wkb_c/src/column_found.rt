@@ -6,8 +6,8 @@ ghost use Rattle.wkb_c.specs.Columns.{Reach, AreStatuses};
 ghost use Rattle.wkb_c.specs.FoundRows.{IsFoundIn, IsFoundInRow, AreFoundRows};
 ghost use Rattle.wkb_c.specs.RowItems.{KeepsFrom, rows_of};
 
+use crate::check::{Found, NOTHING_FOUND, found_of};
 use crate::column::{Column, check_row};
-use crate::found::{Found, NOTHING_FOUND, found_of};
 use crate::status::OK;
 use wkb_check::check_plain;
 

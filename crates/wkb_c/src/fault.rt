@@ -1,16 +1,14 @@
 //! Where and why some bytes are rejected.
 
-ghost use Rattle.std.specs.Prelude.{◌≡◌, IfOk, IfErr, IfSome, None};
-ghost use Rattle.wkb_check.specs.Public.{DescribesFront};
-ghost use Rattle.wkb_rewrite.specs.Inputs.{IsAccepted};
+ghost use Rattle.std.specs.Prelude.{◌≡◌};
 ghost use Rattle.wkb_c.specs.Classes.{IsRefusalStatus, FitsByte};
-ghost use Rattle.wkb_c.specs.Statuses.{cause_status, general_status, cause_fault, IsFault, ReportsRefusal};
+ghost use Rattle.wkb_c.specs.Statuses.{cause_status, general_status, cause_fault, ReportsRefusal};
 
 use crate::status::{
     CODE_OUT_OF_RANGE, INCORRECT_TYPE, INVALID_BYTE_ORDER, NESTING_DEPTH_EXCEEDED, OK,
     SHORT_HEADER, SHORT_LINE_STRING, SHORT_LINEAR_RING, SHORT_MULTI_POINT, SHORT_POINT,
 };
-use wkb_check::{Refused, Summary, check, check_plain};
+use wkb_check::Refused;
 use wkb_geom::{Cause, General};
 
 /// The numbers of a refusal.
@@ -100,39 +98,4 @@ pub fn report_refusal(refused: &Refused, fault: &mut WkbFault) -> u32
 {
     *fault = fault_of_refused(refused);
     fault.status
-}
-
-/// What is at the start of the bytes; or the status of the one refusal, and its numbers.
-///
-/// It isn't inlined, so that bytes that take the short way don't pay for its frame.
-#[inline(never)]
-pub fn check_input(buf: &[u8], fault: &mut WkbFault) -> Result<Summary, u32>
-    ensures accepted { IfOk result (λ found. DescribesFront buf.now found) }
-    ensures refused { IfErr result (λ status. IsFault buf.now status fault.new) }
-    ensures refusal { IfErr result IsRefusalStatus }
-    ensures small { IfErr result FitsByte }
-    ensures kept { IfOk result (λ _. fault.new ≡ fault.old) }
-{
-    match check(buf) {
-        Ok(found) => Ok(found),
-        Err(refused) => Err(report_refusal(&refused, fault)),
-    }
-}
-
-/// The status of the one refusal of some bytes, and its numbers; none if a geometry is at their start. The short way
-/// comes first, and it counts in registers.
-#[tactic(auto, using(crate::proofs::Telling::found_is_accepted))]
-#[inline(always)]
-pub fn status_of_refusal(buf: &[u8], fault: &mut WkbFault) -> Option<u32>
-    ensures none { result ≡ None → IsAccepted buf.now }
-    ensures refused { IfSome result (λ status. IsFault buf.now status fault.new) }
-    ensures kept { result ≡ None → fault.new ≡ fault.old }
-{
-    if let Some(_plain) = check_plain(buf) {
-        return None;
-    }
-    match check_input(buf, fault) {
-        Ok(_found) => None,
-        Err(status) => Some(status),
-    }
 }

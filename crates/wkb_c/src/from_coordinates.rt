@@ -10,9 +10,9 @@ ghost use Rattle.wkb_levels.specs.declared.ends.Ends.TheVariants.{Each, At};
 ghost use Rattle.wkb_levels.specs.EndLists.{ends_of};
 
 use crate::column::is_unset;
-use crate::encoding::options_for;
 use crate::options::{Options, Request, request_of};
 use crate::status::{BAD_LEVELS, NO_ROOM, NULL_ROW, OK, UNKNOWN_OPTION};
+use crate::write::options_for;
 use wkb_geom::code::{LINE_STRING, MULTI_LINE_STRING, MULTI_POINT, MULTI_POLYGON, POINT, POLYGON};
 use wkb_geom::{Dimension, Dimensions};
 use wkb_levels::{Ends, Kind, Levels, Place, Written};

@@ -3,29 +3,39 @@
 ghost use Rattle.std.specs.Prelude.{◌≡◌, ◌≢◌, ◌⊎◌, length};
 ghost use Rattle.wkb_check.specs.Public.{DescribesFront};
 ghost use Rattle.wkb_c.specs.Checks.{whole_entry};
+ghost use Rattle.wkb_c.specs.Classes.{IsRefusalStatus, IsNoRefusal};
+ghost use Rattle.wkb_c.specs.Statuses.{IsFault, IsStatusOfListing};
 ghost use Rattle.wkb_c.specs.Subjects.{IsTable, LacksEntries};
 
-use crate::found::{Found, found_of};
+use crate::check::{Found, check_input, found_of};
+use crate::fault::WkbFault;
 use crate::status::{NO_ROOM, OK};
-use wkb_check::{Part, PartPlace, Summary, put_geometries};
+use wkb_check::{Part, PartPlace, Summary, check_plain, put_geometries};
 
-/// The entry of a geometry that is its only part.
-#[inline(always)]
-fn whole_part(found: &Found) -> Part
-    ensures { result ≡ whole_entry found.now }
+/// Lists the parts of the geometry at the start of the bytes in preorder, and writes their number.
+///
+/// `NO_ROOM` writes their number too. A refusal leaves `parts` unchanged.
+#[unsafe(no_mangle)]
+pub extern "C" fn wkb_raw_parts(
+    buf: &[u8],
+    parts: &mut [Part],
+    count: &mut u64,
+    fault: &mut WkbFault,
+) -> u32
+    ensures listed { result ≡ OK → IsTable buf.now parts.old parts.new count.new }
+    ensures no_room { result ≡ NO_ROOM → LacksEntries buf.now parts.old count.new }
+    ensures refused { IsRefusalStatus result → IsFault buf.now result fault.new }
+    ensures known { IsStatusOfListing result }
+    ensures parts_kept { result ≢ OK → parts.new ≡ parts.old }
+    ensures count_kept { result ≢ OK → result ≢ NO_ROOM → count.new ≡ count.old }
+    ensures fault_kept { IsNoRefusal result → fault.new ≡ fault.old }
 {
-    Part {
-        begin: 0,
-        end: found.size,
-        offset: found.offset,
-        count: found.count,
-        next: 1,
-        srid: found.srid,
-        has_srid: found.has_srid,
-        kind: found.kind,
-        dimension: found.dimension,
-        width: found.width,
-        order: found.order,
+    if let Some(found) = check_plain(buf) {
+        return list_parts(buf, &found, parts, count);
+    }
+    match check_input(buf, fault) {
+        Ok(found) => list_parts(buf, &found, parts, count),
+        Err(status) => status,
     }
 }
 
@@ -51,4 +61,24 @@ pub fn list_parts(buf: &[u8], found: &Summary, parts: &mut [Part], count: &mut u
     }
     put_geometries(buf, 1, parts, PartPlace { index: 0, byte: 0 });
     OK
+}
+
+/// The entry of a geometry that is its only part.
+#[inline(always)]
+fn whole_part(found: &Found) -> Part
+    ensures { result ≡ whole_entry found.now }
+{
+    Part {
+        begin: 0,
+        end: found.size,
+        offset: found.offset,
+        count: found.count,
+        next: 1,
+        srid: found.srid,
+        has_srid: found.has_srid,
+        kind: found.kind,
+        dimension: found.dimension,
+        width: found.width,
+        order: found.order,
+    }
 }

@@ -7,11 +7,11 @@ returns-then-put_plain_bounds-clause-row c =
     bounded c.in-Ok.row.now c.in-Ok.ensures.row refl
     (c.put_plain_bounds.ensures.front c.if-put_plain_bounds.true)
 
-pub returns-in-Ok-bound_any-clause-row : goal.returns-in-Ok-bound_any-clause-row
-returns-in-Ok-bound_any-clause-row c =
-    bounded c.in-Ok.row.now c.in-Ok.ensures.row refl c.in-Ok-bound_any.ensures.front
+pub returns-in-Ok-bounds_or_status-clause-row : goal.returns-in-Ok-bounds_or_status-clause-row
+returns-in-Ok-bounds_or_status-clause-row c =
+    bounded c.in-Ok.row.now c.in-Ok.ensures.row refl c.in-Ok-bounds_or_status.ensures.front
 
-pub returns-in-Err-bound_any-clause-row : goal.returns-in-Err-bound_any-clause-row
-returns-in-Err-bound_any-clause-row c =
-    refused c.in-Ok.row.now c.in-Ok.ensures.row c.in-Err-bound_any.ensures.refused
-    (c.in-Err-bound_any.ensures.kept ∙ c.put_plain_bounds.ensures.kept c.if-put_plain_bounds.false ∙ c.empty.ensures)
+pub returns-in-Err-bounds_or_status-clause-row : goal.returns-in-Err-bounds_or_status-clause-row
+returns-in-Err-bounds_or_status-clause-row c =
+    refused c.in-Ok.row.now c.in-Ok.ensures.row c.in-Err-bounds_or_status.ensures.refused
+    (c.in-Err-bounds_or_status.ensures.kept ∙ c.put_plain_bounds.ensures.kept c.if-put_plain_bounds.false ∙ c.empty.ensures)

@@ -1,0 +1,28 @@
+use Rattle.wkb_c.proofs.Common.{refl}
+use Rattle.wkb_c.specs.RowItems.{nothing, fails, has_no_row}
+use Rattle.wkb_c.proofs.Called.{list_step}
+use Rattle.wkb_c.proofs.RowItems.{lent_rest}
+use Rattle.wkb_c.proofs.column_parts.list_row.Goals as goal
+
+pub returns-in-Err-clause-step : goal.returns-in-Err-clause-step
+returns-in-Err-clause-step c = nothing (has_no_row c.in-Err.ensures.none) refl refl
+
+pub returns-in-Err-check_row-clause-step : goal.returns-in-Err-check_row-clause-step
+returns-in-Err-check_row-clause-step c =
+    nothing (fails c.in-Ok.row.now c.in-Ok.ensures.row c.in-Err-check_row.ensures.refused) refl refl
+
+pub returns-clause-step : goal.returns-clause-step
+returns-clause-step c =
+    let called = c.list_parts-status-2 in
+    let e = called.ensures in
+    list_step c.in-Ok.row.now c.in-Ok.ensures.row
+    (lent_rest c.args.parts.now called.new.parts c.min-at.result c.min-at.ensures e.long) e.listed e.no_room
+    e.parts_kept e.known
+
+pub returns-in-Some-clause-step : goal.returns-in-Some-clause-step
+returns-in-Some-clause-step c =
+    let called = c.list_parts-status in
+    let e = called.ensures in
+    list_step c.in-Ok.row.now c.in-Ok.ensures.row
+    (lent_rest c.args.parts.now called.new.parts c.min-at.result c.min-at.ensures e.long) e.listed e.no_room
+    e.parts_kept e.known

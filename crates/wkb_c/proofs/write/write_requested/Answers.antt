@@ -1,0 +1,44 @@
+use Rattle.wkb_c.proofs.Common.{arith, length, ◌≤◌}
+use Rattle.wkb_geom.specs.Encodings.{encoding}
+use Rattle.wkb_geom.specs.Geometries.{geometry_of}
+use Rattle.wkb_check.specs.Known.{HasGeometry}
+use Rattle.wkb_rewrite.proofs.Measured.{at_most, here}
+use Rattle.wkb_c.proofs.Encodings.{writes, lacks_room}
+use Rattle.wkb_c.proofs.write.write_requested.Goals as goal
+use Rattle.wkb_c.proofs.write.write_requested.Goals.{Joined-out-buf, then-out-buf+else-out-wanted, else-out-buf}
+
+pub returns-then-out-wanted : goal.returns-then-out-wanted
+returns-then-out-wanted c =
+    let options = c.options_for-options in
+    let wanted = c.encoded_size-wanted in
+    lacks_room c.args.request c.args.buf.now c.args.found.now c.requires options.result options.ensures c.args.out.now
+    wanted.result (λ i. (c.type_inv.buf i).fits) (wanted.ensures.size options.result.endianness (here c.requires))
+    (omega (arith, c.if-out-wanted.true))
+
+-- there is room for the encoding where it is put
+fits : (c : Joined-out-buf) → (g : HasGeometry c.args.buf.now)
+    → length (encoding c.options_for-options.result.endianness c.options_for-options.result.form (geometry_of g.value))
+    ≤ length c.args.out.now
+fits c g =
+    let options = c.options_for-options in
+    elim c.if-out-buf.branch [
+      | then-out-buf+else-out-wanted w ↦
+          omega (arith, w.encoded_size-wanted.ensures.size options.result.endianness g, w.if-out-wanted.false)
+      | else-out-buf w ↦ omega (
+        arith,
+        at_most options.result.endianness options.result.form c.args.buf.now g (λ i. (c.type_inv.buf i).fits),
+        w.if-out-buf.false,
+      )
+    ]
+
+pub put_encoding-requires-clause-room : goal.put_encoding-requires-clause-room
+put_encoding-requires-clause-room c = fits (goal.at.put_encoding-requires-clause-room c).Joined-out-buf
+
+pub returns : goal.returns
+returns c =
+    let options = c.options_for-options in
+    let there = here c.requires in
+    let size_is = c.put_encoding.ensures.size there in
+    writes c.args.request c.args.buf.now c.args.found.now c.requires options.result options.ensures c.args.out.now
+    c.put_encoding.new.out c.put_encoding.result (λ i. (c.type_inv.buf i).fits) size_is
+    (omega (arith, size_is, fits (goal.at.returns c).Joined-out-buf there)) (c.put_encoding.ensures.put there)

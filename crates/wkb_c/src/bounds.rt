@@ -1,0 +1,40 @@
+//! The bounds of one input.
+
+ghost use Rattle.std.specs.Prelude.{◌≡◌, ◌≢◌};
+ghost use Rattle.wkb_bounds.specs.Bounded.{BoundsFront};
+ghost use Rattle.wkb_c.specs.Checks.{TellsBounds};
+ghost use Rattle.wkb_c.specs.Statuses.{IsFault};
+
+use crate::fault::{WkbFault, report_refusal};
+use crate::status::{NO_MEMORY, OK};
+use wkb_bounds::{Bounds, put_any_bounds, put_plain_bounds};
+
+/// The bounds of the geometry at the start of the bytes.
+///
+/// Returns `OK` and the bounds, or what `wkb_raw_check` returns.
+#[unsafe(no_mangle)]
+pub extern "C" fn wkb_raw_bounds(buf: &[u8], bounds: &mut Bounds, fault: &mut WkbFault) -> u32
+    ensures accepted { result ≡ OK → BoundsFront buf.now bounds.new }
+    ensures refused { result ≢ OK → IsFault buf.now result fault.new }
+    ensures no_memory { result ≢ NO_MEMORY }
+    ensures bounds_kept { result ≢ OK → bounds.new ≡ bounds.old }
+    ensures fault_kept { result ≡ OK → fault.new ≡ fault.old }
+{
+    if put_plain_bounds(buf, bounds) {
+        return OK;
+    }
+    bounds_or_fault(buf, bounds, fault)
+}
+
+/// Puts the bounds by the long way, which collections and rejected bytes need.
+///
+/// It isn't inlined, so that other bytes don't pay for its frame.
+#[inline(never)]
+fn bounds_or_fault(buf: &[u8], bounds: &mut Bounds, fault: &mut WkbFault) -> u32
+    ensures { TellsBounds buf.now bounds.old bounds.new fault.old fault.new result }
+{
+    match put_any_bounds(buf, bounds) {
+        Ok(()) => OK,
+        Err(refused) => report_refusal(&refused, fault),
+    }
+}
