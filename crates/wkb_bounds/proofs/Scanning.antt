@@ -1,8 +1,12 @@
 -- What is said of the bounds of a geometry that the check found.
-use Rattle.std.proofs.Common.{ℕ, List, Ok}
+use Rattle.std.proofs.Common.{◌≡◌, ℕ, ◌<◌, List, Ok, refl, arith, nat_lt, true, lt-ltb}
+use Rattle.wkb_geom.specs.Reading.{type_kind}
 use Rattle.wkb_check.specs.declared.answer.Summary.{Summary}
 use Rattle.wkb_check.specs.Known.{HasGeometry}
-use Rattle.wkb_check.specs.Public.{Checks}
+use Rattle.wkb_check.specs.declared.pieces.Piece.{Piece}
+use Rattle.wkb_check.specs.Pieces.{IsPieceAt}
+use Rattle.wkb_check.specs.Public.{Checks, DescribesFront}
+use Rattle.wkb_check.proofs.Ahead.{found_header, piece_by}
 use Rattle.wkb_check.proofs.Joining.{geometry_of_front}
 use Rattle.wkb_bounds.specs.declared.range.Bounds.{Bounds}
 use Rattle.wkb_bounds.specs.Bounded.{AreBounds, BoundsFront}
@@ -19,3 +23,10 @@ bounds_front c are = record {
   front = c.front.front;
   bounded = are (geometry_of_front c.front.front);
 }
+
+-- what was found to be a point or a line string has coordinates
+pub found_low : {buf : List ℕ} {found : Summary} → DescribesFront buf found → (p : Piece) → IsPieceAt buf 0 p
+    → type_kind found.wkb_type < 3 → nat_lt p.kind 3 ≡ true
+found_low f p is low =
+    let g = geometry_of_front f.front in
+    lt-ltb p.kind 3 (omega (arith, low, (piece_by 0 g.spelled g.value (found_header f refl refl g) p (is g)).kind_is))

@@ -227,14 +227,4 @@ impl AxisRanks {
     {
         self.x.are_numbers() && self.y.are_numbers()
     }
-
-    /// As `widen`, by coordinates of an x and a y, with a test of each word.
-    #[inline(always)]
-    pub(crate) fn widen_xy_word_by_word(&mut self, order: Endianness, count: u32, bytes: &[u8])
-        requires whole { XY_SIZE * count ≤ length bytes.now }
-        requires room { HasRoom (bounds_by self.old) bytes.now }
-        ensures { WidensBounds self.old self.new Xy (coordinates order Xy count bytes.now) }
-    {
-        widen_plane_word_by_word(&mut self.x, &mut self.y, order, XY_SIZE, count, bytes);
-    }
 }

@@ -1,6 +1,6 @@
 //! The bounds of a geometry, by one walk over its pieces.
 
-ghost use Rattle.std.specs.Prelude.{◌≡◌, ◌≤◌, ◌*◌, length, nat_lt, true, false, Err, IfOk, IfErr, IfSome};
+ghost use Rattle.std.specs.Prelude.{◌≡◌, ◌≤◌, ◌*◌, length, nat_lt, true, false, Err, IfOk, IfErr};
 ghost use Rattle.wkb_geom.specs.declared.code.TheConstants.{POLYGON};
 ghost use Rattle.wkb_geom.specs.declared.common.Dimension.TheVariants.{Xy};
 ghost use Rattle.wkb_geom.specs.Dimensions.{width};
@@ -20,18 +20,6 @@ use wkb_geom::code::{POLYGON, WkbType};
 use wkb_geom::words::rest_from;
 use wkb_geom::{Dimension, Endianness};
 
-/// Puts the bounds of `count` coordinates of x and y, with a test of each word. It isn't inlined, so that the ranks of
-/// others stay in registers.
-#[inline(never)]
-fn put_bounds_word_by_word(order: Endianness, count: u32, bytes: &[u8], bounds: &mut Bounds)
-    requires { XY_SIZE * count ≤ length bytes.now }
-    ensures { Widens no_bounds bounds.new (λ a. words_in a Xy (coordinates order Xy count bytes.now)) }
-{
-    let mut ranks = AxisRanks::empty();
-    ranks.widen_xy_word_by_word(order, count, bytes);
-    *bounds = ranks.bounds();
-}
-
 /// Puts the bounds of `count` coordinates of x and y in an order that is a constant if this is inlined.
 #[inline(always)]
 fn put_bounds_of_xy_in(order: Endianness, count: u32, bytes: &[u8], bounds: &mut Bounds)
@@ -41,7 +29,7 @@ fn put_bounds_of_xy_in(order: Endianness, count: u32, bytes: &[u8], bounds: &mut
     let mut ranks = AxisRanks::empty();
     ranks.widen_xy_by_numbers(order, count, bytes);
     if !ranks.are_plane_numbers() {
-        put_bounds_word_by_word(order, count, bytes, bounds);
+        put_bounds_of_any(order, Dimension::Xy, count, bytes, bounds);
         return;
     }
     *bounds = ranks.bounds();
@@ -100,25 +88,6 @@ fn put_bounds_of_piece(buf: &[u8], only: &Piece, bounds: &mut Bounds)
     }
 }
 
-/// The first piece of a geometry that has coordinates, and so is this piece alone. `None` for any other geometry: the
-/// walk visits its first piece anyway.
-#[inline(always)]
-fn only_piece(buf: &[u8], found: &Summary) -> Option<Piece>
-    requires { DescribesFront buf.now found.now }
-    ensures here { IfSome result (IsPieceAt buf.now 0) }
-    ensures low { IfSome result (λ p. nat_lt p.kind POLYGON ≡ true) }
-{
-    if found.wkb_type.kind() >= POLYGON {
-        return None;
-    }
-    let first = Piece::outermost(buf, found);
-    if first.has_coordinates() {
-        Some(first)
-    } else {
-        None
-    }
-}
-
 /// Puts the bounds of a polygon of x and y in an order that is a constant if this is inlined.
 #[tactic(auto, using(wkb_check::proofs::Following::fewer_left))]
 #[inline(always)]
@@ -159,30 +128,20 @@ fn put_bounds_of_rings(buf: &[u8], order: Endianness, srid: Option<u32>, bounds:
     }
 }
 
-/// Puts the bounds of a geometry that has no coordinates itself.
-#[inline(always)]
-fn put_bounds_of_others(buf: &[u8], found: &Summary, bounds: &mut Bounds)
-    requires { DescribesFront buf.now found.now }
-    ensures { (g : HasGeometry buf.now) → AreBounds bounds.new g.value }
-{
-    if let WkbType::Polygon(dimension) = found.wkb_type {
-        if let Dimension::Xy = dimension {
-            put_bounds_of_rings(buf, found.order, found.srid, bounds);
-            return;
-        }
-    }
-    put_bounds_of_front(buf, bounds);
-}
-
 /// Puts the bounds of the geometry at the start of bytes in which the check found this.
 #[inline(always)]
 fn put_bounds_found(buf: &[u8], found: &Summary, bounds: &mut Bounds)
     requires { DescribesFront buf.now found.now }
     ensures { (g : HasGeometry buf.now) → AreBounds bounds.new g.value }
 {
-    match only_piece(buf, found) {
-        Some(only) => put_bounds_of_piece(buf, &only, bounds),
-        None => put_bounds_of_others(buf, found, bounds),
+    match found.wkb_type {
+        WkbType::Point(_) | WkbType::LineString(_) => {
+            put_bounds_of_piece(buf, &Piece::outermost(buf, found), bounds);
+        }
+        WkbType::Polygon(Dimension::Xy) => {
+            put_bounds_of_rings(buf, found.order, found.srid, bounds);
+        }
+        _ => put_bounds_of_front(buf, bounds),
     }
 }
 
