@@ -9,6 +9,7 @@ ghost use Rattle.wkb_bounds.specs.Ordinates.{Axis, column_words, axis_place, z_a
 ghost use Rattle.wkb_bounds.specs.Bounded.{WidensBounds, ArePlaneNumbers, HasRoom, bounds_by, on};
 ghost use Rattle.wkb_bounds.specs.Bounded.{nothing as no_bounds};
 
+use crate::by_order;
 use crate::range::{Bounds, Range};
 use crate::ranks::Ranks;
 use wkb_geom::words::{WORD_SIZE, rest_from, u64_at};
@@ -126,12 +127,7 @@ fn widen_plane(
     ensures x { WidensRange x.old x.new (column_words order size 0 count bytes.now) }
     ensures y { WidensRange y.old y.new (column_words order size 8 count bytes.now) }
 {
-    match order {
-        Endianness::BigEndian => widen_plane_in(x, y, Endianness::BigEndian, size, count, bytes),
-        Endianness::LittleEndian => {
-            widen_plane_in(x, y, Endianness::LittleEndian, size, count, bytes)
-        }
-    }
+    by_order!(order, widen_plane_in(x, y, order, size, count, bytes))
 }
 
 /// Which word of a coordinate is its z.

@@ -6,6 +6,7 @@ ghost use Rattle.wkb_bounds.specs.Ranges.{word_of as word_by, range_by, with_wor
 ghost use Rattle.wkb_bounds.specs.Ranges.{widened, CanWiden, WidensRange, AreNumbers, WidensNumbers};
 ghost use Rattle.wkb_bounds.specs.Ordinates.{column_words, place_words};
 
+use crate::by_order;
 use crate::range::Range;
 use wkb_geom::words::{SIGN, WORD_SIZE, is_nan, rank, rest_from, u64_at};
 use wkb_geom::{Dimension, Endianness};
@@ -164,12 +165,7 @@ impl Ranks {
         requires { CanWiden self.old size at count bytes.now }
         ensures { WidensRange self.old self.new (column_words order size at count bytes.now) }
     {
-        match order {
-            Endianness::BigEndian => self.widen_in(Endianness::BigEndian, size, at, count, bytes),
-            Endianness::LittleEndian => {
-                self.widen_in(Endianness::LittleEndian, size, at, count, bytes)
-            }
-        }
+        by_order!(order, self.widen_in(order, size, at, count, bytes))
     }
 }
 

@@ -14,6 +14,7 @@ ghost use Rattle.wkb_check.specs.Pieces.{IsPieceAt, IsHeaderAt};
 ghost use Rattle.wkb_check.specs.Public.{Checks, DescribesFront};
 
 use crate::axes::AxisRanks;
+use crate::by_order;
 use crate::range::Bounds;
 use wkb_check::{Piece, Pieces, Refused, Summary, check, check_plain};
 use wkb_geom::code::{POLYGON, WkbType};
@@ -42,14 +43,7 @@ fn put_bounds_of_xy(order: Endianness, count: u32, bytes: &[u8], bounds: &mut Bo
     requires { XY_SIZE * count ≤ length bytes.now }
     ensures { Widens no_bounds bounds.new (λ a. words_in a Xy (coordinates order Xy count bytes.now)) }
 {
-    match order {
-        Endianness::BigEndian => {
-            put_bounds_of_xy_in(Endianness::BigEndian, count, bytes, bounds);
-        }
-        Endianness::LittleEndian => {
-            put_bounds_of_xy_in(Endianness::LittleEndian, count, bytes, bounds);
-        }
-    }
+    by_order!(order, put_bounds_of_xy_in(order, count, bytes, bounds))
 }
 
 /// Puts the bounds of `count` coordinates of any dimension. It isn't inlined, so that others don't pay for its frame.
@@ -118,14 +112,7 @@ fn put_bounds_of_rings(buf: &[u8], order: Endianness, srid: Option<u32>, bounds:
     requires header { IsHeaderAt buf.now 0 POLYGON Xy order srid }
     ensures { (g : HasGeometry buf.now) → AreBounds bounds.new g.value }
 {
-    match order {
-        Endianness::BigEndian => {
-            put_bounds_of_rings_in(buf, Endianness::BigEndian, srid, bounds);
-        }
-        Endianness::LittleEndian => {
-            put_bounds_of_rings_in(buf, Endianness::LittleEndian, srid, bounds);
-        }
-    }
+    by_order!(order, put_bounds_of_rings_in(buf, order, srid, bounds))
 }
 
 /// Puts the bounds of the geometry at the start of bytes in which the check found this.
