@@ -7,13 +7,14 @@ use Rattle.std.proofs.Common.{set}
 use Rattle.std.proofs.lemmas.List.{nil_from_length}
 use Rattle.wkb_geom.specs.Fronts.{Front}
 use Rattle.wkb_check.specs.Known.{HasGeometries}
-use Rattle.wkb_check.specs.Pieces.{leading, count_of, size}
-use Rattle.wkb_check.specs.Tables.{geometry_entries, FitGeometries, entry, place, entry_count}
+use Rattle.wkb_check.specs.Pieces.{count_of, size, piece_of, IsPieceAt}
+use Rattle.wkb_check.specs.Public.{DescribesFront}
+use Rattle.wkb_check.specs.declared.answer.Summary.{Summary}
+use Rattle.wkb_check.specs.declared.pieces.Piece.{Piece}
+use Rattle.wkb_check.specs.Tables.{geometry_entries, FitGeometries, entry, entry_of, place, entry_count}
 use Rattle.wkb_check.specs.declared.parts.Part.{Part}
 use Rattle.wkb_check.proofs.Placing.{spelled_size, alone}
 use Rattle.wkb_check.proofs.Joining.{geometry_of_front}
-use Rattle.wkb_c.specs.Checks.{IsFound, whole_entry}
-use Rattle.wkb_c.specs.declared.check.Found.{Found}
 use Rattle.wkb_c.specs.Columns.{IsRow, IsRefusedWith}
 use Rattle.wkb_c.specs.declared.column.Column.{Column}
 use Rattle.wkb_c.specs.RowItems.{IsRowStep, RowHas, RowFails}
@@ -103,37 +104,31 @@ entries_begin : (s : Spelling) (t : Value) → length (geometry_entries 0 0 s t)
 entries_begin (node h words ss) t is =
     ap (λ z. first_entry (node h words ss) t ∷ z) (nil_from_length _ (omega (arith, is)))
 
-first_is_whole : (input : List ℕ) (f : Found) → (h : IsFound input f) → f.parts ≡ 1
-    → first_entry h.s h.t ≡ whole_entry f
-first_is_whole input f h one =
-    let end : 0 + size h.s h.t ≡ f.size =
-    omega (arith, h.size_is, spelled_size h.s h.t h.front.front h.front.spelled) in
-    let offset : 0 + leading (header h.s) h.t ≡ f.offset = omega (arith, h.offset_is) in
-    let next : 0 + entry_count h.s h.t ≡ 1 =
-    omega (arith, one, h.parts_are, counted h.s h.t h.front.front h.front.spelled) in
-    λ i. record {
-      begin = 0;
-      end = end i;
-      offset = offset i;
-      count = sym h.count_is i;
-      next = next i;
-      srid = sym h.srid_is i;
-      has_srid = sym h.has_srid_is i;
-      kind = sym h.kind_is i;
-      dimension = sym h.dimension_is i;
-      width = sym h.width_is i;
-      order = sym h.order_is i;
-    }
+first_is_whole : (s : Spelling) (t : Value) (p : Piece) → p ≡ piece_of 0 s t → {end next : ℕ} → end ≡ 0 + size s t
+    → next ≡ 0 + entry_count s t → entry_of p end next ≡ first_entry s t
+first_is_whole (node h words ss) t p is end_is next_is = λ i. entry_of (is i) (end_is i) (next_is i)
 
 -- what was found has so many parts
-abbrev pub parts_found : (input : List ℕ) (f : Found) → IsFound input f → HasParts input f.parts
-parts_found input f h = record { s = h.s; t = h.t; rest = h.rest; front = h.front; many_are = h.parts_are }
+abbrev pub parts_found : {input : List ℕ} {f : Summary} → DescribesFront input f → HasParts input f.parts
+parts_found d = record {
+  s = d.spelled;
+  t = d.value;
+  rest = d.rest;
+  front = d.front;
+  many_are = omega (arith, d.described.parts);
+}
 
-pub whole_put : (input : List ℕ) (f : Found) (parts new : List Part) → (h : IsFound input f)
-    → f.parts ≡ 1 → f.parts ≤ length parts → new ≡ set parts 0 (whole_entry f) → IsTable input parts new f.parts
-whole_put input f parts new h one fit put =
-    let entries = entries_begin h.s h.t
-    (omega (arith, entries_many h.s h.t h.front.front h.front.spelled, h.parts_are, one))
-    ∙ ap (λ e. e ∷ []) (first_is_whole input f h one) in
-    table_put input f.parts parts new (parts_found input f h) fit
-    (put ∙ ap (λ es. sets parts 0 (es ++ [])) (sym entries))
+pub whole_put : {input : List ℕ} {f : Summary} {parts new : List Part} (d : DescribesFront input f) (p : Piece)
+    → IsPieceAt input 0 p → f.parts ≡ 1 → f.parts ≤ length parts → new ≡ set parts 0 (entry_of p f.bytes 1)
+    → IsTable input parts new f.parts
+whole_put {input} {f} {parts} {new} d p is one fit put =
+    let front = d.front in
+    let long = spelled_size d.spelled d.value front.front front.spelled in
+    let many = entries_many d.spelled d.value front.front front.spelled in
+    let entries = entries_begin d.spelled d.value (omega (arith, many, d.described.parts, one)) in
+    let end : f.bytes ≡ 0 + size d.spelled d.value = omega (arith, d.described.bytes_are, long) in
+    let next : 1 ≡ 0 + entry_count d.spelled d.value =
+    omega (arith, one, d.described.parts, counted d.spelled d.value front.front front.spelled) in
+    table_put input f.parts parts new (parts_found d) fit
+    (put ∙ ap (set parts 0) (first_is_whole d.spelled d.value p (is (geometry_of_front front)) end next)
+    ∙ ap (λ es. sets parts 0 (es ++ [])) (sym entries))

@@ -9,7 +9,6 @@ use Rattle.wkb_geom.specs.Spellings.{Spelling, header}
 use Rattle.wkb_geom.specs.Fronts.{Front}
 use Rattle.wkb_geom.specs.Counted.{coordinate_count}
 use Rattle.wkb_check.specs.Pieces.{count_of, leading}
-use Rattle.wkb_check.specs.declared.parts.Part.{Part}
 use Rattle.wkb_c.specs.declared.fault.WkbFault.{WkbFault}
 use Rattle.wkb_c.specs.declared.check.Found.{Found}
 use Rattle.wkb_c.specs.declared.status.TheConstants.{OK, NO_MEMORY}
@@ -50,19 +49,3 @@ pub record TellsBounds (input : List ℕ) (before after : Bounds) (fault fault' 
   pub no_memory : status ≢ NO_MEMORY
   pub bounds_kept : status ≢ OK → after ≡ before
   pub fault_kept : status ≡ OK → fault' ≡ fault
-
--- the entry of a geometry that is its only part
-abbrev pub whole_entry : Found → Part
-whole_entry f = record {
-  begin = 0;
-  end = f.size;
-  offset = f.offset;
-  count = f.count;
-  next = 1;
-  srid = f.srid;
-  has_srid = f.has_srid;
-  kind = f.kind;
-  dimension = f.dimension;
-  width = f.width;
-  order = f.order;
-}

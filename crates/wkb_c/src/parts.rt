@@ -2,15 +2,14 @@
 
 ghost use Rattle.std.specs.Prelude.{◌≡◌, ◌≢◌, ◌⊎◌, length};
 ghost use Rattle.wkb_check.specs.Public.{DescribesFront};
-ghost use Rattle.wkb_c.specs.Checks.{whole_entry};
 ghost use Rattle.wkb_c.specs.Classes.{IsRefusalStatus, IsNoRefusal};
 ghost use Rattle.wkb_c.specs.Statuses.{IsFault, IsStatusOfListing};
 ghost use Rattle.wkb_c.specs.Subjects.{IsTable, LacksEntries};
 
-use crate::check::{Found, check_input, found_of};
+use crate::check::check_input;
 use crate::fault::WkbFault;
 use crate::status::{NO_ROOM, OK};
-use wkb_check::{Part, PartPlace, Summary, check_plain, put_geometries};
+use wkb_check::{Part, PartPlace, Piece, Summary, check_plain, put_geometries};
 
 /// Lists the parts of the geometry at the start of the bytes in preorder, and writes their number.
 ///
@@ -50,35 +49,14 @@ pub fn list_parts(buf: &[u8], found: &Summary, parts: &mut [Part], count: &mut u
     ensures long { length parts.new ≡ length parts.old }
     ensures parts_kept { result ≢ OK → parts.new ≡ parts.old }
 {
-    let whole = found_of(buf, found);
-    *count = whole.parts;
-    if (parts.len() as u64) < whole.parts {
+    *count = found.parts as u64;
+    if parts.len() < found.parts {
         return NO_ROOM;
     }
-    if whole.parts == 1 {
-        parts[0] = whole_part(&whole);
+    if found.parts == 1 {
+        parts[0] = Part::of(&Piece::outermost(buf, found), found.bytes, 1);
         return OK;
     }
     put_geometries(buf, 1, parts, PartPlace { index: 0, byte: 0 });
     OK
-}
-
-/// The entry of a geometry that is its only part.
-#[inline(always)]
-fn whole_part(found: &Found) -> Part
-    ensures { result ≡ whole_entry found.now }
-{
-    Part {
-        begin: 0,
-        end: found.size,
-        offset: found.offset,
-        count: found.count,
-        next: 1,
-        srid: found.srid,
-        has_srid: found.has_srid,
-        kind: found.kind,
-        dimension: found.dimension,
-        width: found.width,
-        order: found.order,
-    }
 }

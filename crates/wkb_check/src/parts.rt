@@ -36,7 +36,7 @@ pub fn width_number(dimension: Dimension) -> u32
 impl Part {
     /// The table entry of `piece`: `end` is its last byte plus one, `next` the index after its rings and members.
     #[inline(always)]
-    fn of(piece: &Piece, end: usize, next: usize) -> Part
+    pub fn of(piece: &Piece, end: usize, next: usize) -> Part
         ensures { result ≡ entry_of piece.now end next }
     {
         Part {

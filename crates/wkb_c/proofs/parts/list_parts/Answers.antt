@@ -6,19 +6,18 @@ use Rattle.wkb_c.proofs.parts.list_parts.Goals as goal
 pub put_geometries-requires : goal.put_geometries-requires
 put_geometries-requires c = record {
   fit =
-      fits_table c.args.buf.now c.found_of-whole.result.parts c.args.parts.now
-      (parts_found c.args.buf.now c.found_of-whole.result c.found_of-whole.ensures)
-      (omega (arith, c.if-parts-whole.false));
+      fits_table c.args.buf.now c.args.found.now.parts c.args.parts.now (parts_found c.requires.accepted)
+      (omega (arith, c.if-parts-found.false));
 }
 
-pub returns-then-whole-eq1-clause-listed : goal.returns-then-whole-eq1-clause-listed
-returns-then-whole-eq1-clause-listed c = λ ok.
-    whole_put c.args.buf.now c.found_of-whole.result c.args.parts.now _ c.found_of-whole.ensures
-    c.if-whole-eq1.true (omega (arith, c.if-parts-whole.false)) (ap (set c.args.parts.now 0) c.whole_part.ensures)
+pub returns-then-found-eq1-clause-listed : goal.returns-then-found-eq1-clause-listed
+returns-then-found-eq1-clause-listed c = λ ok.
+    whole_put c.requires.accepted c.outermost.result c.outermost.ensures c.if-found-eq1.true
+    (omega (arith, c.if-parts-found.false)) (ap (set c.args.parts.now 0) c.of.ensures)
 
 pub returns-clause-listed : goal.returns-clause-listed
 returns-clause-listed c = λ ok.
-    let f = c.found_of-whole.ensures in
-    table_put c.args.buf.now c.found_of-whole.result.parts c.args.parts.now c.put_geometries.new.parts
-    (parts_found c.args.buf.now c.found_of-whole.result f) (omega (arith, c.if-parts-whole.false))
-    (c.put_geometries.ensures f.rest (one_geometry c.args.buf.now f.s f.t f.rest f.front)).put
+    let d = c.requires.accepted in
+    table_put c.args.buf.now c.args.found.now.parts c.args.parts.now c.put_geometries.new.parts (parts_found d)
+    (omega (arith, c.if-parts-found.false))
+    (c.put_geometries.ensures d.rest (one_geometry c.args.buf.now d.spelled d.value d.rest d.front)).put
