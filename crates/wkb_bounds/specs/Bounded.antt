@@ -1,15 +1,10 @@
 -- What the bounds of a geometry say of it, and how they are found.
-use Rattle.std.specs.Prelude.{◌≡◌, ℕ, zero, suc, ◌+◌, ◌<◌, ◌≤◌, ◌^◌, List, [], ◌∷◌, length, drop}
+use Rattle.std.specs.Prelude.{◌≡◌, ℕ, ◌+◌, ◌<◌, ◌^◌, List, length}
 use Rattle.std.specs.Prelude.{Result, Err, IfOk, IfErr}
 use Rattle.wkb_geom.specs.declared.common.Dimension.{Dimension}
-use Rattle.wkb_geom.specs.declared.common.Endianness.{Endianness}
 use Rattle.wkb_geom.specs.Fronts.{Front}
-use Rattle.wkb_geom.specs.Grammar.{Begins}
-use Rattle.wkb_geom.specs.Numbers.{number}
-use Rattle.wkb_geom.specs.Reading.{ring_in}
-use Rattle.wkb_geom.specs.Refusals.{ring_end}
-use Rattle.wkb_geom.specs.Spellings.{Spelling, Spellings, Spells, SpellsEach, any}
-use Rattle.wkb_geom.specs.Values.{Coordinate, Value, Values, count}
+use Rattle.wkb_geom.specs.Spellings.{Spelling}
+use Rattle.wkb_geom.specs.Values.{Coordinate, Value}
 use Rattle.wkb_check.specs.declared.answer.Refused.{Refused}
 use Rattle.wkb_bounds.specs.declared.range.Range.{Range}
 use Rattle.wkb_bounds.specs.declared.range.Bounds.{Bounds}
