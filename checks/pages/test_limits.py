@@ -47,7 +47,11 @@ FACTS = [
     (r"number of rows \(([\d,]+) and ([\d,]+) are compared", COST, r"FEW = (\d+), MANY = (\d+)"),
     (r"digits to the base (\d+)", "crates/wkb_geom/specs/Numbers.antt", r"AreBytes bytes = .*< (\d+)"),
     (r"(?:exposes the|has) `(\d+) \* width`", "crates/wkb_geom/src/words.rt", r"WORD_SIZE: usize = (\d+);"),
-    (r"from (\d+) on is a refusal", "crates/wkb_c/specs/Classes.antt", r"IsRefusalStatus status = (\d+) ≤ status"),
+    (
+        r"from (\d+) on is a refusal",
+        "crates/wkb_columns/specs/Classes.antt",
+        r"IsRefusalStatus status = (\d+) ≤ status",
+    ),
     (r"exits with status (\d+)(?: it has| \(without|, `cost_hex`)", f"{COMMAND}/program.rt", r"FAILED: u8 = (\d+);"),
     (r"little-endian integers of (\d+) or (\d+) bytes", HEADER, r"offset_size;\s+/\*\*< (\d+) or (\d+)"),
     (r"boundar(?:y|ies) of (\d+) bytes", "c/Makefile", r"-mbranches-within-(\d+)B-boundaries"),

@@ -1,8 +1,9 @@
 """Compares the interface between c/wkb.c and the proved calls: structs, and the parameters of each call.
 
 In wkb.c a struct has its size, its alignment, and the offset of each member, which C asserts. In
-crates/wkb_c/specs/Layouts a struct has its fields, its size, its alignment and the offsets, which are proved. Both use
-the same names for the fields. A slice is one field there, and here a pointer and, eight bytes after it, a length.
+crates/wkb_columns/specs/Layouts a struct has its fields, its size, its alignment and the offsets, which are proved.
+Both use the same names for the fields. A slice is one field there, and here a pointer and, eight bytes after it, a
+length.
 
 c/wkb_raw.h declares each call that crates/wkb_c exports, with the same parameters in the same order: a slice is a
 pointer and a length, a reference a pointer, and an input is const.
@@ -14,7 +15,7 @@ from items import items
 from pages import text_of, texts
 from specs import split_items
 
-C, PROVED = "c/wkb.c", "crates/wkb_c/specs/Layouts.antt"
+C, PROVED = "c/wkb.c", "crates/wkb_columns/specs/Layouts.antt"
 RAW, EXPORTS = "c/wkb_raw.h", "crates/wkb_c/src/*.rt"
 # The structs of C, each with the name of its layout.
 STRUCTS = {

@@ -159,7 +159,7 @@ def lost_way(sentence, carriers):
     functions = [(crate, owner) for crate, owner in named if owner in clause_words(crate)]
     calls = [it for it in clause_words("wkb_c") if it.startswith("wkb_raw_")]
     own = "wkb_raw_" + re.match(r"(?:wkb_)?(\w+)", sentence)[1]
-    about = [("wkb_c", it) for it in ([own] if own in calls else calls) + sorted(FACTS)]
+    about = [("wkb_c", it) for it in ([own] if own in calls else calls)] + [("wkb_columns", it) for it in sorted(FACTS)]
     known = on_the_way(functions + about) if len(functions) < len(named) else ()
     for crate, owner in named:
         if owner not in clause_words(crate) and owner not in known:

@@ -1,7 +1,7 @@
 -- What the call for one row of a column does.
-use Rattle.wkb_c.proofs.Common.{◌≡◌, ◌≢◌, ℕ, ◌+◌, ◌≤◌, ◌<◌, ◌⊎◌, List, [], ◌∷◌, ◌++◌, length, drop, refl, sym, ap, ◌∙◌}
-use Rattle.wkb_c.proofs.Common.{arith, append-nil, Spelling, node, header, Value}
-use Rattle.wkb_c.proofs.Common.{kind, dimension, order_byte}
+use Rattle.wkb_columns.proofs.Common.{◌≡◌, ◌≢◌, ℕ, ◌+◌, ◌≤◌, ◌<◌, ◌⊎◌, List, [], ◌∷◌, ◌++◌, length, drop, refl, sym, ap, ◌∙◌}
+use Rattle.wkb_columns.proofs.Common.{arith, append-nil, Spelling, node, header, Value}
+use Rattle.wkb_columns.proofs.Common.{kind, dimension, order_byte}
 use lib.Seq.{sets, sets-eq}
 use Rattle.std.proofs.Common.{set}
 use Rattle.std.proofs.lemmas.List.{nil_from_length}
@@ -15,13 +15,13 @@ use Rattle.wkb_check.specs.Tables.{geometry_entries, FitGeometries, entry, entry
 use Rattle.wkb_check.specs.declared.parts.Part.{Part}
 use Rattle.wkb_check.proofs.Placing.{spelled_size, alone}
 use Rattle.wkb_check.proofs.Joining.{geometry_of_front}
-use Rattle.wkb_c.specs.Columns.{IsRow, IsRefusedWith}
-use Rattle.wkb_c.specs.declared.column.Column.{Column}
-use Rattle.wkb_c.specs.RowItems.{IsRowStep, RowHas, RowFails}
-use Rattle.wkb_c.specs.Subjects.{IsTable, LacksEntries, HasTable, HasParts}
-use Rattle.wkb_c.specs.declared.status.TheConstants.{OK, NO_ROOM}
+use Rattle.wkb_columns.specs.Columns.{IsRow, IsRefusedWith}
+use Rattle.wkb_columns.specs.declared.column.Column.{Column}
+use Rattle.wkb_columns.specs.RowItems.{IsRowStep, RowHas, RowFails}
+use Rattle.wkb_columns.specs.Subjects.{IsTable, LacksEntries, HasTable, HasParts}
+use Rattle.wkb_columns.specs.declared.status.TheConstants.{OK, NO_ROOM}
 use Rattle.wkb_c.proofs.RowItems.{IsLent, called_step}
-use Rattle.wkb_c.proofs.Telling.{begins}
+use Rattle.wkb_columns.proofs.Telling.{begins}
 use Rattle.wkb_c.proofs.Words.{holds, counted, entries_many}
 
 row_table : {c : Column} {i : ℕ} (row : List ℕ) → IsRow c i row → (s : Spelling) (t : Value) (rest : List ℕ)

@@ -1,9 +1,9 @@
 -- One geometry whose members are the geometries that rows begin with.
-use Rattle.wkb_c.proofs.Common.{◌≡◌, ℕ, zero, suc, ◌≤◌, List, [], ◌∷◌, ◌++◌, length}
-use Rattle.wkb_c.proofs.Common.{Option, Some, None, refl, sym, ap, subst, ◌∙◌, arith, append-nil}
-use Rattle.wkb_c.proofs.Common.{Value, Values, member, no_members, kind, dimension, members}
-use Rattle.wkb_c.proofs.Common.{point, line_string, polygon, multi_point, multi_line_string, multi_polygon, collection}
-use Rattle.wkb_c.proofs.Common.{Dimension}
+use Rattle.wkb_columns.proofs.Common.{◌≡◌, ℕ, zero, suc, ◌≤◌, List, [], ◌∷◌, ◌++◌, length}
+use Rattle.wkb_columns.proofs.Common.{Option, Some, None, refl, sym, ap, subst, ◌∙◌, arith, append-nil}
+use Rattle.wkb_columns.proofs.Common.{Value, Values, member, no_members, kind, dimension, members}
+use Rattle.wkb_columns.proofs.Common.{point, line_string, polygon, multi_point, multi_line_string, multi_polygon, collection}
+use Rattle.wkb_columns.proofs.Common.{Dimension}
 use Rattle.std.specs.Prelude.{Bool, true, false, ◌||◌, nat_lt}
 use Rattle.std.proofs.Common.{ltb-false}
 use Rattle.std.proofs.lemmas.Bool.{cond_both}
@@ -25,12 +25,12 @@ use Rattle.wkb_c.specs.Collections.{AreRowMembers, HaveMembers, IsCollected, par
 use Rattle.wkb_c.specs.Collections.{front_of, inside_of, collect_asked, collect_with, WritesCollected, CollectedExceeds}
 use Rattle.wkb_c.specs.Collections.{PutsCollected, WholeExceeds, IsFirstUnfit, IsFirstUnfitFor}
 use Rattle.wkb_geom.specs.Codes.{dimension_of_thousands}
-use Rattle.wkb_c.specs.Requests.{request_of, options_for}
+use Rattle.wkb_columns.specs.Requests.{request_of, options_for}
 use Rattle.wkb_c.specs.declared.collect.CollectTarget.{CollectTarget}
-use Rattle.wkb_c.specs.declared.column.Column.{Column}
-use Rattle.wkb_c.specs.declared.fault.WkbFault.{WkbFault}
-use Rattle.wkb_c.specs.declared.options.Options.{Options}
-use Rattle.wkb_c.specs.declared.options.Request.{Request}
+use Rattle.wkb_columns.specs.declared.column.Column.{Column}
+use Rattle.wkb_columns.specs.declared.fault.WkbFault.{WkbFault}
+use Rattle.wkb_columns.specs.declared.options.Options.{Options}
+use Rattle.wkb_columns.specs.declared.options.Request.{Request}
 
 -- ---- the whole, by its members
 

@@ -1,6 +1,6 @@
 -- The encoding that is asked for of what was checked, and how long it is.
-use Rattle.wkb_c.proofs.Common.{◌≡◌, ◌≢◌, ◌⊎◌, ℕ, ◌+◌, ◌≤◌, ◌<◌, inl, inr, List, ◌++◌, length, drop, Some, None, refl, sym}
-use Rattle.wkb_c.proofs.Common.{ap, ◌∙◌, arith, header}
+use Rattle.wkb_columns.proofs.Common.{◌≡◌, ◌≢◌, ◌⊎◌, ℕ, ◌+◌, ◌≤◌, ◌<◌, inl, inr, List, ◌++◌, length, drop, Some, refl}
+use Rattle.wkb_columns.proofs.Common.{ap, ◌∙◌, arith, header}
 use lib.Seq.{sets, sets-eq, length-sets}
 use Rattle.wkb_geom.specs.declared.common.Endianness.{Endianness}
 use Rattle.wkb_geom.specs.declared.common.Form.{Form}
@@ -13,18 +13,19 @@ use Rattle.wkb_check.specs.Public.{DescribesFront}
 use Rattle.wkb_check.specs.declared.answer.Summary.{Summary}
 use Rattle.wkb_rewrite.proofs.Measured.{at_most, here}
 use Rattle.wkb_sink.specs.declared.options.WriteOptions.{WriteOptions}
-use Rattle.wkb_c.specs.Columns.{IsRow}
-use Rattle.wkb_c.specs.declared.column.Column.{Column}
-use Rattle.wkb_c.specs.Requests.{IsRequested, request_of, options_for}
-use Rattle.wkb_c.specs.RowItems.{IsRowStep, RowHas, RowFails, nothing, fails}
-use Rattle.wkb_c.specs.Writings.{WritesRequested, WritesAsked, meant, meaningless, Encodes, HasEncoding, FailsToWrite}
-use Rattle.wkb_c.specs.Writings.{WritesAny, accepted, rejected, unknown, refused}
-use Rattle.wkb_c.specs.Statuses.{IsStatusOfWriting, does, lacks_room as short_of_room}
-use Rattle.wkb_c.specs.declared.options.Options.{Options}
-use Rattle.wkb_c.specs.declared.options.Request.{Request}
-use Rattle.wkb_c.specs.declared.options.Request.TheVariants.{Encoding, OwnSrid}
-use Rattle.wkb_c.specs.declared.status.TheConstants.{OK, NO_ROOM, UNKNOWN_OPTION}
-use Rattle.wkb_c.specs.declared.fault.WkbFault.{WkbFault}
+use Rattle.wkb_columns.specs.Columns.{IsRow}
+use Rattle.wkb_columns.specs.declared.column.Column.{Column}
+use Rattle.wkb_columns.specs.Requests.{IsRequested, request_of, options_for}
+use Rattle.wkb_columns.specs.RowItems.{IsRowStep, RowHas, RowFails, nothing, fails}
+use Rattle.wkb_columns.specs.Writings.{WritesRequested, WritesAsked, meant, meaningless, Encodes, HasEncoding, FailsToWrite}
+use Rattle.wkb_columns.specs.Writings.{WritesAny, accepted, rejected, unknown, refused}
+use Rattle.wkb_columns.specs.Statuses.{IsStatusOfWriting, does, lacks_room as short_of_room}
+use Rattle.wkb_columns.specs.declared.options.Options.{Options}
+use Rattle.wkb_columns.specs.declared.options.Request.{Request}
+use Rattle.wkb_columns.specs.declared.options.Request.TheVariants.{Encoding, OwnSrid}
+use Rattle.wkb_columns.specs.declared.status.TheConstants.{OK, NO_ROOM, UNKNOWN_OPTION}
+use Rattle.wkb_columns.specs.declared.fault.WkbFault.{WkbFault}
+use Rattle.wkb_columns.proofs.OneRow.{is_asked}
 use Rattle.wkb_c.proofs.RowItems.{IsLent, called_step, unchanged}
 
 -- an encoding has a first byte
@@ -38,10 +39,6 @@ some_requested (Encoding o) input out h =
     omega (arith, ap length h.written, some_encoding o.endianness o.form (geometry_of h.t))
 some_requested (OwnSrid order) input out h =
     omega (arith, ap length h.written, some_encoding order (Ewkb (header h.s).srid) (geometry_of h.t))
-
--- what is asked for is not nothing
-pub is_asked : (o : Options) (request : Request) → request_of o ≡ Some request → request_of o ≢ None
-is_asked o request asked none = let never : Some request ≡ None = sym asked ∙ none in absurd (cc)
 
 -- the encoding under the options of a request is what is asked for
 module _ (request : Request) (input : List ℕ) (found : Summary) (d : DescribesFront input found)

@@ -1,9 +1,9 @@
 -- The members that rows begin with, row by row.
-use Rattle.wkb_c.proofs.Common.{◌≡◌, ℕ, suc, ◌+◌, ◌≤◌, ◌<◌, List, ◌++◌, length, drop, ◌⊎◌, inl, inr}
-use Rattle.wkb_c.proofs.Common.{refl, sym, ap, subst, ◌∙◌, arith, append-nil, append_assoc, length-append}
-use Rattle.wkb_c.proofs.Common.{Spelling, Value, Values, member, no_members, kind, collection}
-use Rattle.wkb_c.proofs.Common.{Dimension, is_some, None, srid_size, drop-drop}
-use Rattle.std.specs.Prelude.{true, false, ◌-◌, take, nat_lt, slice_range, Result, Ok, Err, IfErr}
+use Rattle.wkb_columns.proofs.Common.{◌≡◌, ℕ, suc, ◌+◌, ◌≤◌, ◌<◌, List, ◌++◌, length, drop, ◌⊎◌, inl, inr}
+use Rattle.wkb_columns.proofs.Common.{refl, sym, ap, subst, ◌∙◌, arith, append-nil, append_assoc, length-append}
+use Rattle.wkb_columns.proofs.Common.{Spelling, Value, Values, member, no_members, kind, collection}
+use Rattle.wkb_columns.proofs.Common.{Dimension, is_some, None, srid_size, drop-drop}
+use Rattle.std.specs.Prelude.{false, ◌-◌, take, nat_lt, Result, Ok, Err, IfErr}
 use Rattle.std.proofs.Common.{length-drop, ltb-false}
 use Rattle.std.proofs.lemmas.Bool.{cond_both}
 use Rattle.std.proofs.lemmas.List.{length-take}
@@ -24,7 +24,6 @@ use Rattle.wkb_geom.specs.Reading.{type_kind, type_dimension}
 use Rattle.wkb_geom.specs.Spellings.{Wanted, part, any, member_part, IsPart}
 use Rattle.wkb_geom.specs.Values.{count, nest}
 use Rattle.wkb_laws.proofs.OneFront.{one_spelling}
-use Rattle.wkb_laws.proofs.Outcomes.{never_both_lem}
 use Rattle.wkb_check.specs.Public.{DescribesFrontWithin, Checks, member_room}
 use Rattle.wkb_check.specs.declared.answer.Summary.{Summary}
 use Rattle.wkb_check.proofs.Ahead.{type_kind_is, type_dimension_is}
@@ -38,30 +37,17 @@ use Rattle.wkb_c.specs.Collections.{BeginsWithMember, IsRowMember, AreRowMembers
 use Rattle.wkb_c.specs.Collections.{inside_of}
 use Rattle.wkb_c.specs.Collections.{RowIsMeasured, IsMeasuredFound, AreMeasured, IsUnwanted, IsUnfit, no_member}
 use Rattle.wkb_c.proofs.RowItems.{lent_rest}
-use Rattle.wkb_c.proofs.Telling.{accepted_there}
-use Rattle.wkb_c.specs.Writings.{WritesRequested}
-use Rattle.wkb_c.specs.declared.options.Request.TheVariants.{Encoding}
-use Rattle.wkb_c.specs.declared.status.TheConstants.{OK, NO_ROOM}
-use Rattle.wkb_c.specs.Columns.{IsRow, LacksRow, IsRefusedWith, null_row, bad_offsets, Reach}
+use Rattle.wkb_columns.proofs.OneRow.{one_row}
+use Rattle.wkb_columns.proofs.Telling.{accepted_there}
+use Rattle.wkb_columns.specs.Writings.{WritesRequested}
+use Rattle.wkb_columns.specs.declared.options.Request.TheVariants.{Encoding}
+use Rattle.wkb_columns.specs.declared.status.TheConstants.{OK, NO_ROOM}
+use Rattle.wkb_columns.specs.Columns.{IsRow, Reach}
 use Rattle.wkb_c.specs.declared.collect.CollectTarget.{CollectTarget}
-use Rattle.wkb_c.specs.declared.column.Column.{Column}
-use Rattle.wkb_c.specs.declared.fault.WkbFault.{WkbFault}
+use Rattle.wkb_columns.specs.declared.column.Column.{Column}
+use Rattle.wkb_columns.specs.declared.fault.WkbFault.{WkbFault}
 
 -- ---- one row
-
--- a row has one list of bytes
-pub one_row : {c : Column} {i : ℕ} {a b : List ℕ} → IsRow c i a → IsRow c i b → a ≡ b
-one_row {c} x y =
-    let p = x.slice in
-    let q = y.slice in
-    let starts : p.start ≡ q.start = p.span.start_is.number_is ∙ sym q.span.start_is.number_is in
-    let ends : p.end ≡ q.end = p.span.end_is.number_is ∙ sym q.span.end_is.number_is in
-    p.row_is ∙ (λ i. slice_range c.bytes.now (starts i) (ends i)) ∙ sym q.row_is
-
-pub never_lacks : {c : Column} {i status : ℕ} {row : List ℕ} → IsRow c i row → LacksRow c i status → ⊥
-never_lacks {c} {i} is (null_row null told) =
-    let never : true ≡ false = sym null ∙ is.present in absurd cc
-never_lacks is (bad_offsets some none told) = none _ is.slice
 
 -- where a geometry is in front, it also is with other room that it doesn't exceed
 abbrev with_room : {a b : ℕ} {row : List ℕ} {s : Spelling} {t : Value} {rest : List ℕ} → FrontWithin a row s t rest
@@ -81,11 +67,6 @@ same_value a b =
 
 pub one_value : {w : Wanted} {row : List ℕ} {t : Value} → BeginsWithMember w row t → (a : IsAccepted row) → a.t ≡ t
 one_value b a = same_value a (there b)
-
--- what is accepted isn't rejected
-pub never_refused : {row : List ℕ} {status : ℕ} → IsAccepted row → IsRefusedWith row status → ⊥
-never_refused {row} a why =
-    let r = why.1 in never_both_lem row a.s a.t a.rest r.cause r.turns r.slots a.front r.refuses
 
 -- a geometry that is no collection has room anywhere
 none_nested : (t : Value) → kind t < 7 → nest t ≤ member_room

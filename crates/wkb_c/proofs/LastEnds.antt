@@ -1,11 +1,11 @@
 -- With room up to the last end no row lacks room.
-use Rattle.wkb_c.proofs.Common.{◌≡◌, ℕ, zero, suc, ◌≤◌, ◌<◌, ◌^◌, List, length, subst, arith, slice_index}
+use Rattle.wkb_columns.proofs.Common.{◌≡◌, ℕ, zero, suc, ◌≤◌, ◌<◌, ◌^◌, List, length, subst, arith, slice_index}
 use Rattle.wkb_levels.specs.Cuts.{start_at}
-use Rattle.wkb_c.specs.RowItems.{IsRowAnswer, handed, no_room, failed, AreRowAnswers, LastEndSuffices}
-use Rattle.wkb_c.specs.declared.status.TheConstants.{NO_ROOM}
-use Rattle.wkb_c.proofs.Reasons.{TellsOther}
+use Rattle.wkb_columns.specs.RowItems.{IsRowAnswer, handed, no_room, failed, AreRowAnswers, LastEndSuffices}
+use Rattle.wkb_columns.specs.declared.status.TheConstants.{NO_ROOM}
+use Rattle.wkb_columns.proofs.Reasons.{TellsOther}
 use Rattle.wkb_c.proofs.RowItems.{RowsDone}
-use Rattle.wkb_c.proofs.Rows.{below_more}
+use Rattle.wkb_columns.proofs.Rows.{below_more}
 
 module _ {A : Type 0} {Has : ℕ → List A → Type 0} {Fails : ℕ → ℕ → Type 0} where
   -- a row ends no earlier than it begins, and its end is a 64-bit integer

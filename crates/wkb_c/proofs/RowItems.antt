@@ -1,7 +1,7 @@
 -- Rows that write their items one after another.
-use Rattle.wkb_c.proofs.Common.{◌≡◌, ◌≢◌, ℕ, zero, suc, ◌+◌, ◌≤◌, ◌<◌, ◌^◌, ◌⊎◌, inl, inr, List, [], ◌++◌}
-use Rattle.wkb_c.proofs.Common.{length, drop, slice_index, refl, ap, sym, ◌∙◌, arith, append_assoc, append-nil}
-use Rattle.wkb_c.proofs.Common.{length-append, drop-drop}
+use Rattle.wkb_columns.proofs.Common.{◌≡◌, ◌≢◌, ℕ, zero, suc, ◌+◌, ◌≤◌, ◌<◌, ◌^◌, ◌⊎◌, inl, inr, List, [], ◌++◌}
+use Rattle.wkb_columns.proofs.Common.{length, drop, slice_index, refl, ap, sym, ◌∙◌, arith, append_assoc, append-nil}
+use Rattle.wkb_columns.proofs.Common.{length-append, drop-drop}
 use Rattle.std.specs.Prelude.{take, ◌-◌, min, slice_range}
 use Rattle.std.proofs.Common.{set, length-drop}
 use Rattle.std.proofs.Math.Seq.{drop-append_seam, take-append_seam}
@@ -10,12 +10,12 @@ use Rattle.std.proofs.lemmas.List.{nil_from_length}
 use Rattle.std.proofs.lemmas.Slice.{drop-append-drop, between_to_end}
 use lib.ListN.{length-set}
 use lib.Seq.{get_or-set_same, get_or-set_other, sets-eq, length-sets}
-use Rattle.wkb_c.specs.declared.status.TheConstants.{OK, NO_ROOM}
-use Rattle.wkb_c.specs.Room.{IsHeld, Exceeds}
+use Rattle.wkb_columns.specs.declared.status.TheConstants.{OK, NO_ROOM}
+use Rattle.wkb_columns.specs.Room.{IsHeld, Exceeds}
 use Rattle.wkb_levels.specs.Cuts.{start_at}
-use Rattle.wkb_c.specs.RowItems.{rows_of, end_of, IsRowAnswer, handed, no_room, failed, AreRowAnswers, KeepsAfter}
-use Rattle.wkb_c.specs.RowItems.{KeepsFrom, IsRowStep, put, lacks, nothing}
-use Rattle.wkb_c.proofs.Rows.{below_more}
+use Rattle.wkb_columns.specs.RowItems.{rows_of, end_of, IsRowAnswer, handed, no_room, failed, AreRowAnswers, KeepsAfter}
+use Rattle.wkb_columns.specs.RowItems.{KeepsFrom, IsRowStep, put, lacks, nothing}
+use Rattle.wkb_columns.proofs.Rows.{below_more}
 
 -- ---- lists
 

@@ -1,11 +1,11 @@
 -- Where the parts of a geometry are in its bytes, and what is there.
-use Rattle.wkb_c.proofs.Common.{◌≡◌, ℕ, suc, ◌+◌, ◌*◌, List, [], ◌∷◌, length, drop, Some, refl, sym, ap, subst, ◌∙◌}
-use Rattle.wkb_c.proofs.Common.{arith, drop-drop, slice_get, is_some, Dimension, width, number, srid_size, Spelling}
-use Rattle.wkb_c.proofs.Common.{node}
-use Rattle.wkb_c.proofs.Common.{Spellings, no_spellings, spelling, Spells, Wanted, SpellsEach, Coordinate, Value}
-use Rattle.wkb_c.proofs.Common.{Values}
-use Rattle.wkb_c.proofs.Common.{point, line_string, polygon, no_members, member, members, member_count}
-use Rattle.wkb_c.proofs.Common.{member_count_each}
+use Rattle.wkb_columns.proofs.Common.{◌≡◌, ℕ, suc, ◌+◌, ◌*◌, List, [], ◌∷◌, length, drop, Some, refl, sym, ap, subst, ◌∙◌}
+use Rattle.wkb_columns.proofs.Common.{arith, drop-drop, slice_get, is_some, Dimension, width, number, srid_size, Spelling}
+use Rattle.wkb_columns.proofs.Common.{node}
+use Rattle.wkb_columns.proofs.Common.{Spellings, no_spellings, spelling, Spells, Wanted, SpellsEach, Coordinate, Value}
+use Rattle.wkb_columns.proofs.Common.{Values}
+use Rattle.wkb_columns.proofs.Common.{point, line_string, polygon, no_members, member, members, member_count}
+use Rattle.wkb_columns.proofs.Common.{member_count_each}
 use Rattle.wkb_geom.specs.declared.common.Endianness.{Endianness}
 use Rattle.wkb_geom.specs.Grammar.{Begins}
 use Rattle.wkb_geom.specs.Reading.{coordinate, coordinates}
@@ -19,7 +19,7 @@ use Rattle.wkb_check.specs.Subjects.{Subject, whole, ring, order_in, subject_coo
 use Rattle.wkb_check.specs.Tables.{entry_count, entry_counts, geometry_entries}
 use Rattle.wkb_check.proofs.Placing.{spelled_size, entries_are}
 use Rattle.wkb_check.proofs.Subjects.{Stands, entry_at, piece_at, ArePlaced, all_placed, IsPieceOf, says}
-use Rattle.wkb_c.specs.Subjects.{HoldsWords, HoldsSubject, HoldEach}
+use Rattle.wkb_columns.specs.Subjects.{HoldsWords, HoldsSubject, HoldEach}
 
 -- ---- words
 

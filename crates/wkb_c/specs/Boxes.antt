@@ -2,9 +2,9 @@
 use Rattle.std.specs.Prelude.{◌≡◌, ℕ, ◌<◌, List, slice_index, slice_index_or}
 use Rattle.wkb_bounds.specs.Bounded.{BoundsFront, nothing}
 use Rattle.wkb_bounds.specs.declared.range.Bounds.{Bounds}
-use Rattle.wkb_c.specs.Columns.{IsRow, LacksRow, IsRefusedWith}
-use Rattle.wkb_c.specs.declared.column.Column.{Column}
-use Rattle.wkb_c.specs.declared.status.TheConstants.{OK}
+use Rattle.wkb_columns.specs.Columns.{IsRow, LacksRow, IsRefusedWith}
+use Rattle.wkb_columns.specs.declared.column.Column.{Column}
+use Rattle.wkb_columns.specs.declared.status.TheConstants.{OK}
 
 -- the status of row i, and its box: without bounds that of no coordinate
 pub data IsRowBox (c : Column) (i status : ℕ) (box : Bounds) : Type 0 where

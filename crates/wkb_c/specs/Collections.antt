@@ -15,18 +15,18 @@ use Rattle.wkb_check.specs.Public.{member_room}
 use Rattle.wkb_rewrite.specs.Targets.{encoding_for}
 use Rattle.wkb_sink.specs.Options.{inner_options, counted_header}
 use Rattle.wkb_sink.specs.declared.options.WriteOptions.{WriteOptions}
-use Rattle.wkb_c.specs.Classes.{IsRowStatus}
-use Rattle.wkb_c.specs.Columns.{IsRow, LacksRow}
+use Rattle.wkb_columns.specs.Classes.{IsRowStatus}
+use Rattle.wkb_columns.specs.Columns.{IsRow, LacksRow}
 use Rattle.wkb_geom.specs.Codes.{dimension_of_thousands}
-use Rattle.wkb_c.specs.Requests.{request_of, options_for}
-use Rattle.wkb_c.specs.Room.{IsHeld, Exceeds}
-use Rattle.wkb_c.specs.Statuses.{IsFaultWithin, IsStatusOfWriting, plain_fault}
+use Rattle.wkb_columns.specs.Requests.{request_of, options_for}
+use Rattle.wkb_columns.specs.Room.{IsHeld, Exceeds}
+use Rattle.wkb_columns.specs.Statuses.{IsFaultWithin, IsStatusOfWriting, plain_fault}
 use Rattle.wkb_c.specs.declared.collect.CollectTarget.{CollectTarget}
-use Rattle.wkb_c.specs.declared.column.Column.{Column}
-use Rattle.wkb_c.specs.declared.fault.WkbFault.{WkbFault}
-use Rattle.wkb_c.specs.declared.options.Options.{Options}
-use Rattle.wkb_c.specs.declared.options.Request.{Request}
-use Rattle.wkb_c.specs.declared.status.TheConstants.{INCORRECT_TYPE, TOO_MANY_ROWS}
+use Rattle.wkb_columns.specs.declared.column.Column.{Column}
+use Rattle.wkb_columns.specs.declared.fault.WkbFault.{WkbFault}
+use Rattle.wkb_columns.specs.declared.options.Options.{Options}
+use Rattle.wkb_columns.specs.declared.options.Request.{Request}
+use Rattle.wkb_columns.specs.declared.status.TheConstants.{INCORRECT_TYPE, TOO_MANY_ROWS}
 
 -- what a kind, a dimension and a request ask for together; no row's own SRID is written
 abbrev pub collect_with : ℕ → Option Dimension → Option Request → Option CollectTarget

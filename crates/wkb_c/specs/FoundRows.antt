@@ -1,10 +1,10 @@
 -- What the check finds in a column's rows: one entry a row.
 use Rattle.std.specs.Prelude.{◌≡◌, ℕ, ◌<◌, List, slice_index, slice_index_or}
-use Rattle.wkb_c.specs.Checks.{IsFound}
-use Rattle.wkb_c.specs.Columns.{IsRow, LacksRow, IsRefusedWith}
-use Rattle.wkb_c.specs.declared.column.Column.{Column}
-use Rattle.wkb_c.specs.declared.check.Found.{Found}
-use Rattle.wkb_c.specs.declared.status.TheConstants.{OK}
+use Rattle.wkb_columns.specs.Checks.{IsFound}
+use Rattle.wkb_columns.specs.Columns.{IsRow, LacksRow, IsRefusedWith}
+use Rattle.wkb_columns.specs.declared.column.Column.{Column}
+use Rattle.wkb_columns.specs.declared.found.Found.{Found}
+use Rattle.wkb_columns.specs.declared.status.TheConstants.{OK}
 
 -- the entry of a row without a geometry
 abbrev pub all_zeros : Found

@@ -3,14 +3,14 @@
 ghost use Rattle.std.specs.Prelude.{◌≡◌, ◌+◌, ◌<◌, ◌^◌, length, IfOk, IfErr};
 ghost use Rattle.wkb_bounds.specs.Bounded.{BoundsFront};
 ghost use Rattle.wkb_c.specs.Boxes.{IsRowBox, AreRowBoxes};
-ghost use Rattle.wkb_c.specs.Classes.{FitsByte};
-ghost use Rattle.wkb_c.specs.Columns.{Reach, IsRefusedWith};
-ghost use Rattle.wkb_c.specs.RowItems.{KeepsFrom, rows_of};
+ghost use Rattle.wkb_columns.specs.Classes.{FitsByte};
+ghost use Rattle.wkb_columns.specs.Columns.{Reach, IsRefusedWith};
+ghost use Rattle.wkb_columns.specs.RowItems.{KeepsFrom, rows_of};
 
-use crate::column::Column;
-use crate::fault::status_of_cause;
-use crate::status::OK;
 use wkb_bounds::{Bounds, put_any_bounds, put_plain_bounds};
+use wkb_columns::column::Column;
+use wkb_columns::fault::status_of_cause;
+use wkb_columns::status::OK;
 
 /// Puts the bounds of row i, and returns its status.
 fn bound_row(column: &Column, i: usize, reach: &mut u64, found: &mut Bounds) -> u32

@@ -1,11 +1,11 @@
 //! The statuses of a column's rows.
 
 ghost use Rattle.std.specs.Prelude.{◌≡◌, ◌+◌, ◌<◌, ◌^◌, length};
-ghost use Rattle.wkb_c.specs.Classes.{FitsByte};
-ghost use Rattle.wkb_c.specs.Columns.{Reach, IsStatusOf, IsStatusOfRow, AreStatuses};
+ghost use Rattle.wkb_columns.specs.Classes.{FitsByte};
+ghost use Rattle.wkb_columns.specs.Columns.{Reach, IsStatusOf, IsStatusOfRow, AreStatuses};
 
-use crate::column::{Column, found_in};
-use crate::status::OK;
+use wkb_columns::column::{Column, found_in};
+use wkb_columns::status::OK;
 
 /// Whether a geometry is at the start of each row of a column: a status a row.
 ///
@@ -37,7 +37,7 @@ fn status_of_row(column: &Column, i: usize, reach: &mut u64) -> u32
 }
 
 /// The status of some bytes.
-#[tactic(auto, using(crate::proofs::Telling::found_is_accepted))]
+#[tactic(auto, using(wkb_columns::proofs::Telling::found_is_accepted))]
 fn status_of_bytes(row: &[u8]) -> u32
     ensures status { IsStatusOf row.now result }
     ensures known { FitsByte result }

@@ -1,15 +1,15 @@
 //! What the check finds in a column's rows.
 
 ghost use Rattle.std.specs.Prelude.{◌≡◌, ◌+◌, ◌<◌, ◌^◌, length};
-ghost use Rattle.wkb_c.specs.Classes.{FitsByte};
-ghost use Rattle.wkb_c.specs.Columns.{Reach, AreStatuses};
+ghost use Rattle.wkb_columns.specs.Classes.{FitsByte};
+ghost use Rattle.wkb_columns.specs.Columns.{Reach, AreStatuses};
 ghost use Rattle.wkb_c.specs.FoundRows.{IsFoundIn, IsFoundInRow, AreFoundRows};
-ghost use Rattle.wkb_c.specs.RowItems.{KeepsFrom, rows_of};
+ghost use Rattle.wkb_columns.specs.RowItems.{KeepsFrom, rows_of};
 
-use crate::check::{Found, NOTHING_FOUND, found_of};
-use crate::column::{Column, check_row};
-use crate::status::OK;
 use wkb_check::check_plain;
+use wkb_columns::column::{Column, check_row};
+use wkb_columns::found::{Found, NOTHING_FOUND, found_of};
+use wkb_columns::status::OK;
 
 /// Puts what the check finds of some bytes by the long way, and returns their status.
 ///

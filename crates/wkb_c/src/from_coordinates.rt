@@ -1,54 +1,22 @@
 //! The encodings of rows that are given in levels.
 
 ghost use Rattle.std.specs.Prelude.{◌≡◌, ◌+◌, ◌<◌, ◌==◌, length, Some, None, if◌then◌else◌};
-ghost use Rattle.wkb_c.specs.Classes.{FitsByte};
-ghost use Rattle.wkb_c.specs.LevelRows.{EncodeLevels, IsLevelStep, level_rows};
-ghost use Rattle.wkb_c.specs.LevelRows.{LastLevelEndSuffices, KeepsLevelRest};
-ghost use Rattle.wkb_c.specs.LevelTargets.{kind_named, levels_in, target_asked, Ready};
-ghost use Rattle.wkb_c.specs.RowItems.{KeepsFrom};
+ghost use Rattle.wkb_columns.specs.Classes.{FitsByte};
+ghost use Rattle.wkb_columns.specs.LevelRows.{EncodeLevels, IsLevelStep, level_rows};
+ghost use Rattle.wkb_columns.specs.LevelRows.{LastLevelEndSuffices, KeepsLevelRest};
+ghost use Rattle.wkb_columns.specs.LevelTargets.{kind_named, levels_in, target_asked, Ready};
+ghost use Rattle.wkb_columns.specs.RowItems.{KeepsFrom};
 ghost use Rattle.wkb_levels.specs.declared.ends.Ends.TheVariants.{Each, At};
 ghost use Rattle.wkb_levels.specs.EndLists.{ends_of};
 
-use crate::column::is_unset;
-use crate::options::{Options, Request, request_of};
-use crate::status::{BAD_LEVELS, NO_ROOM, NULL_ROW, OK, UNKNOWN_OPTION};
 use crate::write::options_for;
+use wkb_columns::column::is_unset;
+use wkb_columns::level_column::{LevelColumn, LevelTarget};
+use wkb_columns::options::{Options, request_of};
+use wkb_columns::status::{BAD_LEVELS, NO_ROOM, NULL_ROW, OK, UNKNOWN_OPTION};
 use wkb_geom::code::{LINE_STRING, MULTI_LINE_STRING, MULTI_POINT, MULTI_POLYGON, POINT, POLYGON};
 use wkb_geom::{Dimension, Dimensions};
 use wkb_levels::{Ends, Kind, Levels, Place, Written};
-use wkb_sink::WriteOptions;
-
-/// Levels as GeoArrow has them, and which rows are null. A level without ends has one item of the next level each.
-#[repr(C)]
-#[derive(Drop)]
-pub struct LevelColumn<'a> {
-    /// One coordinate after another.
-    pub words: &'a [u64],
-    /// For each ring, its end in coordinates.
-    pub ring_ends: &'a [u64],
-    /// How many rings there are, where they have no ends.
-    pub rings: u64,
-    /// For each single, its end in rings.
-    pub single_ends: &'a [u64],
-    /// How many singles there are, where they have no ends.
-    pub singles: u64,
-    /// For each row, its end in singles.
-    pub row_ends: &'a [u64],
-    /// How many rows there are, where they have no ends.
-    pub rows: u64,
-    /// The validity bitmap, least significant bit first: 0 for a null row. A row without a bit isn't null.
-    pub validity: &'a [u8],
-    /// The bit of the first row.
-    pub validity_offset: usize,
-}
-
-/// What each row is written as.
-#[derive(Clone, Copy)]
-pub struct LevelTarget {
-    pub kind: Kind,
-    pub dim: Dimensions,
-    pub options: WriteOptions,
-}
 
 /// Ends, or as many items of one each.
 fn ends_or_ones<'a>(ends: &'a [u64], count: u64) -> Ends<'a>

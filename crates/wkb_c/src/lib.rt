@@ -1,28 +1,19 @@
 //! Well-Known Binary for C: the calls that `c/wkb.h` declares.
 //!
 //! In C a slice is a pointer and a length. No call allocates. A call stands with its helpers in a file of its name; what
-//! calls share is in the other files.
+//! calls share is in `wkb_columns`.
 #![tactic(auto)]
 
 mod bounds;
 mod check;
 mod collect;
-mod column;
 mod column_bounds;
 mod column_check;
 mod column_coordinates;
 mod column_found;
 mod column_parts;
 mod column_write;
-mod fault;
 mod from_coordinates;
-mod layouts;
-mod level_slices;
-mod numbers;
-mod options;
 mod parts;
 mod same;
-mod status;
-mod there_and_back;
-mod totals;
 mod write;

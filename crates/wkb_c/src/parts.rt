@@ -2,14 +2,14 @@
 
 ghost use Rattle.std.specs.Prelude.{◌≡◌, ◌≢◌, ◌⊎◌, length};
 ghost use Rattle.wkb_check.specs.Public.{DescribesFront};
-ghost use Rattle.wkb_c.specs.Classes.{IsRefusalStatus, IsNoRefusal};
-ghost use Rattle.wkb_c.specs.Statuses.{IsFault, IsStatusOfListing};
-ghost use Rattle.wkb_c.specs.Subjects.{IsTable, LacksEntries};
+ghost use Rattle.wkb_columns.specs.Classes.{IsRefusalStatus, IsNoRefusal};
+ghost use Rattle.wkb_columns.specs.Statuses.{IsFault, IsStatusOfListing};
+ghost use Rattle.wkb_columns.specs.Subjects.{IsTable, LacksEntries};
 
 use crate::check::check_input;
-use crate::fault::WkbFault;
-use crate::status::{NO_ROOM, OK};
 use wkb_check::{Part, PartPlace, Piece, Summary, check_plain, put_geometries};
+use wkb_columns::fault::WkbFault;
+use wkb_columns::status::{NO_ROOM, OK};
 
 /// Lists the parts of the geometry at the start of the bytes in preorder, and writes their number.
 ///

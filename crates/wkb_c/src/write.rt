@@ -4,16 +4,16 @@ ghost use Rattle.std.specs.Prelude.{◌≡◌, ◌≢◌, ◌≤◌, ◌+◌, �
 ghost use Rattle.wkb_geom.specs.Reading.{type_kind};
 ghost use Rattle.wkb_geom.specs.declared.code.TheConstants.{POLYGON};
 ghost use Rattle.wkb_check.specs.Public.{DescribesFront};
-ghost use Rattle.wkb_c.specs.Classes.{IsRefusalStatus, IsNoRefusal};
-ghost use Rattle.wkb_c.specs.Requests.{request_of, options_for};
-ghost use Rattle.wkb_c.specs.Statuses.{IsFault, IsStatusOfWriting};
-ghost use Rattle.wkb_c.specs.Writings.{WritesEncoding, WantsRoom, Encodes, WritesRequested, WritesAsked};
+ghost use Rattle.wkb_columns.specs.Classes.{IsRefusalStatus, IsNoRefusal};
+ghost use Rattle.wkb_columns.specs.Requests.{request_of, options_for};
+ghost use Rattle.wkb_columns.specs.Statuses.{IsFault, IsStatusOfWriting};
+ghost use Rattle.wkb_columns.specs.Writings.{WritesEncoding, WantsRoom, Encodes, WritesRequested, WritesAsked};
 
 use crate::check::check_input;
-use crate::fault::WkbFault;
-use crate::options::{Options, Request, request_of};
-use crate::status::{NO_ROOM, OK, UNKNOWN_OPTION};
 use wkb_check::{Summary, check_plain};
+use wkb_columns::fault::WkbFault;
+use wkb_columns::options::{Options, Request, request_of};
+use wkb_columns::status::{NO_ROOM, OK, UNKNOWN_OPTION};
 use wkb_geom::Form;
 use wkb_geom::code::WkbType;
 use wkb_geom::header::SRID_SIZE;

@@ -1,4 +1,4 @@
-use Rattle.wkb_c.proofs.Common.{arith, ◌∙◌}
+use Rattle.wkb_columns.proofs.Common.{arith, ◌∙◌}
 use Rattle.wkb_c.proofs.Gathering.{measured_more, all_measured, reach_inside}
 use Rattle.wkb_c.proofs.collect.measure_members.Goals as goal
 

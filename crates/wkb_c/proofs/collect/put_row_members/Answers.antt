@@ -1,5 +1,6 @@
-use Rattle.wkb_c.proofs.Common.{arith}
-use Rattle.wkb_c.proofs.Gathering.{next_member, never_lacks, row_there, row_room, own_room, row_put, none_left}
+use Rattle.wkb_columns.proofs.Common.{arith}
+use Rattle.wkb_c.proofs.Gathering.{next_member, row_there, row_room, own_room, row_put, none_left}
+use Rattle.wkb_columns.proofs.OneRow.{never_lacks}
 use Rattle.wkb_c.proofs.collect.put_row_members.Goals as goal
 
 pub unreachable-requires : goal.unreachable-requires

@@ -1,4 +1,4 @@
-use Rattle.wkb_c.proofs.Common.{sym}
+use Rattle.wkb_columns.proofs.Common.{sym}
 use Rattle.wkb_c.proofs.Collecting.{writes_collected, collected_exceeds, first_unfit_for}
 use Rattle.wkb_c.proofs.collect.wkb_raw_collect.Goals as goal
 

@@ -1,4 +1,4 @@
-use Rattle.wkb_c.proofs.Common.{arith, ap, length, length-append, drop, ◌∙◌}
+use Rattle.wkb_columns.proofs.Common.{arith, ap, length, length-append, drop, ◌∙◌}
 use Rattle.std.proofs.Common.{length-drop}
 use Rattle.wkb_c.specs.Collections.{front_of, inside_of}
 use Rattle.wkb_c.proofs.Gathering.{one_list, whole_put}

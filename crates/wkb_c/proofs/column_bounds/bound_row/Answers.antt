@@ -1,4 +1,4 @@
-use Rattle.wkb_c.proofs.Common.{refl, ◌∙◌}
+use Rattle.wkb_columns.proofs.Common.{refl, ◌∙◌}
 use Rattle.wkb_c.specs.Boxes.{bounded, refused}
 use Rattle.wkb_c.proofs.column_bounds.bound_row.Goals as goal
 

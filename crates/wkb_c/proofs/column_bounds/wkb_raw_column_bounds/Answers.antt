@@ -1,8 +1,8 @@
-use Rattle.wkb_c.proofs.Common.{arith}
+use Rattle.wkb_columns.proofs.Common.{arith}
 use Rattle.wkb_bounds.specs.Bounded.{nothing}
 use Rattle.wkb_c.specs.Boxes.{IsRowBox}
 use Rattle.wkb_c.proofs.RowItems.{set_more}
-use Rattle.wkb_c.proofs.Rows.{items_more}
+use Rattle.wkb_columns.proofs.Rows.{items_more}
 use Rattle.wkb_c.proofs.column_bounds.wkb_raw_column_bounds.Goals as goal
 
 pub loop-i-preserved : goal.loop-i-preserved

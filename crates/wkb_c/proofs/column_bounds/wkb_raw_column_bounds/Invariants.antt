@@ -1,4 +1,4 @@
-use Rattle.wkb_c.specs.Columns.{Reach}
+use Rattle.wkb_columns.specs.Columns.{Reach}
 use Rattle.wkb_c.specs.Boxes.{AreRowBoxes}
 use Rattle.wkb_c.proofs.RowItems.{AreSet}
 use Rattle.wkb_c.proofs.column_bounds.wkb_raw_column_bounds.Given as goal

@@ -1,4 +1,4 @@
-use Rattle.wkb_c.specs.Columns.{checked_row}
+use Rattle.wkb_columns.specs.Columns.{checked_row}
 use Rattle.wkb_c.proofs.column_check.status_of_row.Goals as goal
 
 pub returns-in-Ok-clause-status : goal.returns-in-Ok-clause-status

@@ -1,7 +1,7 @@
-use Rattle.wkb_c.proofs.Common.{refl, sym, ◌∙◌}
-use Rattle.wkb_c.specs.Coordinates.{failed, unknown}
-use Rattle.wkb_c.specs.LevelLists.{accepted}
-use Rattle.wkb_c.proofs.Rooms.{any_put}
+use Rattle.wkb_columns.proofs.Common.{refl, sym, ◌∙◌}
+use Rattle.wkb_columns.specs.Coordinates.{failed, unknown}
+use Rattle.wkb_columns.specs.LevelLists.{accepted}
+use Rattle.wkb_columns.proofs.Rooms.{any_put}
 use Rattle.wkb_c.proofs.column_coordinates.put_row.Goals as goal
 
 pub returns-in_default-clause-put : goal.returns-in_default-clause-put

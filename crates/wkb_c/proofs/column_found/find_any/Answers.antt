@@ -1,4 +1,4 @@
-use Rattle.wkb_c.proofs.Common.{refl}
+use Rattle.wkb_columns.proofs.Common.{refl}
 use Rattle.wkb_c.specs.FoundRows.{accepted, refused}
 use Rattle.wkb_c.proofs.column_found.find_any.Goals as goal
 

@@ -1,4 +1,4 @@
-use Rattle.wkb_c.proofs.Common.{refl}
+use Rattle.wkb_columns.proofs.Common.{refl}
 use Rattle.wkb_c.specs.FoundRows.{accepted, checked_row}
 use Rattle.wkb_c.proofs.column_found.find_row.Goals as goal
 

@@ -1,8 +1,8 @@
-use Rattle.wkb_c.proofs.Common.{arith}
+use Rattle.wkb_columns.proofs.Common.{arith}
 use Rattle.wkb_c.specs.FoundRows.{IsFoundInRow, all_zeros}
 use Rattle.wkb_c.proofs.FoundRows.{row_status}
 use Rattle.wkb_c.proofs.RowItems.{set_more}
-use Rattle.wkb_c.proofs.Rows.{items_more}
+use Rattle.wkb_columns.proofs.Rows.{items_more}
 use Rattle.wkb_c.proofs.column_found.wkb_raw_column_found.Goals as goal
 
 pub loop-i-preserved : goal.loop-i-preserved

@@ -1,4 +1,4 @@
-use Rattle.wkb_c.specs.Columns.{Reach}
+use Rattle.wkb_columns.specs.Columns.{Reach}
 use Rattle.wkb_c.specs.FoundRows.{AreFoundRows}
 use Rattle.wkb_c.proofs.RowItems.{AreSet}
 use Rattle.wkb_c.proofs.column_found.wkb_raw_column_found.Given as goal

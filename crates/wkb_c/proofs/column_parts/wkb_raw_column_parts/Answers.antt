@@ -1,6 +1,6 @@
-use Rattle.wkb_c.proofs.Common.{arith}
+use Rattle.wkb_columns.proofs.Common.{arith}
 use Rattle.wkb_c.proofs.LastEnds.{last_end_suffices}
-use Rattle.wkb_c.proofs.Reasons.{tables_tell_other}
+use Rattle.wkb_columns.proofs.Reasons.{tables_tell_other}
 use Rattle.wkb_c.proofs.RowItems.{row_done, set_more}
 use Rattle.wkb_c.proofs.column_parts.wkb_raw_column_parts.Goals as goal
 

@@ -1,6 +1,6 @@
-use Rattle.wkb_c.specs.Columns.{IsRefusedWith, Reach}
-use Rattle.wkb_c.specs.RowItems.{RowHas, RowFails}
-use Rattle.wkb_c.specs.Subjects.{HasTable}
+use Rattle.wkb_columns.specs.Columns.{IsRefusedWith, Reach}
+use Rattle.wkb_columns.specs.RowItems.{RowHas, RowFails}
+use Rattle.wkb_columns.specs.Subjects.{HasTable}
 use Rattle.wkb_c.proofs.RowItems.{AreSet, RowsDone}
 use Rattle.wkb_c.proofs.column_parts.wkb_raw_column_parts.Given as goal
 

@@ -1,6 +1,6 @@
-use Rattle.wkb_c.proofs.Common.{arith}
+use Rattle.wkb_columns.proofs.Common.{arith}
 use Rattle.wkb_c.proofs.LastEnds.{last_end_suffices}
-use Rattle.wkb_c.proofs.Reasons.{encodings_tell_other}
+use Rattle.wkb_columns.proofs.Reasons.{encodings_tell_other}
 use Rattle.wkb_c.proofs.RowItems.{row_done, set_more}
 use Rattle.wkb_c.proofs.column_write.wkb_raw_column_write.Goals as goal
 

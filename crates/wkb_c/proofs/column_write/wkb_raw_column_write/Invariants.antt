@@ -1,6 +1,6 @@
-use Rattle.wkb_c.specs.Columns.{Reach}
-use Rattle.wkb_c.specs.RowItems.{RowHas, RowFails}
-use Rattle.wkb_c.specs.Writings.{HasEncoding, FailsToWrite}
+use Rattle.wkb_columns.specs.Columns.{Reach}
+use Rattle.wkb_columns.specs.RowItems.{RowHas, RowFails}
+use Rattle.wkb_columns.specs.Writings.{HasEncoding, FailsToWrite}
 use Rattle.wkb_c.proofs.RowItems.{AreSet, RowsDone}
 use Rattle.wkb_c.proofs.column_write.wkb_raw_column_write.Given as goal
 

@@ -1,12 +1,12 @@
-use Rattle.wkb_c.proofs.Common.{arith, ◌∙◌, ◌≡◌, ap, length}
+use Rattle.wkb_columns.proofs.Common.{arith, ◌∙◌, ◌≡◌, ap, length}
 use Rattle.wkb_levels.specs.EndLists.{ends_of}
 use Rattle.wkb_c.proofs.LastEnds.{last_end_suffices}
 use Rattle.wkb_c.proofs.LevelRows.{ready_first}
-use Rattle.wkb_c.proofs.Reasons.{levels_tell_other}
+use Rattle.wkb_columns.proofs.Reasons.{levels_tell_other}
 use Rattle.wkb_c.proofs.RowItems.{set_first, set_more, rows_first, row_done}
 use Rattle.wkb_c.proofs.from_coordinates.wkb_raw_column_from_coordinates.Goals as goal
 use Rattle.wkb_c.proofs.from_coordinates.wkb_raw_column_from_coordinates.Goals.{After-len-rows}
-use Rattle.wkb_c.specs.LevelTargets.{levels_in}
+use Rattle.wkb_columns.specs.LevelTargets.{levels_in}
 
 pub loop-i-init : goal.loop-i-init
 loop-i-init c = record {

@@ -1,5 +1,5 @@
-use Rattle.wkb_c.specs.LevelRows.{HasLevelEncoding, LacksLevels}
-use Rattle.wkb_c.specs.LevelTargets.{Ready}
+use Rattle.wkb_columns.specs.LevelRows.{HasLevelEncoding, LacksLevels}
+use Rattle.wkb_columns.specs.LevelTargets.{Ready}
 use Rattle.wkb_c.proofs.RowItems.{AreSet, RowsDone}
 use Rattle.wkb_c.proofs.from_coordinates.wkb_raw_column_from_coordinates.Given as goal
 

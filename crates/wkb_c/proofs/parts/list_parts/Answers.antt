@@ -1,4 +1,4 @@
-use Rattle.wkb_c.proofs.Common.{arith, ap}
+use Rattle.wkb_columns.proofs.Common.{arith, ap}
 use Rattle.std.proofs.Common.{set}
 use Rattle.wkb_c.proofs.Called.{fits_table, table_put, one_geometry, whole_put, parts_found}
 use Rattle.wkb_c.proofs.parts.list_parts.Goals as goal

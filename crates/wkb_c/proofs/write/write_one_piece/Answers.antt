@@ -1,6 +1,6 @@
-use Rattle.wkb_c.proofs.Common.{arith, sym}
+use Rattle.wkb_columns.proofs.Common.{arith, sym}
 use Rattle.wkb_rewrite.proofs.Measured.{here}
-use Rattle.wkb_c.specs.Writings.{meant}
+use Rattle.wkb_columns.specs.Writings.{meant}
 use Rattle.wkb_c.proofs.Encodings.{writes, lacks_room}
 use Rattle.wkb_c.proofs.write.write_one_piece.Goals as goal
 

@@ -1,5 +1,5 @@
-use Rattle.wkb_c.proofs.Common.{sym}
-use Rattle.wkb_c.specs.Writings.{meant}
+use Rattle.wkb_columns.proofs.Common.{sym}
+use Rattle.wkb_columns.specs.Writings.{meant}
 use Rattle.wkb_c.proofs.write.write_others.Goals as goal
 
 pub returns-in-Some : goal.returns-in-Some

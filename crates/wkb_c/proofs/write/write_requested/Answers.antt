@@ -1,4 +1,4 @@
-use Rattle.wkb_c.proofs.Common.{arith, length, ◌≤◌}
+use Rattle.wkb_columns.proofs.Common.{arith, length, ◌≤◌}
 use Rattle.wkb_geom.specs.Encodings.{encoding}
 use Rattle.wkb_geom.specs.Geometries.{geometry_of}
 use Rattle.wkb_check.specs.Known.{HasGeometry}

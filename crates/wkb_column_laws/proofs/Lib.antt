@@ -1,0 +1,8 @@
+mod ThereAndBackLevels
+mod ThereAndBackKinds
+mod ThereAndBackRows
+mod ThereAndBackEncodings
+mod ThereAndBackGiven
+mod ThereAndBack
+mod ThereAndBackColumns
+mod ThereAndBackExample

@@ -1,0 +1,159 @@
+-- What bytes spell, with the words of its empty points, can be written; and where these are the words that are written
+-- of empty points, its encoding is that of the value.
+use Rattle.wkb_columns.proofs.Common.{◌≡◌, ℕ, suc, ◌+◌, ◌*◌, ◌≤◌, ◌<◌, ◌^◌, List, [], ◌∷◌, ◌++◌, length, Option, Some, None}
+use Rattle.wkb_columns.proofs.Common.{refl, sym}
+use Rattle.wkb_columns.proofs.Common.{ap, ◌∙◌, arith, is_some, Dimension, Coordinate, Spelling, node, Spellings}
+use Rattle.wkb_columns.proofs.Common.{no_spellings, spelling, Spells, SpellsEach, SpellsCoordinate, Value, point}
+use Rattle.wkb_columns.proofs.Common.{multi_point, IsNumber}
+use Rattle.std.specs.Prelude.{map, flat_map, if◌then◌else◌, Bool, true, false}
+use Rattle.std.specs.List.{AllByRecursion}
+use Rattle.std.proofs.Common.{lt-ltb}
+use Rattle.std.proofs.lemmas.List.{length-map}
+use Rattle.wkb_geom.specs.Dimensions.{as_dimensions, written_dimension}
+use Rattle.wkb_geom.specs.Encodings.{encoding, point_encoding, point_words, members_encoding, fault, dimensions_fault}
+use Rattle.wkb_geom.specs.Encodings.{count_fault, or_else, size_fault, refusal, inner, form_srid}
+use Rattle.wkb_geom.specs.Geometries as geometries
+use Rattle.wkb_geom.specs.Geometries.{Geometry, geometry_of, normal, normal_point, IsGeometry, IsCoordinate, IsPoint}
+use Rattle.wkb_geom.specs.Grammar.{IsEach}
+use Rattle.wkb_geom.specs.Numbers.{AreBytes, IsWord}
+use Rattle.wkb_geom.specs.Sizes.{point_size}
+use Rattle.wkb_geom.specs.Spellings.{part}
+use Rattle.wkb_geom.specs.Values.{each}
+use Rattle.wkb_geom.specs.declared.common.Dimension.TheVariants.{Xy}
+use Rattle.wkb_geom.specs.declared.common.Endianness.{Endianness}
+use Rattle.wkb_geom.specs.declared.common.Form.{Form}
+use Rattle.wkb_laws.proofs.Lengths.{named_width, value_size, spelled_length, encoding_length}
+use Rattle.wkb_laws.proofs.Values.{bytes_of, number-lt, spelled_good, lawful-geometry_of, normal-geometry_of}
+use Rattle.wkb_column_laws.specs.ThereAndBack.{point_spelled, points_spelled, as_spelled, HasEmptyWords}
+
+-- ---- it is a lawful geometry
+
+words_fit : (order : Endianness) (c bytes : List ℕ) → AreBytes bytes → IsEach (IsNumber order 8) c bytes
+    → AllByRecursion IsWord c
+words_fit order [] bytes b h = tt
+words_fit order (w ∷ c) bytes b h =
+    let both = bytes_of h b in (number-lt order 8 w h.front h.first both.0, words_fit order c h.rest both.1 h.second)
+
+coordinate_lawful : (order : Endianness) (d : Dimension) (c bytes : List ℕ) → AreBytes bytes
+    → SpellsCoordinate order d c bytes → IsCoordinate (as_dimensions d) c
+coordinate_lawful order d c bytes b h =
+    record { len = h.len ∙ named_width d; words = words_fit order c bytes b h.words }
+
+point_lawful : (s : Spelling) (d : Dimension) (c : Option Coordinate) (bytes : List ℕ) → AreBytes bytes
+    → Spells s (point d c) bytes → IsCoordinate (as_dimensions d) (point_spelled s c)
+point_lawful (node h words ss) d None bytes b spelled =
+    let body = (bytes_of spelled.second (bytes_of spelled b).1).0 in
+    coordinate_lawful h.order d words spelled.second.front body spelled.second.first.1
+point_lawful (node h words ss) d (Some c) bytes b spelled =
+    let body = (bytes_of spelled.second (bytes_of spelled b).1).0 in
+    coordinate_lawful h.order d c spelled.second.front body spelled.second.first.2
+
+points_lawful : (d : Dimension) (ss : Spellings) (points : List (Option Coordinate)) (bytes : List ℕ) → AreBytes bytes
+    → SpellsEach (part 1 d) ss (each (point d) points) bytes
+    → AllByRecursion (IsPoint (as_dimensions d)) (map (λ c. Some c) (points_spelled ss points))
+points_lawful d ss [] bytes b spelled = tt
+points_lawful d no_spellings (c ∷ points) bytes b spelled = absurd spelled
+points_lawful d (spelling s ss) (c ∷ points) bytes b spelled =
+    let both = bytes_of spelled b in (
+      point_lawful s d c spelled.front both.0 spelled.first.0,
+      points_lawful d ss points spelled.rest both.1 spelled.second,
+    )
+
+as_many : (d : Dimension) (ss : Spellings) (points : List (Option Coordinate)) (bytes : List ℕ)
+    → SpellsEach (part 1 d) ss (each (point d) points) bytes → length (points_spelled ss points) ≡ length points
+as_many d ss [] bytes spelled = refl
+as_many d no_spellings (c ∷ points) bytes spelled = absurd spelled
+as_many d (spelling s ss) (c ∷ points) bytes spelled = ap suc (as_many d ss points spelled.rest spelled.second)
+
+-- what is known of it
+record IsLikeValue (s : Spelling) (t : Value) : Type 0 where
+  lawful : IsGeometry (as_spelled s t)
+  same_fault : fault (as_spelled s t) ≡ fault (geometry_of t)
+  same_size : value_size (normal (as_spelled s t)) ≡ value_size (normal (geometry_of t))
+
+like_value : (s : Spelling) (t : Value) (bytes : List ℕ) → AreBytes bytes → Spells s t bytes → IsLikeValue s t
+like_value s (point d c) bytes b spelled =
+    record { lawful = point_lawful s d c bytes b spelled; same_fault = refl; same_size = refl }
+like_value (node h words ss) (multi_point d points) bytes b spelled =
+    let members = spelled.second in
+    let here = (bytes_of members (bytes_of spelled b).1).1 in
+    let many : length (map (λ c. Some c) (points_spelled ss points)) ≡ length points =
+    length-map (points_spelled ss points) (λ c. Some c) ∙ as_many d ss points members.rest members.second in
+    record {
+      lawful = points_lawful d ss points members.rest here members.second;
+      same_fault = ap (λ n. or_else (dimensions_fault (as_dimensions d)) (count_fault n)) many;
+      same_size =
+          ap (λ n. 9 + n * point_size (as_dimensions (written_dimension (as_dimensions d))))
+          (length-map (map (λ c. Some c) (points_spelled ss points)) normal_point ∙ many
+          ∙ sym (length-map points normal_point));
+    }
+like_value s t bytes b spelled =
+    record { lawful = lawful-geometry_of t (spelled_good s t bytes b spelled).0; same_fault = refl; same_size = refl }
+
+-- ---- it can be written
+
+at_most_one : (b : Bool) → (if b then 1 else 0) ≤ 1
+at_most_one true = omega arith
+at_most_one false = omega arith
+
+pub spelled_writable : (order : Endianness) (form : Form) (s : Spelling) (t : Value) (bytes : List ℕ) → AreBytes bytes
+    → length bytes < 2 ^ 63 → Spells s t bytes → refusal order form (as_spelled s t) ≡ None
+unfolding size_fault or_else
+spelled_writable order form s t bytes b small spelled =
+    let good = spelled_good s t bytes b spelled in
+    let like = like_value s t bytes b spelled in
+    let fine = like.same_fault ∙ good.1 in
+    let long = encoding_length order form (as_spelled s t) like.lawful fine in
+    let same : value_size (normal (geometry_of t)) ≡ value_size t = ap value_size (normal-geometry_of t good.0) in
+    let fits : length (encoding order form (as_spelled s t)) < 2 ^ 64 =
+    omega (
+      arith,
+      long,
+      like.same_size,
+      same,
+      spelled_length s t bytes spelled,
+      small,
+      at_most_one (is_some (form_srid form)),
+    ) in
+    ap (λ z. or_else z (size_fault (length (encoding order form (as_spelled s t))))) fine
+    ∙ rw (lt-ltb (length (encoding order form (as_spelled s t))) (2 ^ 64) fits) refl
+
+-- ---- its encoding
+
+written_as_itself : (d : Dimension) → written_dimension (as_dimensions d) ≡ d
+written_as_itself Xy = refl
+written_as_itself _ = refl
+
+point_again : (order : Endianness) (form : Form) (d : Dimension) (c : Option Coordinate)
+    → point_encoding order form d (Some (point_words d c)) ≡ point_encoding order form d c
+unfolding point_encoding point_words
+point_again order form d None = refl
+point_again order form d (Some c) = refl
+
+point_same : (order : Endianness) (form : Form) (d : Dimension) (c : Option Coordinate)
+    → point_encoding order form (written_dimension (as_dimensions d)) (Some (point_words d c))
+    ≡ point_encoding order form (written_dimension (as_dimensions d)) c
+point_same order form d c =
+    let is = written_as_itself d in
+    ap (λ e. point_encoding order form e (Some (point_words d c))) is ∙ point_again order form d c
+    ∙ ap (λ e. point_encoding order form e c) (sym is)
+
+points_same : (order : Endianness) (form : Form) (d : Dimension) (points : List (Option Coordinate))
+    → flat_map (point_encoding order form (written_dimension (as_dimensions d)))
+    (map (λ c. Some c) (map (point_words d) points))
+    ≡ flat_map (point_encoding order form (written_dimension (as_dimensions d))) points
+points_same order form d [] = refl
+points_same order form d (c ∷ points) =
+    λ i. point_same order form d c i ++ points_same order form d points i
+
+pub same_encoding : (order : Endianness) (form : Form) (s : Spelling) (t : Value) → HasEmptyWords s t
+    → encoding order form (as_spelled s t) ≡ encoding order form (geometry_of t)
+same_encoding order form s (point d c) h =
+    ap (λ p. point_encoding order form (written_dimension (as_dimensions d)) (Some p)) h ∙ point_same order form d c
+same_encoding order form (node head words ss) (multi_point d points) h =
+    let e = written_dimension (as_dimensions d) in
+    let many : length (map (λ c. Some c) (map (point_words d) points)) ≡ length points =
+    length-map (map (point_words d) points) (λ c. Some c) ∙ length-map points (point_words d) in
+    ap (λ cs. encoding order form (geometries.multi_point (as_dimensions d) (map (λ c. Some c) cs))) h
+    ∙ (λ i. members_encoding order form 4 e (many i) (points_same order (inner form) d points i))
+same_encoding order form s _ h = refl

@@ -1,0 +1,9 @@
+pub mod Common
+pub mod Telling
+pub mod Rows
+pub mod Spans
+pub mod Levels
+pub mod KindTotals
+pub mod Reasons
+pub mod Rooms
+pub mod OneRow

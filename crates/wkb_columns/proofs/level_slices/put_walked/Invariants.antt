@@ -1,0 +1,19 @@
+use Rattle.std.specs.Prelude.{◌≡◌, ◌≤◌, ◌-◌, length}
+use Rattle.wkb_check.specs.Known.{HasGeometry}
+use Rattle.wkb_columns.specs.LevelLists.{levels_of, AreSameSlices}
+use Rattle.wkb_check.specs.Subjects.{subjects}
+use Rattle.wkb_columns.proofs.Levels.{Coming, LevelsLeft}
+use Rattle.wkb_columns.proofs.level_slices.put_walked.Given as goal
+
+abbrev pub invariant-loop-piece : goal.invariant-loop-piece
+invariant-loop-piece l = record {
+  same_slices : AreSameSlices l.fn.out l.out;
+  left : (g : HasGeometry l.row)
+      → Coming l.pieces (LevelsLeft l.asked l.row l.fn.from (subjects g.spelled g.value) (levels_of l.fn.out) l.at
+      (levels_of l.out));
+  same : l.pieces.bytes.now ≡ l.row;
+  inside : l.pieces.at ≤ length l.row;
+}
+
+abbrev pub decreases-loop-piece : goal.decreases-loop-piece
+decreases-loop-piece l = length l.row - l.pieces.at

@@ -1,0 +1,16 @@
+pub mod Checks
+pub mod Classes
+pub mod Columns
+pub mod Coordinates
+pub mod EnumNumbers
+pub mod Layouts
+pub mod LevelLists
+pub mod LevelRows
+pub mod LevelTargets
+pub mod PieceLevels
+pub mod Requests
+pub mod Room
+pub mod RowItems
+pub mod Statuses
+pub mod Subjects
+pub mod Writings
