@@ -1,9 +1,8 @@
-"""Looks up every name in backticks on every page, and those of files and items that a picture has as code.
+"""Looks up the paths of files and of code in backticks on every page, and those of files and items that a picture has as code.
 
 A path of files has to exist, from the top, from docs/ or edits/, or in a crate. A path of code, as `a::b`, has to end
-in names that a source defines one inside the other. Each other word has to be in a source that is no page and no script
-of this folder, outside comments, or among the FOREIGN words below. In ARCHITECTURE's tables of files and calls each
-call is defined in the file beside it.
+in names that a source defines one inside the other. In ARCHITECTURE's tables of files and calls each call is defined in
+the file beside it.
 """
 import collections
 import functools
@@ -11,16 +10,10 @@ import glob
 import re
 
 from checks import judge
-from pages import PAGES, ROOT, files, lines_of, rows_of, spans, texts
+from pages import PAGES, ROOT, lines_of, rows_of, spans, texts
 
-# Words of other programs and of the checker, which no source of ours has to name.
-FOREIGN = set(
-    """
-    Cow TryFromIntError to_geo geo_types Unimplemented non_exhaustive num_enum Tie Gone respects_eq UPGRADING HasNo Lts
-    oantt Is LET DIR lifetimes prelude Short MutBor METHOD fix start_io lay_ put_ lifetime sqlite3_interrupt geom::bytea
-    wkb::geometry df
-    """.split()
-)
+# Names of other programs, which no source of ours defines.
+FOREIGN = {"geom::bytea", "wkb::geometry"}
 # What a path of code begins with that is std's or stands for a name of the reader's.
 FOREIGN_PATHS = {"io", "fmt", "u8", "u32", "Self", "Enum", "Fail", "Default", "std", "crate"}
 # Files of the kit, and files that commands on the pages make.
@@ -32,33 +25,17 @@ COMMANDS = """
     dask-worker --scheduler rt rattle valgrind clang psql ls make grep export print -mllvm -ir ulimit env pip python3
     apt-get sed sha256sum
     """.split()
-WORD = re.compile(r"\b(?![0-9a-f]{16}\b)[A-Za-z_]\w*")
 PATH = re.compile(r"(?<![\w:/.'])[A-Za-z_]\w*(?:::[A-Za-z_]\w*)+")
 # A picture, and how a table of files and calls begins, for controls.
 FLOWS = "docs/pictures/flows.svg"
 TABLE = "| file | call |\n|---|---|\n"
 # What a picture shows as code: names, with commas between them.
 CODE = re.compile(r'class="code">([^<]+)<')
-COMMENT = {".rt": r"//[^\n]*", ".rs": r"//[^\n]*", ".antt": r"--[^\n]*"}
 ITEM = re.compile(
     r"^ *(?:pub(?:\([\w: ]+\))? )?(?:const |unsafe )?(?:extern \"C\" )?(?:fn|struct|enum|trait|type|const|mod) (\w+)"
 )
 IMPL = re.compile(r"^impl(?:<[^{]*?>)? (?:([\w:]+)(?:<([A-Za-z]\w*)?[^{]*>)? for )?(?:[\w:]+::)?(\w+)")
 USE = re.compile(r"^pub use ([\w:]+?)(?:::\{([^}]*)\})?;", re.M)
-
-
-@functools.lru_cache(maxsize=None)
-def words_of_sources():
-    """Each word of the sources, outside comments, and of their paths."""
-    words = set()
-    for path in files():
-        name = str(path.relative_to(ROOT))
-        if path.suffix in (".md", ".cff", ".svg") or re.fullmatch(r"checks/pages/\w+(\.py)?", name):
-            continue
-        text = path.read_text(encoding="utf-8", errors="replace")
-        code = re.sub(COMMENT.get(path.suffix, r"(?m)^\s*#[^\n]*"), "", text)
-        words |= set(WORD.findall(name)) | set(WORD.findall(code))
-    return words
 
 
 def names_in(text):
@@ -132,7 +109,7 @@ def looks_like_ours(span):
     return looks_like_a_path(span) and re.match(r"crates|c/|docs|edits|tools", span)
 
 
-def lost_in(span, words, code):
+def lost_in(span, code):
     """The parts of a span that no source has."""
     path = re.sub(r":\d+$", "", span)
     if looks_like_a_path(path):
@@ -141,11 +118,7 @@ def lost_in(span, words, code):
         lost = [f"no source has `{it}`" for it in re.findall(r"--only ([a-z]\w*(?:::\w+)+)", span) if it not in code]
         return lost + [f"no file `{it}`" for it in span.split() if looks_like_ours(it) and not is_there(it)]
     paths = [it for it in PATH.findall(span) if it.split("::")[0] not in FOREIGN_PATHS]
-    lost = [f"no source has `{it}`" for it in paths if it not in code | FOREIGN]
-    for word in WORD.findall(span):
-        if word not in words and not (f"{word}*" in span and any(known.startswith(word) for known in words)):
-            lost.append(f"no source has `{word}`")
-    return lost
+    return [f"no source has `{it}`" for it in paths if it not in code | FOREIGN]
 
 
 def lost_calls():
@@ -177,10 +150,10 @@ def named():
 
 
 class Names(judge.Judge):
-    """Each name in backticks is that of something."""
+    """Each path in backticks is that of something."""
 
     controls = [
-        *judge.on_each(PAGES, "`lost_name`\n\n", ":1: no source has `lost_name`"),
+        *judge.on_each(PAGES, "`crate::lost`, `lost::name`\n\n", ":1: no source has `lost::name`"),
         ("docs/API.md", "", "`crates/lost/file.rt`\n\n", "no file `crates/lost/file.rt`"),
         ("docs/API.md", "", "`grep it crates/gone/file.rt`\n\n", "no file `crates/gone/file.rt`"),
         ("docs/API.md", "", "`rt check --only coord::Coord::lost`\n\n", "no source has `coord::Coord::lost`"),
@@ -192,8 +165,7 @@ class Names(judge.Judge):
     ]
 
     def wrong(self):
-        words, code = words_of_sources() | FOREIGN, paths_of_code()
-        yield from (f"{it} is among the FOREIGN words, and a source has it" for it in FOREIGN & words_of_sources())
+        code = paths_of_code()
         yield from (*lost_calls(), *lost_in_pictures(code))
         for page, number, span in named():
-            yield from (f"{page}:{number}: {it}" for it in lost_in(span, words, code))
+            yield from (f"{page}:{number}: {it}" for it in lost_in(span, code))
