@@ -21,7 +21,6 @@ NAMED = [
     ("CHANGELOG.md", rf"\A(?:.*\n)*?## ({NUMBER})\n"),
     ("c/package/package.md", r"version\s([\d.]+)\sof\sthe\scalls"),
     ("c/package/package.md", rf"porchsorrel-wkb-c-({NUMBER})\.tar"),
-    ("c/proved/PROVED", r"(?m)^version (.*)$"),
     ("postgres/wkb.control", r"(?m)^default_version = '(.*)'$"),
     ("postgres/expected", r"(?m)^([\d.]+)\|23$"),
 ]
