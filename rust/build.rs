@@ -48,9 +48,20 @@ fn run(command: &mut Command) {
 fn object(name: &str, library: &Path, out: &Path) -> PathBuf {
     let object = out.join(name).with_extension("o");
     let mut command = program("CC", "cc");
-    command.args(["-std=c11", "-O2", "-fPIC", "-fvisibility=hidden", "-c", "-I"]).arg(library).arg(library.join(name));
+    command.args(["-std=c11", "-O2", "-fPIC", "-fvisibility=hidden", "-c", "-I"]).arg(library).arg("-I").arg(out);
+    command.arg(library.join(name));
     run(command.arg("-o").arg(&object));
     object
+}
+
+/// The assembly for macOS, which is that for Linux in other words.
+fn make_for_macos(library: &Path, out: &Path) {
+    let proved = library.join("proved");
+    let mut command = Command::new("sed");
+    command.args(["-E", "-f"]).arg(proved.join("macho.sed")).arg(proved.join("aarch64.s"));
+    fs::create_dir_all(out.join("proved")).expect("a folder in OUT_DIR");
+    let file = fs::File::create(out.join("proved/aarch64-macos.s")).expect("a file in OUT_DIR");
+    run(command.stdout(file));
 }
 
 /// What the two files are made of.
@@ -58,13 +69,16 @@ fn sources(library: &Path) -> Vec<PathBuf> {
     let folder = library.join("proved");
     let entries = fs::read_dir(&folder).unwrap_or_else(|why| panic!("{}: {why}", folder.display()));
     let assemblies = entries.map(|it| it.expect("an entry of a folder").path());
-    let assemblies = assemblies.filter(|it| it.extension().map_or(false, |end| end == "s"));
+    let assemblies = assemblies.filter(|it| it.extension().map_or(false, |end| end == "s" || end == "sed"));
     ["wkb.c", "wkb.h", "wkb_raw.h", "wkb_proved.S"].into_iter().map(|it| library.join(it)).chain(assemblies).collect()
 }
 
 fn main() {
     let library = Path::new(&variable("CARGO_MANIFEST_DIR")).join("c");
     let out = PathBuf::from(variable("OUT_DIR"));
+    if variable("TARGET").contains("-apple-") {
+        make_for_macos(&library, &out);
+    }
     let objects = ["wkb.c", "wkb_proved.S"].map(|it| object(it, &library, &out));
     let archive = out.join("libporchsorrel_c.a");
     run(program("AR", "ar").arg("crs").arg(&archive).args(objects));
