@@ -9,17 +9,18 @@ import unittest
 
 from checks.judge import need, pages
 
-# What a stub does: it says which step it is, and exits with status 1 if it is the one that has to fail, or if nothing
-# forbids its tests to be skipped. The judge also keeps the log.
+# What a stub does: it says which step it is, and exits with status 2 if it is the one that has to fail, and with 1 if
+# nothing forbids its tests to be skipped. The judge also keeps the log.
 STUB = """#!/bin/sh
 it="{name}${{*:+ $*}}"
 echo "$it" >>"$SAID"
 echo "it is $it" >&2
 [ {name} != checks/sources/left_out ] || cat "$1" >"$SAID.log"
-[ "$it" != "$FAILS" ] && [ "$STRICT" = 1 ]
+[ "$it" != "$FAILS" ] || exit 2
+[ "$STRICT" = 1 ]
 """
 # What CI needs besides the compiler, make and objcopy.
-PROGRAMS = "awk bash cat dirname git mktemp nproc rm sed sh tail tee touch".split()
+PROGRAMS = "awk bash cat dirname git grep mktemp nproc paste rm sed sh tail tee touch tr".split()
 # What CI calls besides its steps.
 OTHERS = {"rt version", "tools/kit.py take"}
 JUDGE = "checks/sources/left_out"
@@ -61,12 +62,12 @@ class Gate(unittest.TestCase):
         cls.git("add", "-A")
         cls.git("commit", "-qm", "as it is", "--allow-empty")
 
-    def gate(self, fails="none", path=os.environ["PATH"], **own):
+    def gate(self, fails="none", *words, path=os.environ["PATH"], **own):
         """The status of CI, its calls and its output, if one step fails. It is started in another folder."""
         said = pathlib.Path(self.room.name, "said")
         said.write_text("")
         env = {**os.environ, "PATH": f"{self.top}/bin:{path}", "SAID": said, "FAILS": fails, **own}
-        ran = subprocess.run([self.top / ".ci/run"], env=env, cwd=self.room.name, stdout=subprocess.PIPE,
+        ran = subprocess.run([self.top / ".ci/run", *words], env=env, cwd=self.room.name, stdout=subprocess.PIPE,
                              stderr=subprocess.STDOUT, text=True)
         return ran.returncode, said.read_text().splitlines(), ran.stdout
 
@@ -130,11 +131,16 @@ class Gate(unittest.TestCase):
         (self.top / JUDGE).write_text(whole + "exit 1\n")
         self.assertEqual(self.gate()[0], 1)
 
-    def test_it_ends_with_2_without_the_kit(self):
-        path = "/usr/bin:/bin"
-        if shutil.which("rt", path=path):
-            self.skipTest("the kit is in /usr/bin")
-        self.assertEqual(subprocess.run([self.top / ".ci/run"], env={"PATH": path}, capture_output=True).returncode, 2)
+    def test_without_the_kit_what_needs_it_is_left_out(self):
+        self.commit()
+        before = self.passed()
+        status, called, printed = self.gate("none", "--without-kit")
+        left = re.findall(r"(?m)^left out: (.*), since it was called with --without-kit$", printed)
+        self.assertEqual((status, sorted([*called, *left])), (0, sorted([*listed(), *called[-1:]])))
+        self.assertEqual((left, called[-1].split()[0]), (["rt ci", "checks/edits/run", "checks/memory/run"], JUDGE))
+        self.assertEqual(self.passed(), before)
+        self.assertEqual(self.gate("checks/run", "--without-kit")[0], 1)
+        self.assertEqual(self.gate("none", "--lost")[0], 2)
 
     def test_the_commit_is_passed(self):
         self.commit()

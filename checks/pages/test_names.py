@@ -1,4 +1,4 @@
-"""Looks up the paths of files and of code in backticks on every page, and those of files and items that a picture has as code.
+"""Looks up the paths of files and of code in backticks on every page, and those that a picture has as code.
 
 A path of files has to exist, from the top, from docs/ or edits/, or in a crate. A path of code, as `a::b`, has to end
 in names that a source defines one inside the other. In ARCHITECTURE's tables of files and calls each call is defined in
