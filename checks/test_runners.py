@@ -116,11 +116,13 @@ class Faults(Copy):
             ("no words are said", "it", command, None, new),
             ("the text is gone", "it", command, says, new, "two"),
             ("the text is there twice", "it", command, says, new, "e"),
+            ("the file is gone", "it", command, says, new, "one\nfile: c/gone\nold: one"),
         ]:
             with self.subTest(why):
                 self.write("c/it", "one tree\n")
                 self.write_fault("another" if name == "lost" else name, *given)
-                self.assertEqual(self.ran("checks/faults/run", name)[0], 2)
+                status, printed = self.ran("checks/faults/run", name)
+                self.assertEqual((status, printed.count("\n")), (2, 1), printed)
 
 
 class Library(Copy):

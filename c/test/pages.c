@@ -1,4 +1,5 @@
-/* Inputs at the end of a page that nothing may be read after, and calls from several threads. */
+/* Inputs at the end of a page that nothing may be read after, and that can't be written to, and calls from several
+ * threads. */
 #include "shared.h"
 #include <pthread.h>
 
@@ -11,6 +12,7 @@ static void cut_is_refused(const answer *a, const uint8_t *bytes, size_t len, ui
   size_t size, count;
   uint32_t equal, which = 0;
   memcpy(start, bytes, cut);
+  can_be_written(page_end, false);
   wkb_status status = wkb_check(start, cut, NULL, &fault);
   expect(wkb_status_is_refusal(status), "a cut is refused", a->input);
   expect(wkb_bounds(start, cut, &box, &again[0]) == status, "bounds of a cut", a->input);
@@ -18,6 +20,7 @@ static void cut_is_refused(const answer *a, const uint8_t *bytes, size_t len, ui
   expect(wkb_same(bytes, len, start, cut, &equal, &again[2], &which) == status && which == 2, "a cut second", a->input);
   expect(wkb_parts(start, cut, parts, 8, &count, &again[3]) == status, "the parts of a cut", a->input);
   for (int i = 0; i < 4; i++) expect(is_same_fault(&again[i], &fault), "the fault of a cut", a->input);
+  can_be_written(page_end, true);
 }
 
 /* A column of one row, whose offsets and validity are at the end of a page as well. */
@@ -116,10 +119,12 @@ void nothing_is_read_after_the_input(void) {
     uint8_t bytes[128];
     size_t len = spelled(ANSWERS[i].input, bytes);
     memcpy(end - len, bytes, len);
+    can_be_written(end, false);
     check_is_as_expected(&ANSWERS[i], end - len, len);
     refusal_leaves_outputs(&ANSWERS[i], end - len, len);
     parts_are_as_expected(&ANSWERS[i], end - len, len);
     column_ends_at_page(&ANSWERS[i], end, other_end, len);
+    can_be_written(end, true);
     if (ANSWERS[i].status != WKB_STATUS_OK) continue;
     for (size_t cut = 0; cut < ANSWERS[i].found.size; cut++) cut_is_refused(&ANSWERS[i], bytes, len, end, cut);
   }

@@ -45,6 +45,14 @@ uint8_t *end_of_a_page(void) {
   return pages + info.dwPageSize;
 }
 
+void can_be_written(uint8_t *end, bool can) {
+  SYSTEM_INFO info;
+  DWORD before;
+  GetSystemInfo(&info);
+  uint8_t *page = end - info.dwPageSize;
+  expect(VirtualProtect(page, info.dwPageSize, can ? PAGE_READWRITE : PAGE_READONLY, &before), "a page", "");
+}
+
 /* Only the last 64 KB can be used, since Windows counts all that could be. */
 uint8_t *addresses(size_t size) {
   const size_t used = 1 << 16;
@@ -63,6 +71,11 @@ uint8_t *end_of_a_page(void) {
   uint8_t *pages = addresses(2 * page);
   expect(mprotect(pages + page, page, PROT_NONE) == 0, "two pages", "");
   return pages + page;
+}
+
+void can_be_written(uint8_t *end, bool can) {
+  size_t page = (size_t)sysconf(_SC_PAGESIZE);
+  expect(mprotect(end - page, page, can ? PROT_READ | PROT_WRITE : PROT_READ) == 0, "a page", "");
 }
 
 uint8_t *addresses(size_t size) {

@@ -48,6 +48,9 @@ wkb_status status_of(size_t row, bool has_room);
 /* The end of a page that may be read and written, before one that may not. */
 uint8_t *end_of_a_page(void);
 
+/* Whether the page before this end can be written to. */
+void can_be_written(uint8_t *end, bool can);
+
 /* So many bytes of addresses that may be read and written, all of them 0; memory is taken for those that are used. */
 uint8_t *addresses(size_t size);
 void release(uint8_t *taken, size_t size);

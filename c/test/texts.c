@@ -190,5 +190,5 @@ void texts_are_right(void) {
   faults_have_texts();
   longest_texts_fit();
   cut_inputs_end_too_early();
-  expect(wkb_version() == 1000000 && WKB_VERSION == 1000000, "the version", "");
+  expect(wkb_version() == WKB_VERSION, "the version", "");
 }

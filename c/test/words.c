@@ -12,14 +12,19 @@ static uint64_t plain_word(const uint8_t *buf, const wkb_part *part, uint64_t n)
 }
 
 static void words_agree(const uint8_t *buf, const wkb_part *part) {
-  enum { WIDTH_MOST = 4, COUNT_MOST = 8 };
+  enum { WIDTH_MOST = 4, COUNT_MOST = 8, KEPT_MOST = 1024 };
+  /* What a call returns is compared with the input as it was before: a call that writes into it is found. */
+  uint8_t kept[KEPT_MOST];
+  const size_t len = part->offset + 8 * part->width * part->count;
+  expect(len <= sizeof kept, "a longer input", "");
+  memcpy(kept, buf, len);
   double out[WIDTH_MOST * COUNT_MOST + 1];
   for (uint64_t first = 0; first <= part->count; first++) {
     for (uint64_t count = 0; first + count <= part->count; count++) {
       memset(out, 0x5a, sizeof out);
       wkb_words(buf, part, first, count, out);
       for (uint64_t k = 0; k < part->width * count; k++) {
-        uint64_t got, wanted = plain_word(buf, part, part->width * first + k);
+        uint64_t got, wanted = plain_word(kept, part, part->width * first + k);
         memcpy(&got, &out[k], sizeof got);
         expect(got == wanted, "a word of wkb_words", "");
         double word = wkb_word(buf, part, first + k / part->width, (unsigned)(k % part->width));

@@ -28,6 +28,7 @@ for column in (wkb.Column.of(ROWS), wkb.Column.from_arrow(Arrow()), wkb.Column.f
     assert list(column.check()) == STATUSES
 levels = wkb.Column.of([POINT]).coordinates()
 assert bytes(wkb.column_from_coordinates(wkb.Kind.POINT, levels.coordinates).data) == POINT
+del column  # its release is a function of ctypes, which CPython 3.13 frees before a module's names
 """)
 # It calls its own library by ctypes, unless it finds cffi. The key and the block are of NIST's SP 800-38A, F.1.1.
 PYCRYPTODOME = Package("Cryptodome", """

@@ -54,10 +54,8 @@ static const int wkb_postgis20[1] = {0};
 #else
 #define IS(name, value) _Static_assert(name == value, #name)
 #endif
-IS(WKB_VERSION, 1000000);
+IS(WKB_VERSION, WKB_VERSION_MAJOR * 1000000 + WKB_VERSION_MINOR * 1000 + WKB_VERSION_PATCH);
 IS(WKB_VERSION_MAJOR, 1);
-IS(WKB_VERSION_MINOR, 0);
-IS(WKB_VERSION_PATCH, 0);
 IS(WKB_STATUS_OK, 0);
 IS(WKB_STATUS_NO_MEMORY, 1);
 IS(WKB_STATUS_NO_ROOM, 2);
