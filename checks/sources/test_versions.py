@@ -21,6 +21,9 @@ NAMED = [
     ("CHANGELOG.md", rf"\A(?:.*\n)*?## ({NUMBER})\n"),
     ("c/package/package.md", r"version\s([\d.]+)\sof\sthe\scalls"),
     ("c/package/package.md", rf"porchsorrel-wkb-c-({NUMBER})\.tar"),
+    ("docs/README.md", rf"\bwkb--({NUMBER})\.sql"),
+    ("docs/START_SQL.md", rf"\bwkb--({NUMBER})\.sql"),
+    ("docs/START_SQL.md", rf'version "({NUMBER})" of'),
     ("postgres/wkb.control", r"(?m)^default_version = '(.*)'$"),
     ("postgres/expected", r"(?m)^([\d.]+)\|23$"),
 ]
