@@ -1,0 +1,145 @@
+"""What is held when a process ends, when an interpreter ends, and when another one begins: each in a process of its
+own, in Python's development mode."""
+import os
+import pathlib
+import shutil
+import subprocess
+import sys
+import sysconfig
+import tempfile
+import textwrap
+import unittest
+
+# Programs that hold what a call has made, in a cycle that is there until the interpreter ends.
+BEGIN = """
+import gc, struct, sys, threading
+import porchsorrel_wkb as wkb
+class Holder: pass
+class Layer:
+    def __init__(self, **held): self.__dict__.update(held, on=self.redraw)
+    def redraw(self): pass
+point = struct.pack("<BIdd", 1, 1, 1.0, 2.0)
+"""
+HOLDERS = {
+    "object": "h = Holder(); h.me = h; h.z = wkb.bounds(point).z",
+    "list": "l = []; l.append(l); l.append(wkb.bounds(point).z)",
+    "method": "layer = Layer(extent=wkb.bounds(point), z=wkb.bounds(point).z)",
+    "dictionary": "layer = Layer(ranges={'z': wkb.bounds(point).z, 'm': wkb.bounds(point).m})",
+    "facts": "f = wkb.Column.of([point]).facts(); layer = Layer(z=f.box.z); del f",
+    "generator": "def g():\n    z = wkb.bounds(point).z\n    me = yield\n    yield z\nit = g(); next(it); it.send(it)",
+    "thread": "class Of(threading.Thread):\n    def run(self): self.z = wkb.bounds(point).z; self.me = self\n"
+              "layer = Of(); layer.start(); layer.join()",
+    "exception": "try:\n    z = wkb.bounds(point).z\n    raise ValueError(z)\n"
+                 "except ValueError as e:\n    kept = e; kept.me = kept\ndel z",
+    "module": "for _ in range(3):\n    h = Holder(); h.me = h; h.z = wkb.bounds(point).z; del h, wkb\n"
+              "    for name in [it for it in sys.modules if it.startswith('porchsorrel_wkb')]: del sys.modules[name]\n"
+              "    gc.collect()\n    import porchsorrel_wkb as wkb",
+    "records": "layer = Layer(of=[wkb.check(point), wkb.parts(point)[0], wkb.Column.of([b'']).fault(0)])",
+    "tables": "layer = Layer(of=[wkb.parts(point), wkb.Column.of([point]).found()])",
+    "arrays": "c = wkb.Column.of([point])\n"
+              "layer = Layer(of=[c.write().__arrow_c_array__(), wkb.Column.from_arrow(c.write())]); del c",
+}
+
+# A program in which Python begins and ends several times, with a sub-interpreter each time. Arrays that both have
+# handed out are released by a thread that holds no lock: at once, when both interpreters have ended, or when others are there.
+HOST = r"""
+#define PY_SSIZE_T_CLEAN
+#include <Python.h>
+#include <stdint.h>
+#include <string.h>
+struct Array {
+  int64_t length, null_count, offset, n_buffers, n_children;
+  const void **buffers;
+  struct Array **children, *dictionary;
+  void (*release)(struct Array *);
+  void *private_data;
+};
+static struct Array handed_out(const char *code) {
+  struct Array held = {0};
+  if (PyRun_SimpleString(code) < 0) return held;
+  PyObject *of = PyDict_GetItemString(PyModule_GetDict(PyImport_AddModule("__main__")), "out");
+  struct Array *it = PyCapsule_GetPointer(of, "arrow_array");
+  held = *it;
+  it->release = NULL;
+  return held;
+}
+static int end(struct Array *it) {
+  const char *bytes = it->buffers == NULL ? NULL : it->buffers[2];
+  int is_right = it->length == 3 && bytes != NULL && memcmp(bytes, "\1\1\0\0\0", 5) == 0;
+  if (it->release != NULL) it->release(it);
+  return is_right;
+}
+int main(int count, char **words) {
+  struct Array before[2] = {{0}, {0}};
+  int failures = 0;
+  for (int round = 0; round < 4; round++) {
+    struct Array held[2];
+    Py_Initialize();
+    PyThreadState *own = PyThreadState_Get();
+    held[0] = handed_out(words[2]);
+    PyThreadState *sub = Py_NewInterpreter();
+    held[1] = handed_out(words[2]);
+    PyThreadState *unlocked = PyEval_SaveThread();
+    for (int i = 0; i < 2 && words[1][0] == 'l' && round > 0; i++) failures += !end(&before[i]);
+    for (int i = 0; i < 2 && words[1][0] == 'n'; i++) failures += !end(&held[i]);
+    PyEval_RestoreThread(unlocked);
+    Py_EndInterpreter(sub);
+    PyThreadState_Swap(own);
+    if (Py_FinalizeEx() < 0) failures++;
+    for (int i = 0; i < 2 && words[1][0] == 'e'; i++) failures += !end(&held[i]);
+    memcpy(before, held, sizeof held);
+  }
+  return count == 3 ? failures : 99;
+}
+"""
+# numpy can't be imported a second time.
+INSIDE = """
+import sys
+sys.path[:0], sys.modules["numpy"] = {path!r}, None
+import porchsorrel_wkb as wkb
+point = bytes.fromhex("0101000000000000000000f03f0000000000000040")
+column = wkb.Column.of(3 * [point])
+out = column.write().__arrow_c_array__()[1]
+class Holder: pass
+holder = Holder()
+holder.me, holder.z, holder.column = holder, wkb.bounds(point).z, wkb.Column.from_arrow(column.write())
+holder.out = column.coordinates().__arrow_c_array__(), column.facts()
+"""
+ENVIRONMENT = dict(os.environ, PYTHONDEVMODE="1", PYTHONPATH=os.pathsep.join(filter(None, sys.path)))
+
+
+class Processes(unittest.TestCase):
+    def test_holders(self):
+        for before in ("", "import sys; sys.modules['numpy'] = None\n"):
+            for name, code in HOLDERS.items():
+                with self.subTest(name, before=before):
+                    ran = subprocess.run([sys.executable, "-c", before + BEGIN + code], env=ENVIRONMENT,
+                                         stderr=subprocess.PIPE, timeout=120)
+                    self.assertEqual((ran.returncode, ran.stderr.decode()), (0, ""))
+
+
+def host_in(folder):
+    """The program HOST, built with this Python; None where that has no library or this machine no compiler."""
+    compiler, known = shutil.which("cc"), sysconfig.get_config_vars()
+    library = os.path.join(known.get("LIBDIR") or "", known.get("LDLIBRARY") or "none")
+    headers = sysconfig.get_path("include")
+    if not compiler or not os.path.isfile(library) or not os.path.isfile(os.path.join(headers, "Python.h")):
+        return None
+    source, program = pathlib.Path(folder, "host.c"), os.path.join(folder, "host")
+    source.write_text(HOST)
+    subprocess.run([compiler, "-o", program, source, f"-I{headers}", library, "-lm", "-ldl", "-lpthread",
+                    f"-Wl,-rpath,{os.path.dirname(library)}"], check=True, stderr=subprocess.PIPE)
+    return program
+
+
+class Interpreters(unittest.TestCase):
+    def test_again(self):
+        with tempfile.TemporaryDirectory() as folder:
+            program = host_in(folder)
+            if program is None:
+                self.skipTest("there is no compiler, or no library of this Python")
+            code = textwrap.dedent(INSIDE.format(path=[it for it in sys.path if it]))
+            home = dict(ENVIRONMENT, PYTHONHOME=sys.base_prefix)
+            for when in ("now", "ended", "later", "kept"):
+                ran = subprocess.run([program, when, code], env=home, stderr=subprocess.PIPE, timeout=120)
+                self.assertEqual((ran.returncode, ran.stderr.decode()), (0, ""), when)
