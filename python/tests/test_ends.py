@@ -41,7 +41,8 @@ HOLDERS = {
 }
 
 # A program in which Python begins and ends several times, with a sub-interpreter each time. Arrays that both have
-# handed out are released by a thread that holds no lock: at once, when both interpreters have ended, or when others are there.
+# handed out are released by a thread that holds no lock: at once, when both interpreters have ended, or when others are
+# there.
 HOST = r"""
 #define PY_SSIZE_T_CLEAN
 #include <Python.h>

@@ -142,6 +142,19 @@ class GeoParquet(unittest.TestCase):
             "covering": {"bbox": {it: ["bbox", it] for it in ("xmin", "ymin", "zmin", "xmax", "ymax", "zmax")}}}})
         self.assertEqual(bounds, column.bounds())
 
+    def test_arcs(self):
+        """An arc between two ends isn't in their box."""
+        for kind in range(1, 8):
+            column = Column.of([POINT, geometry(kind)])
+            column.metadata = '{"edges": "spherical"}'
+            said = wkb.geoparquet(column).metadata["columns"]["geometry"]
+            if kind in (Kind.POINT, Kind.MULTI_POINT):
+                self.assertEqual(said["bbox"], [1.0, 2.0, 1.0, 2.0])
+                wkb.geoparquet(column, covering="bbox")
+            else:
+                self.assertNotIn("bbox", said)
+                self.assertRaisesRegex(ValueError, "arc leaves the box", wkb.geoparquet, column, covering="bbox")
+
     def test_each_type(self):
         names = "Point LineString Polygon MultiPoint MultiLineString MultiPolygon GeometryCollection".split()
         for kind, name in enumerate(names, 1):
@@ -152,7 +165,9 @@ class GeoParquet(unittest.TestCase):
     def test_without_coordinates(self):
         """There is no box unless there are numbers in x and in y."""
         x_alone, y_alone = (struct.pack("<BI2d", 1, 1, *words) for words in ((1, math.nan), (math.nan, 1)))
-        for rows in ([], [None], [EMPTY_POINT], [geometry(2)[:5] + bytes(4)], [x_alone], [y_alone]):
+        x_and_z, y_and_z = (struct.pack("<BI3d", 1, 1001, *words) for words in ((1, math.nan, 3), (math.nan, 1, 3)))
+        for rows in ([], [None], [EMPTY_POINT], [geometry(2)[:5] + bytes(4)], [x_alone], [y_alone], [x_and_z],
+                     [y_and_z]):
             self.assertNotIn("bbox", wkb.geoparquet(Column.of(rows)).metadata["columns"]["geometry"])
 
     def test_refused(self):

@@ -17,6 +17,8 @@ NAMES = {
     Kind.GEOMETRY_COLLECTION: "GeometryCollection",
 }
 SIGNS = {Dimension.XY: "", Dimension.XYZ: " Z"}
+# Kinds without edges.
+POINTS = Kind.POINT, Kind.MULTI_POINT
 
 
 class GeoParquet(NamedTuple):
@@ -37,6 +39,8 @@ def geoparquet(column: Column, name: str = "geometry", covering: Optional[str] =
     `covering` is the name of a second column, of the bounds of each row. The CRS is that of `column.metadata`; where
     that has none, the file says that none is known. A null row counts as none. Raise `ValueError` where the file would
     not be GeoParquet: a row is rejected, has an m, is EWKB or has bytes behind its geometry, or the CRS isn't PROJJSON.
+    Where edges are spherical, lines and polygons may leave the boxes of their coordinates: then nothing is said of
+    bounds, and a covering is a `ValueError`.
     """
     facts = column.facts()
     _expect_rows(column, facts)
@@ -45,8 +49,11 @@ def geoparquet(column: Column, name: str = "geometry", covering: Optional[str] =
         "geometry_types": [NAMES[kind] + SIGNS[dimension] for kind, dimension in facts.types],
         **_crs_of(column.metadata),
     }
-    ranges = [it for it in (facts.box.x, facts.box.y, facts.box.z) if it.count]
-    if len(ranges) >= 2:
+    ranges = [facts.box.x, facts.box.y] + [facts.box.z] * bool(facts.box.z.count)
+    has_arcs = about.get("edges") == "spherical" and any(kind not in POINTS for kind, _ in facts.types)
+    if has_arcs and covering is not None:
+        raise ValueError("edges are spherical, and an arc leaves the box of its ends: lines have no covering")
+    if all(it.count for it in ranges) and not has_arcs:
         about["bbox"] = [it.least for it in ranges] + [it.greatest for it in ranges]
     if covering is not None:
         axes = "xy" + "z" * bool(facts.box.z.count)
