@@ -43,15 +43,26 @@ class Split(unittest.TestCase):
         header, order = Fault(0, 0, 0, 0, 0, Status.SHORT_HEADER), Fault(0, 0, 0, 0, 0, Status.INVALID_BYTE_ORDER)
         point, ring = Fault(0, 0, 21, 20, 0, Status.SHORT_POINT), Fault(1, 13, 20, 19, 0, Status.SHORT_LINEAR_RING)
         rows = [POINT, None, b"", POLYGON, b"\2", POINT[:-1], POLYGON[:-1], POINT + b"\0"]
-        faults = [None, None, header, None, order, point, ring, None]
-        self.assertEqual([Column.of(rows).fault(i) for i in range(8)], faults)
-        self.assertEqual([Column.of(rows).fault(i) for i in range(-8, 0)], faults)
-        self.assertEqual([Column.of([None, *rows]).split(9)[i + 1].fault(0) for i in range(8)], faults)
-        self.assertEqual([Column.from_arrow(Arrow(rows=rows)).fault(i) for i in range(8)], faults)
+        faults = {2: header, 4: order, 5: point, 6: ring}
+        self.assertEqual(Column.of(rows).faults(), faults)
+        self.assertEqual([Column.of([None, *rows]).split(9)[i + 1].faults().get(0) for i in range(8)],
+                         [faults.get(i) for i in range(8)])
+        self.assertEqual(Column.from_arrow(Arrow(rows=rows)).faults(), faults)
         self.assertEqual(str(point), "the input ends inside a point, at byte 0 (part 0): it needs 21 bytes and has 20")
-        self.assertIsNone(Column(POINT, array.array("q", [0, 99])).fault(0))
-        for row in (8, -9):
-            self.assertRaises(IndexError, Column.of(rows).fault, row)
+        for data, offsets in ((POINT, [0, 99]), (bytes(range(20)), [0, 10, 5, 20])):
+            column = Column(data, array.array("q", offsets))
+            self.assertEqual([*column.faults()], [i for i, it in enumerate(column.check()) if it >= 32])
+        self.assertEqual([*column.check()], [Status.CODE_OUT_OF_RANGE, Status.BAD_OFFSETS, Status.BAD_OFFSETS])
+
+    def test_slices(self):
+        column = Column.of([POINT, None, LINE, b"", POLYGON])
+        for some in (slice(1, 3), slice(None), slice(-2, None), slice(3, 1), slice(9, 99), slice(0, 0)):
+            self.assertEqual(statuses(column[some]), statuses(column)[some])
+            self.assertEqual(list(column[some].write().rows), list(column.write().rows)[some])
+        self.assertEqual(statuses(column[1:][1:][:2]), statuses(column)[2:4])
+        self.assertRaisesRegex(ValueError, "every 2", lambda: column[::2])
+        for wrong in (lambda: column[0], lambda: list(column), lambda: column["a"]):
+            self.assertRaisesRegex(TypeError, "column of one", wrong)
 
     def test_memory(self):
         """The columns share the memory of an array of Arrow, which lives as long as one of them."""

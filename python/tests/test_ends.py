@@ -34,7 +34,7 @@ HOLDERS = {
     "module": "for _ in range(3):\n    h = Holder(); h.me = h; h.z = wkb.bounds(point).z; del h, wkb\n"
               "    for name in [it for it in sys.modules if it.startswith('porchsorrel_wkb')]: del sys.modules[name]\n"
               "    gc.collect()\n    import porchsorrel_wkb as wkb",
-    "records": "layer = Layer(of=[wkb.check(point), wkb.parts(point)[0], wkb.Column.of([b'']).fault(0)])",
+    "records": "layer = Layer(of=[wkb.check(point), wkb.parts(point)[0], *wkb.Column.of([b'']).faults().values()])",
     "tables": "layer = Layer(of=[wkb.parts(point), wkb.Column.of([point]).found()])",
     "arrays": "c = wkb.Column.of([point])\n"
               "layer = Layer(of=[c.write().__arrow_c_array__(), wkb.Column.from_arrow(c.write())]); del c",
@@ -104,7 +104,7 @@ out = column.write().__arrow_c_array__()[1]
 class Holder: pass
 holder = Holder()
 holder.me, holder.z, holder.column = holder, wkb.bounds(point).z, wkb.Column.from_arrow(column.write())
-holder.out = column.coordinates().__arrow_c_array__(), column.facts()
+holder.out = column.coordinates().__arrow_c_array__(), column.faults(), column.facts()
 """
 ENVIRONMENT = dict(os.environ, PYTHONDEVMODE="1", PYTHONPATH=os.pathsep.join(filter(None, sys.path)))
 

@@ -34,7 +34,7 @@ class Results(unittest.TestCase):
     # Of each call the bytes of its results that are not to be shorter.
     NEEDED = {_columns.CHECK: (0, 0, 2), _columns.BOUNDS: (2 * 96, 0, 2), _columns.PARTS: (0, 24, 2),
               _columns.WRITE: (0, 24, 2), _columns.KINDS: (0, 0, 2), _columns.COLLECT: (0, 40, 0),
-              _columns.FIND: (2 * 64, 0, 2)}
+              _columns.FIND: (2 * 64, 0, 2), _columns.FAULTS: (0, 0, 2)}
 
     def test_column(self):
         for call, sizes in self.NEEDED.items():
@@ -50,10 +50,18 @@ class Results(unittest.TestCase):
                     results[i] = bytes(size)
                     self.assertRaises(BufferError, column, call, *results)
 
-    def test_fault(self):
-        """A column without its row."""
-        for offsets, validity, rows in ((OFFSETS, None, 0), (OFFSETS[:1], None, 1), (OFFSETS, b"", 1)):
-            self.assertRaises(ValueError, _wkb.fault, (POINT, offsets, validity, 8, 0, rows))
+    def test_faults(self):
+        """As many as there is room for, and none of a row that isn't in the data, or is OK."""
+        one = wkb.Fault.LAYOUT.size
+        both = b"\x21\x21"
+        for statuses, size, offsets, count in (
+            (both, 2 * one, [0, 20, 41], 2), (both, 2 * one - 1, [0, 20, 41], 1), (b"\0\x21", one, [0, 20, 41], 1),
+            (b"\x11\x10", one, [0, 20, 41], 0), (both, 2 * one, [0, 21, 42], 0), (both, one, [0, 99, 99], 0),
+            (both, one, [-9, 9, 9], 0), (both, one, [9, 0, 9], 0),
+        ):
+            of = 2 * POINT, array.array("q", offsets), None, 8, 0, 2
+            with self.subTest((statuses, size, offsets)):
+                self.assertEqual(column(_columns.FAULTS, room(size), None, bytearray(statuses), of=of), count)
 
     def test_coordinates(self):
         sizes = 32, 24, 24, 24, 2

@@ -71,7 +71,7 @@ CALLS = {
     "a refusal": lambda: wkb.check(POLYGON[:-1]),
     "a blob of a GeoPackage": lambda: wkb.check(b"GP\0\1" + bytes(4) + POINT),
     "well formed": lambda: wkb.well_formed(LONG),
-    "why rows are rejected": lambda: [COLUMN.fault(i) for i in range(5)],
+    "why rows are rejected": lambda: COLUMN.faults(),
     "bounds": lambda: wkb.bounds(LINE),
     "write": lambda: wkb.write(POLYGON),
     "write with an SRID": lambda: wkb.write(POLYGON, srid=7),

@@ -24,7 +24,7 @@ def seconds(call):
 
 
 class Offsets(unittest.TestCase):
-    CALLS = (Column.check, Column.bounds, Column.parts, Column.write, Column.coordinates,
+    CALLS = (Column.check, Column.faults, Column.bounds, Column.parts, Column.write, Column.coordinates,
              lambda column: column.coordinates(Dimension.XYZM))
 
     def limits(self):

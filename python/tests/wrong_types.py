@@ -71,5 +71,5 @@ def right(data: bytes, mapped: mmap.mmap, rows: List[Optional[bytes]]) -> List[w
     wkb.check(wkb.collect(wkb.Column.of(rows), wkb.Kind.MULTI_POINT, wkb.Dimension.XYZ, srid=4326))
     wkb.write(data, srid=4326)
     wkb.Facts.joined(map(wkb.Column.facts, wkb.Column.of(rows).split(2)))
-    print(wkb.well_formed(data), [str(wkb.Column.of(rows).fault(0))])
+    print(wkb.well_formed(data), [str(wkb.Column.of(rows)[:1].faults()[0])])
     return [wkb.check(data), wkb.check(mapped)]

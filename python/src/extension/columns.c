@@ -75,10 +75,26 @@ static size_t kinds_of(const wkb_column *column, const uint8_t *statuses) {
   return kinds;
 }
 
+/* Why the rows are rejected whose statuses, of an earlier call, say so: a fault for each, in their order, as far as
+ * there is room. Returns how many these are. */
+static size_t faults_of(const wkb_column *column, const uint8_t *statuses, span out) {
+  wkb_found found;
+  wkb_fault fault;
+  size_t count = 0;
+  for (size_t i = 0; i < column->rows && count < out.size / sizeof fault; i++) {
+    if (!wkb_status_is_refusal(statuses[i])) continue;
+    int64_t begin = offset_at(column, i), end = offset_at(column, i + 1);
+    if (begin < 0 || end < begin || (uint64_t)end > column->size) break; /* it was another row when it was read */
+    if (wkb_check((const uint8_t *)column->data + begin, (size_t)(end - begin), &found, &fault) == WKB_STATUS_OK) break;
+    memcpy(out.at + count++ * sizeof fault, &fault, sizeof fault);
+  }
+  return count;
+}
+
 /* A call for a column of rows, with memory for a result, for offsets that begin with 0, and for statuses. A collection
  * of a kind and a dimension has a fault in the place of offsets, with its status, and returns the row that is rejected.
  */
-enum { CHECK, BOUNDS, PARTS, WRITE, ROOM, ROW_KINDS, COLLECT, FIND };
+enum { CHECK, BOUNDS, PARTS, WRITE, ROOM, ROW_KINDS, COLLECT, FIND, FAULTS };
 static size_t run(int call, const wkb_column *column, const wkb_options *options, const span *out, const uint32_t *of) {
   wkb_fault *fault = (wkb_fault *)(void *)out[1].at;
   uint64_t *ends = (uint64_t *)(void *)out[1].at + 1;
@@ -91,6 +107,7 @@ static size_t run(int call, const wkb_column *column, const wkb_options *options
     case PARTS: return wkb_column_parts(column, table, out[0].size / sizeof(wkb_part), ends, statuses);
     case WRITE: return wkb_column_write(column, options, out[0].at, out[0].size, ends, statuses);
     case ROOM: return room_of(column);
+    case FAULTS: return faults_of(column, statuses, out[0]);
     case FIND: wkb_column_found(column, (wkb_found *)(void *)out[0].at, statuses); return 0;
     case COLLECT:
       fault->status = wkb_collect(column, of[0], of[1], options, out[0].at, out[0].size, &size, fault, &row);
@@ -127,35 +144,6 @@ static PyObject *column_call(PyObject *module, PyObject *args) {
   }
   let(&h);
   return size;
-}
-
-/* Whether the only row of a column is rejected, and why. */
-static int is_rejected(const wkb_column *column, wkb_fault *fault) {
-  wkb_found found;
-  uint8_t status;
-  wkb_column_check(column, &status);
-  int64_t begin = offset_at(column, 0), end = offset_at(column, 1);
-  if (!wkb_status_is_refusal(status) || begin < 0 || end < begin || (uint64_t)end > column->size) return 0;
-  const uint8_t *row = (const uint8_t *)column->data + begin;
-  return wkb_check(row, (size_t)(end - begin), &found, fault) != WKB_STATUS_OK;
-}
-
-/* fault(column): why its only row is rejected; None if it isn't. */
-static PyObject *fault_of_row(PyObject *module, PyObject *args) {
-  PyObject *given, *result = NULL;
-  holds h;
-  wkb_column column;
-  wkb_fault fault;
-  h.count = h.may_change = 0;
-  if (!PyArg_ParseTuple(args, "O!", &PyTuple_Type, &given)) return NULL;
-  if (hold_column(&h, given, &column) == 0 && expect("rows", column.rows, 1, 1) == 0) {
-    PyThreadState *unlocked = unlock(&h, SIZE_MAX);
-    int is_there = is_rejected(&column, &fault);
-    lock(unlocked);
-    result = is_there ? fault_of(state_of(module), &fault) : Py_NewRef(Py_None);
-  }
-  let(&h);
-  return result;
 }
 
 /* The ends of a level, behind offset 0, and how many there is room for. */
@@ -257,7 +245,6 @@ static PyObject *column_from_coordinates(PyObject *module, PyObject *args) {
 
 PyMethodDef COLUMN_CALLS[] = {
     {"column", column_call, METH_VARARGS, NULL},
-    {"fault", fault_of_row, METH_VARARGS, NULL},
     {"column_coordinates", column_coordinates, METH_VARARGS, NULL},
     {"column_from_coordinates", column_from_coordinates, METH_VARARGS, NULL},
     {NULL, NULL, 0, NULL},

@@ -24,8 +24,8 @@ A column of geometries, in one piece of memory as Arrow has it::
     column.check(), .found(), .bounds(), .write([order, form, srid]), .parts(), .coordinates([dimension])
                                     results for all rows, and a Status for each; no row stops a call
     column.facts(), .metadata       the types, SRIDs and bounds of all rows; the CRS, as GeoArrow has it
-    column.fault(row)               why a row is rejected, and at which byte
-    column.split(count)             columns over the same memory, for a thread each
+    column.faults()                 why rows are rejected, and at which byte: a Fault for each such row, by its index
+    column[first:end], column.split(count)  columns over the same memory, for a thread each
     Facts.joined(several)           the facts of several columns together
     geoparquet(column[, name, covering])  what a file of GeoParquet says of it
     collect(column, kind[, dimension, order, form, srid])

@@ -8,13 +8,13 @@ from . import _wkb
 from ._arrow import ArrowArray, ArrowStream, chunks_of_arrow, pieces_of_arrow
 from ._buffers import Buffer, Numbers, has_numpy, less_the_least, new_numbers, new_offsets, shortened, view_of
 from ._calls import Refused, make_options
-from ._enums import Dimension, Form, Kind, Order, Status
+from ._enums import Dimension, Form, Kind, Order, Status, is_refusal
 from ._records import Box, Fault, Found, Part, Table
 from ._results import ColumnBounds, ColumnCoordinates, ColumnEncodings, ColumnFound, ColumnParts, Facts
 from ._rows import Pieces, object_of, pieces_of
 
 # The calls of `_wkb.column`.
-CHECK, BOUNDS, PARTS, WRITE, ROOM, KINDS, COLLECT, FIND = range(8)
+CHECK, BOUNDS, PARTS, WRITE, ROOM, KINDS, COLLECT, FIND, FAULTS = range(9)
 NO_OPTIONS, NO_RESULTS = (0, 0, 0), (None, None, None)
 # An encoding may be four bytes longer than its row: an SRID.
 SRID_SIZE = 4
@@ -158,8 +158,23 @@ class Column:
     def __repr__(self) -> str:
         return f"<column of {self._rows} rows>"
 
+    def __getitem__(self, rows: slice) -> "Column":
+        """Return a column of some rows, one after another, over the memory of this one.
+
+        Whether a row has bad offsets depends on those of the rows before it: of a slice, of the rows in it alone.
+        """
+        if not isinstance(rows, slice):
+            raise TypeError("a column has no objects for its rows: column[i : i + 1] is a column of one, and "
+                            "column.write().rows has the encodings of all as bytes")
+        first, end, step = rows.indices(self._rows)
+        if step != 1:
+            raise ValueError(f"the rows of a slice are one after another, and not every {step}")
+        column = Column.__new__(Column)
+        column.__dict__.update(self.__dict__, _first=self._first + first, _rows=max(end - first, 0))
+        return column
+
     def split(self, count: int) -> List["Column"]:
-        """Return so many columns, one after another, of about as many rows each, over the memory of this one.
+        """Return so many slices, one after another, of about as many rows each.
 
         Each may be read by a thread of its own: `list(pool.map(Column.check, column.split(4)))`. They run side by side
         where the memory is read-only, as `help` of the package says.
@@ -167,12 +182,7 @@ class Column:
         if count < 1:
             raise ValueError(f"a column is split into one or more, and not into {count}")
         ends = [self._rows * i // count for i in range(count + 1)]
-        columns = []
-        for first, end in zip(ends, ends[1:]):
-            column = Column.__new__(Column)
-            column.__dict__.update(self.__dict__, _first=self._first + first, _rows=end - first)
-            columns.append(column)
-        return columns
+        return [self[first:end] for first, end in zip(ends, ends[1:])]
 
     @property
     def metadata(self) -> Optional[str]:
@@ -205,10 +215,16 @@ class Column:
         _wkb.column(CHECK, self._arguments(), NO_OPTIONS, (None, None, statuses))
         return statuses
 
-    def fault(self, row: int) -> Optional[Fault]:
-        """Return why a row is rejected, bytes counted from its first; None if it is OK, null, or has bad offsets."""
-        data, offsets, validity, size, first, rows = self._arguments()
-        return _wkb.fault((data, offsets, validity, size, first + range(rows)[row], 1))
+    def faults(self) -> Dict[int, Fault]:
+        """Return why rows are rejected, by their indices, with bytes counted from the first of the row.
+
+        A row that is OK, null, or has bad offsets is not in it.
+        """
+        statuses = self.check()
+        rows = [i for i, status in enumerate(bytes(view_of(statuses))) if is_refusal(status)]
+        table = new_numbers("u1", len(rows) * Fault.LAYOUT.size)
+        expect_same(_wkb.column(FAULTS, self._arguments(), NO_OPTIONS, (table, None, statuses)) == len(rows))
+        return dict(zip(rows, Table(Fault, table)))
 
     def bounds(self) -> ColumnBounds:
         """Return the bounds of each row."""

@@ -68,7 +68,7 @@ def _expect_rows(column: Column, facts: Facts) -> None:
     statuses, offsets, table = column.parts()
     for i, status in enumerate(bytes(statuses) if facts.refused else b""):
         if status not in (Status.OK, Status.NULL_ROW):
-            raise ValueError(f"row {i} is rejected: {column.fault(i) or _wkb.status_text(status)}")
+            raise ValueError(f"row {i} is rejected: {column.faults().get(i) or _wkb.status_text(status)}")
     for i, found in enumerate(column.found().found if facts.srids - {None} else ()):
         if found.srid is not None:
             raise ValueError(f"row {i} has SRID {found.srid}, and GeoParquet takes none: {WAY_OUT}")

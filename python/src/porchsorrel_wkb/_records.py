@@ -190,7 +190,7 @@ def _shown(value: Any) -> str:
     return value.name if isinstance(value, enum.Enum) else str(value)
 
 
-Record = TypeVar("Record", Found, Part, Box)
+Record = TypeVar("Record", Found, Fault, Part, Box)
 
 
 class Table(_wkb.TableValues, Sequence[Record]):
