@@ -241,6 +241,18 @@ class Calls(unittest.TestCase):
         self.assertLess(sys.getallocatedblocks() - before, 1_000)
         self.assertEqual((len(table), table[0].next, table[count].end), (count + 1, count + 1, 9 * count + 9))
 
+    def test_geometries(self):
+        """An object with an attribute wkb, as shapely's geometries, is told where its bytes are; it is not asked."""
+        class Geometry:
+            @property
+            def wkb(self):
+                raise AssertionError
+
+        calls = wkb.check, wkb.bounds, wkb.parts, wkb.write, lambda it: wkb.same(POINT, it)
+        for call in (*calls, lambda it: wkb.Column.of([it])):
+            self.assertRaisesRegex(TypeError, "attribute wkb has the bytes", call, Geometry())
+            self.assertRaisesRegex(TypeError, "bytes", call, 1)
+
 
 class Records(unittest.TestCase):
     ALL = wkb.check(POLYGON), wkb.parts(POLYGON)[1], wkb.bounds(LINE), wkb.bounds(LINE).x

@@ -5,6 +5,17 @@
 /* An input is long from so many bytes on: the lock is given back during a call over it. */
 enum { LONG = 1 << 14 };
 
+/* Says where the bytes are of an object with an attribute wkb, as shapely has it; else its error stays. */
+static void hint_at_wkb(PyObject *data) {
+  PyObject *error[3];
+  PyErr_Fetch(&error[0], &error[1], &error[2]);
+  int has_wkb = PyObject_HasAttrString((PyObject *)Py_TYPE(data), "wkb");
+  PyErr_Restore(error[0], error[1], error[2]);
+  if (has_wkb)
+    PyErr_Format(PyExc_TypeError, "a bytes-like object is required, and not %R: its attribute wkb has the bytes",
+                 (PyObject *)Py_TYPE(data));
+}
+
 /* Replaces the error that there are no bytes in one piece by a copy of them, if that is the error. */
 static int hold_copy(PyObject *data, Py_buffer *out) {
   if (PyUnicode_Check(data)) {
@@ -13,7 +24,10 @@ static int hold_copy(PyObject *data, Py_buffer *out) {
     return -1;
   }
   /* ValueError is numpy's. */
-  if (!PyErr_ExceptionMatches(PyExc_BufferError) && !PyErr_ExceptionMatches(PyExc_ValueError)) return -1;
+  if (!PyErr_ExceptionMatches(PyExc_BufferError) && !PyErr_ExceptionMatches(PyExc_ValueError)) {
+    if (PyErr_ExceptionMatches(PyExc_TypeError)) hint_at_wkb(data);
+    return -1;
+  }
   PyErr_Clear();
   PyObject *view = PyMemoryView_FromObject(data);
   if (view == NULL) return -1;

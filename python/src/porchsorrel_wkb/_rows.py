@@ -25,6 +25,7 @@ def _bytes_of_row(i: int, row: Any) -> bytes:
         return bytes(view_of(row))
     except TypeError:
         hint = "; bytes.fromhex(text) makes bytes of hexadecimal text" if isinstance(row, str) else ""
+        hint = "; its attribute wkb has the bytes" if hasattr(type(row), "wkb") else hint
         raise TypeError(f"row {i} is of type {type(row).__name__}, and neither bytes nor None{hint}") from None
 
 
