@@ -126,6 +126,7 @@ static PyObject *range_of(state *s, const wkb_range *r) {
   it->value[2] = PyLong_FromLongLong((int64_t)r->count);
   PyObject *made = whole(it, 3);
   if (made == NULL || r->count > 0 || !(r->least > r->greatest)) return made;
+  it->home = NULL; /* the collector may end the module, and its state, before this one */
   PyObject_GC_Track(made);
   return s->it[EMPTY_RANGE] = Py_NewRef(made);
 }
