@@ -15,6 +15,7 @@ typedef struct inside {
   const void *buffers[MOST_BUFFERS];
   PyObject *node;
   int64_t interpreter; /* 0 is the main one */
+  uint64_t maker;      /* the module that handed it out: numbers of interpreters come again after Py_Finalize */
   struct inside *next; /* in the list `parked` */
   Py_ssize_t count;
   void *children[MOST_CHILDREN];
@@ -38,11 +39,11 @@ static void park(inside *own) {
   while (!atomic_compare_exchange_weak(&parked, &own->next, own)) {}
 }
 
-static void forget_parked(int64_t interpreter) {
+static void forget_parked(uint64_t maker) {
   inside *it = atomic_exchange(&parked, NULL);
   while (it != NULL) {
     inside *next = it->next;
-    if (it->interpreter == interpreter)
+    if (it->maker == maker)
       forget(it);
     else
       park(it);
@@ -159,7 +160,7 @@ static int find_buffers(const char *format, int64_t rows, PyObject *views, PyObj
 }
 
 /* What is behind the struct of a node; null with an error. */
-static inside *new_inside(PyObject *node, PyObject *children) {
+static inside *new_inside(PyObject *node, PyObject *children, uint64_t maker) {
   Py_ssize_t count = PyTuple_Size(children);
   if (count > MOST_CHILDREN) {
     PyErr_Format(PyExc_ValueError, "an array can't have %zd children", count);
@@ -172,6 +173,7 @@ static inside *new_inside(PyObject *node, PyObject *children) {
   }
   own->node = Py_NewRef(node);
   own->interpreter = PyInterpreterState_GetID(PyInterpreterState_Get());
+  own->maker = maker;
   own->count = count;
   for (Py_ssize_t i = 0; i < count; i++) own->children[i] = &own->child[i];
   return own;
@@ -179,7 +181,7 @@ static inside *new_inside(PyObject *node, PyObject *children) {
 
 /* Fills a schema or an array from (format, name, metadata or None, flags, length, nulls, views of buffers, children).
  * On failure there is nothing to release. */
-static int fill(int kind, PyObject *node, void *out) {
+static int fill(int kind, PyObject *node, uint64_t maker, void *out) {
   const char *format, *name, *metadata;
   Py_ssize_t metadata_size;
   long long flags, length, nulls;
@@ -187,7 +189,7 @@ static int fill(int kind, PyObject *node, void *out) {
   if (!PyArg_ParseTuple(node, "yyz#LLLO!O!", &format, &name, &metadata, &metadata_size, &flags, &length, &nulls,
                         &PyTuple_Type, &views, &PyTuple_Type, &children))
     return -1;
-  inside *own = new_inside(node, children);
+  inside *own = new_inside(node, children, maker);
   if (own == NULL) return -1;
   struct ArrowSchema schema = {
       format, name, metadata, flags, own->count, (struct ArrowSchema **)own->children, NULL, release_schema, own};
@@ -198,7 +200,7 @@ static int fill(int kind, PyObject *node, void *out) {
   array.children = (struct ArrowArray **)own->children;
   int result = kind == SCHEMA ? 0 : find_buffers(format, length, views, children, own);
   for (Py_ssize_t i = 0; result == 0 && i < own->count; i++)
-    result = fill(kind, PyTuple_GetItem(children, i), &own->child[i]);
+    result = fill(kind, PyTuple_GetItem(children, i), maker, &own->child[i]);
   memcpy(out, kind == SCHEMA ? (void *)&schema : (void *)&array, kind == SCHEMA ? sizeof schema : sizeof array);
   if (result < 0) end_own(kind, out);
   return result;
@@ -210,9 +212,10 @@ static PyObject *export(PyObject *module, PyObject *args) {
   int is_array;
   if (!PyArg_ParseTuple(args, "O!p", &PyTuple_Type, &node, &is_array)) return NULL;
   int kind = is_array ? ARRAY : SCHEMA;
-  forget_parked(PyInterpreterState_GetID(PyInterpreterState_Get()));
+  uint64_t maker = state_of(module)->number;
+  forget_parked(maker);
   PyObject *capsule = new_struct(NULL, kind);
-  if (capsule != NULL && fill(kind, node, PyCapsule_GetPointer(capsule, STRUCT_NAMES[kind])) < 0) Py_CLEAR(capsule);
+  if (capsule != NULL && fill(kind, node, maker, PyCapsule_GetPointer(capsule, STRUCT_NAMES[kind])) < 0) Py_CLEAR(capsule);
   return capsule;
 }
 

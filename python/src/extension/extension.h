@@ -22,6 +22,7 @@ typedef struct {
   PyObject *it[HELD];
   PyObject *spare[MOST_SPARES]; /* memory of records that were freed, for the next ones */
   int spares;
+  uint64_t number; /* of this module among all that this process has made */
 } state;
 
 /* Some bytes. */

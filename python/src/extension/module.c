@@ -1,5 +1,7 @@
 /* SPDX-License-Identifier: MIT OR Apache-2.0 */
 /* The module `porchsorrel_wkb._wkb`: its calls, and what it gets of the package. */
+#include <stdatomic.h>
+
 #include "extension.h"
 
 /* Whether the records of a type lie in memory as those of the type that it inherits: behind a header of the collector,
@@ -43,6 +45,8 @@ static PyObject *give(PyObject *module, PyObject *args) {
 static PyMethodDef METHODS[] = {{"give", give, METH_VARARGS, NULL}, {NULL, NULL, 0, NULL}};
 
 static int start(PyObject *module) {
+  static _Atomic uint64_t made;
+  state_of(module)->number = atomic_fetch_add(&made, 1) + 1;
   PyMethodDef *const calls[] = {CALLS,       COLUMN_CALLS,    FACT_CALLS, ROW_CALLS,
                                 ARROW_CALLS, ARROW_OUT_CALLS, DUMP_CALLS, NULL};
   for (int i = 0; calls[i] != NULL; i++)
