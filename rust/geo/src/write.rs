@@ -61,12 +61,28 @@ pub fn geometry_size(geometry: &impl GeometryTrait<T = f64>, options: &Options) 
 }
 
 fn encoded(geometry: &impl GeometryTrait<T = f64>, options: &Options, depth: usize) -> Done<Vec<u8>> {
+    let mut out = Vec::new();
+    append(geometry, options, depth, &mut out)?;
+    Ok(out)
+}
+
+/// Appends the encoding of a geometry. A collection's is its head, and then those of its members, which have no SRID.
+fn append(geometry: &impl GeometryTrait<T = f64>, options: &Options, depth: usize, out: &mut Vec<u8>) -> Done {
     if let GeometryType::GeometryCollection(all) = geometry.as_type() {
         let dimension = dimension_of_collection(geometry, depth)?;
-        let members: Vec<_> = all.geometries().map(|it| encoded(&it, options, depth + 1)).collect::<Done<_>>()?;
-        let rows = Rows::of(members.iter().map(Some));
-        let collected = rows.column().collect(Kind::GeometryCollection, dimension, options);
-        return collected.map_err(|why: NotCollected| NotWritten::Refused(why.status()));
+        let empty = Rows::of::<&[u8]>([]);
+        let head = empty.column().collect(Kind::GeometryCollection, dimension, options);
+        out.extend(head.map_err(|why: NotCollected| NotWritten::Refused(why.status()))?);
+        let (behind, mut count) = (out.len(), 0_u32);
+        let form = if options.form == Form::Iso { Form::Iso } else { Form::EwkbWithoutSrid };
+        let of_members = Options { form, ..*options };
+        for it in all.geometries() {
+            append(&it, &of_members, depth + 1, out)?;
+            count = count.checked_add(1).ok_or(NotWritten::Refused(Status::TOO_MANY_ROWS))?;
+        }
+        let is_big = options.order == porchsorrel_wkb::Order::BigEndian;
+        out[behind - 4..behind].copy_from_slice(&if is_big { count.to_be_bytes() } else { count.to_le_bytes() });
+        return Ok(());
     }
     let mut lists = Lists::default();
     let (kind, dimension) = levels(geometry, &mut lists)?;
@@ -79,7 +95,8 @@ fn encoded(geometry: &impl GeometryTrait<T = f64>, options: &Options, depth: usi
     };
     let made = levels.encode(kind, dimension, options);
     if made.statuses[0].is_ok() {
-        Ok(made.data)
+        out.extend(made.data);
+        Ok(())
     } else {
         Err(NotWritten::Refused(made.statuses[0]))
     }
