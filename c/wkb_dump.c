@@ -132,7 +132,8 @@ static void put_left_out(dump *it, uint64_t count, const char *what) {
 
 /* Returns how many items of a list are shown if some are left out; 0 for all. */
 static uint64_t most_items(const dump *it) {
-  return it->is_full && it->options.items == 0 ? WKB_DUMP_ITEMS : it->options.items;
+  uint32_t items = it->options.items;
+  return it->is_full && (items == 0 || items > WKB_DUMP_ITEMS) ? WKB_DUMP_ITEMS : items;
 }
 
 static bool is_left_out(const dump *it, uint64_t item, uint64_t count) {
