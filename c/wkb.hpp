@@ -39,6 +39,13 @@ namespace wkb {
 // The bytes of an input. For a vector of another byte type this is std::as_bytes(std::span(vector)).
 using bytes = std::span<const std::byte>;
 
+// Tells clang that a result refers to an argument or to the object, so that it warns of results that outlive it.
+#ifdef __clang__
+#define WKB_LIFETIMEBOUND [[clang::lifetimebound]]
+#else
+#define WKB_LIFETIMEBOUND
+#endif
+
 namespace detail {
 
 // Returns whether a call succeeded. If not, FAULT becomes FOUND, unless it is null: the first error of a rejected
@@ -275,7 +282,7 @@ inline part::iterator part::end() const noexcept { return {input_, table_, table
 class reader {
  public:
   // Returns the input's geometry, or nothing if it is rejected. FAULT then says why, unless it is null.
-  [[nodiscard]] std::optional<part> try_read(bytes input, wkb_fault *fault = nullptr) {
+  [[nodiscard]] std::optional<part> try_read(bytes input WKB_LIFETIMEBOUND, wkb_fault *fault = nullptr) WKB_LIFETIMEBOUND {
     count_ = 0;
     std::size_t count = 0;
     wkb_fault found{};
@@ -294,7 +301,7 @@ class reader {
 
 #ifdef __cpp_exceptions
   // Returns the input's geometry. Throws refused.
-  part read(bytes input) {
+  part read(bytes input WKB_LIFETIMEBOUND) WKB_LIFETIMEBOUND {
     wkb_fault fault;
     const auto whole = try_read(input, &fault);
     if (!whole) throw refused(fault);
@@ -303,7 +310,7 @@ class reader {
 #endif
 
   // The table of the input that was read last, in preorder; empty if that was rejected, and in a reader moved from.
-  std::span<const wkb_part> table() const noexcept { return {table_.data(), std::min(count_, table_.size())}; }
+  std::span<const wkb_part> table() const noexcept WKB_LIFETIMEBOUND { return {table_.data(), std::min(count_, table_.size())}; }
 
  private:
   std::vector<wkb_part> table_;
@@ -496,6 +503,7 @@ struct levels {
 }
 
 }  // namespace wkb
+#undef WKB_LIFETIMEBOUND
 
 template <>
 inline constexpr bool std::ranges::enable_borrowed_range<wkb::part> = true;
