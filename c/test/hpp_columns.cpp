@@ -13,7 +13,7 @@ concept is_offset = requires(std::span<const Offset> offsets) { wkb::column(wkb:
 static_assert(is_offset<std::int32_t> && is_offset<std::int64_t>);
 static_assert(!is_offset<std::uint32_t> && !is_offset<std::uint64_t> && !is_offset<std::int16_t>);
 
-constexpr std::size_t FIRST_BIT = 3;
+constexpr std::size_t FIRST_BIT = 11;
 const wkb_options BIG_EWKB{WKB_ORDER_BIG, WKB_FORM_EWKB_WITH_SRID, 7};
 
 std::vector<std::byte> big_ewkb(const shape &it, wkb_dim dimension) {
@@ -21,9 +21,10 @@ std::vector<std::byte> big_ewkb(const shape &it, wkb_dim dimension) {
 }
 
 // Validity bits of rows of which one is null, or none if there is no such row.
-std::array<std::uint8_t, 2> all_but(std::size_t null_row) {
-  const unsigned bits = 0xffffu & ~(1u << (FIRST_BIT + null_row));
-  return {static_cast<std::uint8_t>(bits), static_cast<std::uint8_t>(bits >> 8)};
+std::array<std::uint8_t, 4> all_but(std::size_t null_row) {
+  const std::uint32_t bits = ~(1u << (FIRST_BIT + null_row));
+  return {static_cast<std::uint8_t>(bits), static_cast<std::uint8_t>(bits >> 8), static_cast<std::uint8_t>(bits >> 16),
+          static_cast<std::uint8_t>(bits >> 24)};
 }
 
 // A column of all shapes in one dimension and order, and the row of it that is null.
@@ -34,7 +35,7 @@ struct rows {
   std::vector<sample> samples{};
   std::vector<std::byte> data{};
   std::vector<Offset> offsets{0};
-  std::array<std::uint8_t, 2> validity = all_but(null_row);
+  std::array<std::uint8_t, 4> validity = all_but(null_row);
   wkb::statuses statuses = wkb::statuses(SHAPES.size());
 
   rows(wkb_order order, wkb_dim of, std::size_t null) : dimension(of), null_row(null) {
