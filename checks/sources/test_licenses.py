@@ -105,9 +105,13 @@ class Sbom(unittest.TestCase):
         self.assertIn(", ".join(held) or "none by name", kit["comment"])
         self.assertEqual(kit["licenseDeclared"], "NOASSERTION")
 
-    def test_the_library_has_the_licence_of_its_assembly(self):
-        library = next(it for it in self.sbom["packages"] if it["name"] == "porchsorrel-wkb-c")
+    def test_what_contains_the_assembly_has_its_licence(self):
         stated = re.search(r'path = "c/proved/\*\.s"(?s:.*?)SPDX-License-Identifier = "(.*)"', text_of("REUSE.toml"))[1]
+        packages = {it["SPDXID"]: it for it in self.sbom["packages"]}
+        library = packages["SPDXRef-porchsorrel-wkb-c"]
         self.assertEqual(library["licenseDeclared"], stated)
+        holders = [it["spdxElementId"] for it in self.sbom["relationships"] if it["relationshipType"] == "CONTAINS"
+                   and it["relatedSpdxElement"] == library["SPDXID"]]
+        self.assertEqual([packages[it]["licenseDeclared"] for it in holders], 4 * [stated])
         named = {it["licenseId"] for it in self.sbom["hasExtractedLicensingInfos"]}
         self.assertEqual({*re.findall(r"LicenseRef-[\w-]+", stated)}, named)

@@ -27,8 +27,10 @@ NAMED = [
     ("postgres/wkb.control", r"(?m)^default_version = '(.*)'$"),
     ("postgres/expected", r"(?m)^([\d.]+)\|23$"),
 ]
-# Those that name the licences of CITATION.cff, and how; and the page that names the oldest Rust of Cargo.toml.
-LICENSED = [(it, r'(?m)^license = .*"(.*)"') for it in ("Cargo.toml", "rust/geo/Cargo.toml", "python/pyproject.toml")]
+# The packages, which name the licence that REUSE.toml has for all that they hold: the path there, and how they name it.
+# The page that names the oldest Rust of Cargo.toml.
+LICENSED = {"Cargo.toml": "c/proved/*.s", "python/pyproject.toml": "c/proved/*.s", "rust/geo/Cargo.toml": "**"}
+LICENSE = r'(?m)^license = .*"(.*)"'
 RUST = "README.md", r"Debian[^.]*.*\bRust ([\d.]*\d)"
 
 
@@ -47,10 +49,13 @@ class Versions(unittest.TestCase):
                 self.assertEqual({*re.findall(pattern, text.replace(self.version, "9.9.9"))}, {"9.9.9"})
 
     def test_the_packages_have_the_licences(self):
-        listed = re.search(r"(?m)^license:\n((?:  - .*\n)+)", pages.text_of("CITATION.cff"))[1]
-        for path, pattern in LICENSED:
+        parts = pages.text_of("REUSE.toml").split("[[annotations]]")[1:]
+        stated = {re.search('path = "(.*)"', it)[1]: re.search('License-Identifier = "(.*)"', it)[1] for it in parts}
+        for path, held in LICENSED.items():
             with self.subTest(path=path):
-                self.assertEqual(re.findall(pattern, pages.text_of(path)), [" OR ".join(re.findall("- (.*)", listed))])
+                self.assertEqual(re.findall(LICENSE, pages.text_of(path)), [stated[held]])
+        listed = re.search(r"(?m)^license:\n((?:  - .*\n)+)", pages.text_of("CITATION.cff"))[1]
+        self.assertEqual(" OR ".join(re.findall("- (.*)", listed)), stated["**"])
 
     def test_a_page_names_the_oldest_rust(self):
         oldest = re.search(r'(?m)^rust-version = "(.*)"$', pages.text_of("Cargo.toml"))[1]
