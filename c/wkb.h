@@ -1,5 +1,6 @@
 /* SPDX-License-Identifier: MIT OR Apache-2.0 */
-/** Well-Known Binary for C and C++: a reader and a writer that are proved to do what this header says.
+/** Well-Known Binary for C and C++: a reader and a writer, compiled from sources that are proved to do what this header
+ * says.
  *
  * A sentence that ends in (tested) is tested only. So are wkb_version, wkb_words, wkb_word, wkb_whole, wkb_one_point,
  * wkb_little_word, wkb_big_word, the texts and the classes of statuses, and what a call does around the proved one: it

@@ -1,5 +1,5 @@
 # SPDX-License-Identifier: MIT OR Apache-2.0
-"""Well-Known Binary: a proved reader and writer.
+"""WKB and EWKB, read and written by a library compiled from formally verified sources.
 
 The package itself is tested, and not proved. It needs CPython 3.11 or later.
 
