@@ -10,7 +10,7 @@ A command without `$ ` isn't run, unless it runs the program: the page then has 
 such a command names have to exist. Code between lines ```rust, ```antt, ```c, ```cpp, ```python or ```sql and ``` has
 to be, piece by piece, in the SOURCES below, which are compiled and run elsewhere. An edit or a fault that a page shows
 has to be one of the repository. Text that a page says is printed is in some source. docs/API.md and
-the pages in docs/api are those that tools/api makes.
+the pages in docs/api are those that tools/api makes, and the sizes in docs/TRUST.md those of tools/sizes.
 """
 import functools
 import os
@@ -58,6 +58,8 @@ RUNS = re.compile(r"\(cd crates/wkb_hex && rt try -- (\S+) < \.\./\.\./(\S+)\)|\
 OF_THE_KIT = {"no holes", "1 rows, 0 differ", "failed to fill whole buffer", "unexpected end of file"}
 # The folders of our scripts.
 OURS = r"(?:\.ci|bench|c|checks|crates|docs|edits|examples|postgres|python|rust|sqlite|tools)"
+# The page with the table of tools/sizes.
+SIZES = "docs/TRUST.md"
 # A page for controls.
 PAGE = "docs/COST.md"
 # What is planted on one page each, and what is said of it.
@@ -264,7 +266,9 @@ def made(tool):
 
 
 def lost_tables():
-    """The errors in generated pages."""
+    """The errors in generated pages, and in the table of sizes."""
+    if made("tools/sizes").returncode or made("tools/sizes").stdout.decode() not in text_of(SIZES):
+        yield f"{SIZES}: `tools/sizes | tools/put_tables {SIZES}` puts another table there"
     for tool, patterns in MADE:
         if made(tool).returncode:
             yield f"{tool} failed"
@@ -279,6 +283,7 @@ class Shown(judge.Judge):
         *judge.on_each(PAGES, "    $ echo one\n    two\n\n", ":1: echo one"),
         *judge.on_each(WRITTEN, "```c\nint lost;\n```\n\n", ": no source has\nint lost;"),
         *((page, "", *it) for page, it in zip(PAGES, PLANTS)),
+        (SIZES, "| proofs | 2", "| proofs | 1", "puts another table there"),
         ("docs/api/canon.md", "##", "#", "`tools/api --write` makes others"),
         ("docs/pictures/speed.svg", " OGR</text>", " ORG</text>", "speed.svg: `tools/bars --write` makes others"),
         ("docs/pictures/bytes.svg", ">24</text>", ">25</text>", "bytes.svg: `tools/bytes --write` makes others"),

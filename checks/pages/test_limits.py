@@ -1,7 +1,7 @@
 """A limit on a page, in wkb.h or in CITATION.cff is that of its source.
 
 A phrase of FACTS has, on every page that contains it, the number of the source. The sums on a page, as `113 - 16 = 97`,
-are computed again. The logic that README names is the kit's, if there is one.
+are computed again. The logic that docs/TRUST.md names is the kit's, if there is one.
 """
 import re
 import subprocess
@@ -16,15 +16,15 @@ SLOTS = COSTS, r"slots_bounded : c\.slots ≤ (\d+) \* length buf"
 BOUNDED = "crates/wkb_check/specs/Public.antt"
 ARROW, COMMAND, STACK = "python/src/porchsorrel_wkb/_arrow.py", "crates/wkb_command/src", "c/test/stack.c"
 COST = "checks/hosts/hostile_cost.c"
-HEADER = "c/wkb.h"
+HEADER, TRUST = "c/wkb.h", "docs/TRUST.md"
+SYSTEMS, FORMAT, SPEED = "docs/SYSTEMS.md", "docs/FORMAT.md", "docs/SPEED.md"
 PEERS = "bench/peers", r"else '\"=([\d.]+)\"'"
 # Phrases with numbers, each with a file and a text that has the same numbers.
 FACTS = [
     (r"(?<![\d,])(\d+) nested collections", *DEPTH),
     (r"[Aa]t most (\d+) collections (?:are nested|inside)", *DEPTH),
     (r"NestingDepthExceeded\((\d+)\)` \|", *DEPTH),
-    (r"\(length \+ (\d+)\) / \d+ rings", COSTS, r"turns_bounded : \d+ \* c\.turns ≤ length buf \+ (\d+)"),
-    (r"\(length \+ \d+\) / (\d+) rings", COSTS, r"turns_bounded : (\d+) \* c\.turns"),
+    (r"a stack of at most (\d+) entries", *DEPTH),
     (r"`(\d+) \* turns <= len \+ (\d+)`", COSTS, r"turns_bounded : (\d+) \* c\.turns ≤ length buf \+ (\d+)"),
     (r"`slots <= (\d+) \* len`", *SLOTS),
     (r"(\d+) list entries", *SLOTS),
@@ -45,8 +45,23 @@ FACTS = [
     (r"Rust crate `?wkb`? ([\d.]+\d)", *PEERS),
     (r"Python (\d\.\d+) or later", "python/pyproject.toml", r'requires-python = ">= ([\d.]+)"'),
     (r"C\+\+(\d+)", "c/Makefile", r"cxx = \$\(CXX\) -std=c\+\+(\d+)"),
+    (r'"Copyright \(c\) (\d+) The GeoRust', "LICENSE-MIT", r"Copyright \(c\) (\d+) The GeoRust"),
+    (r"octet_length\(wkb\) < (\d+)", "postgres/queries.sql", r"octet_length\(wkb\) < (\d+)"),
+    (r"more than (\d+) times as long", "python/src/porchsorrel_wkb/_arrow.py", r"MOST_COPIES = (\d+)"),
+    (r"take up to (\d+) KB of stack there", HEADER, r"\((\d+) KB on Windows\)"),
+    (r"so (\d+) and (\d+) read as points", FORMAT, r"such as 0, 8, (\d+),\s(\d+),"),
+    (r"`Unknown\((\d)\)` is written as (\w+), `Unknown\((\d)\)` as (\w+) and `Unknown\((\d)\)` as (\w+)",
+     "crates/wkb_geom/src/common.rt", "(?s:.*?)".join(3 * [r"Unknown\((\d)\) => Ok\(Dimension::(\w+)\)"])),
     (r"at most (\w+) bytes (?:longer than its|more than the) input", "c/wkb.hpp", r"SRID_SIZE = (\d+);"),
     (r"traits of `geo-traits` ([\d.]+)", "rust/geo/Cargo.toml", r'(?m)^geo-traits = "(.*)"'),
+    (r"(?:GCC|with gcc) (\d+)[,;]", SYSTEMS, r"\(gcc (\d+)\."),
+    (r"the shortest of (\d+) rounds", SPEED, r"bench/c/speed --write (\d+)"),
+    (r"makes ([\d,]+) random geometries of a shape", "bench/c/speed_shapes.hpp", r"ROWS = (\d+);"),
+    (r"passes over them (\d+) times in a round", "bench/c/speed.cpp", r"passes = (\d+);"),
+    (r"takes over (\d) % more instructions", "bench/instructions", r"LIMIT = 1\.0(\d)"),
+    (r"A box has (\d+) bytes", "c/wkb.c", r"IS_LAID\(wkb_box, (\d+)"),
+    (r"and a `Found` (\d+),", "c/wkb.c", r"IS_LAID\(wkb_found, (\d+)"),
+    (r"\| ([\d.]+) \| yes \|", "python/pyproject.toml", r'(?m)^version = "(\d+\.\d+)\.'),
     (r"\(glibc (\d)\.(\d+) or later\)", "python/setup.py", r"manylinux_(\d)_(\d+)_"),
     (r"musl on x86-64 \((\d)\.(\d) or later\)", "python/setup.py", r"musllinux_(\d)_(\d)_"),
     (r"and exits with status (\d) if it can't", "wkb_hex", r"(?s)exit 2.*?exit (\d)"),
@@ -116,9 +131,9 @@ class Limits(judge.Judge):
 
 
 class Logic(judge.Judge):
-    """The logic that README names is the kit's."""
+    """The logic that docs/TRUST.md names is the kit's."""
 
-    controls = [("README.md", "", f"`logic {'0' * 16}`\n\n", f"README.md names the logic {'0' * 16}")]
+    controls = [(TRUST, "", f"`logic {'0' * 16}`\n\n", f"{TRUST} names the logic {'0' * 16}")]
 
     @classmethod
     def setUpClass(cls):
@@ -126,5 +141,5 @@ class Logic(judge.Judge):
 
     def wrong(self):
         said = subprocess.run(["rt", "version"], stdout=subprocess.PIPE, text=True).stdout
-        named = re.findall(r"logic ([0-9a-f]{16})`", text_of("README.md"))
-        yield from (f"README.md names the logic {it}" for it in named or ["not at all"] if not said.endswith(f"{it}\n"))
+        named = re.findall(r"logic ([0-9a-f]{16})`", text_of(TRUST))
+        yield from (f"{TRUST} names the logic {it}" for it in named or ["not at all"] if not said.endswith(f"{it}\n"))
