@@ -322,14 +322,6 @@ void print_calls(const char *first, const std::vector<shape_times> &all, const s
   std::printf("\n");
 }
 
-std::vector<shape_times> those_of(const std::vector<shape_times> &all, const std::vector<std::string> &shapes) {
-  std::vector<shape_times> found;
-  std::copy_if(all.begin(), all.end(), std::back_inserter(found), [&](const shape_times &it) {
-    return std::find(shapes.begin(), shapes.end(), it.shape) != shapes.end();
-  });
-  return found;
-}
-
 // A call beside its like in plain C, and the head of the column of their quotient.
 struct pair {
   const char *head;
@@ -376,7 +368,5 @@ int main(int argc, char **argv) {
               true, 1);
   print_quotients(shapes);
   print_calls("ns a word", long_lines, {"wkb_word", "wkb_words"}, false, 2);
-  print_calls("ns a geometry", those_of(shapes, {"point", "line of 10", "line of 100", "multi polygon of 5 x 12"}),
-              {"check", "bounds", "write", "write in plain C", "OGR", "GEOS"}, false, 0);
   return sum == 0.5 ? 1 : 0;
 }

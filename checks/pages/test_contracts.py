@@ -6,9 +6,9 @@ In PROMISES a row's last cell names clauses. They belong to the owner in the cel
 the record that the text above names last. A test that the page names with its crate has to be one of that crate. On the
 other pages a clause that is said to be `of` a call or a record has to be one of its.
 
-The first column of README's table has the proved statements, between semicolons. Each of them has a row in the table of
-PROMISES that begins with "README says", with the crate, the function or record, and its clauses: a statement without
-such a row is an error.
+README's paragraph "Proved of the sources" has the proved statements, between semicolons, up to its first full stop.
+Each of them has a row in the table of PROMISES that begins with "README says", with the crate, the function or record,
+and its clauses: a statement without such a row is an error.
 """
 import re
 
@@ -128,10 +128,10 @@ def lost_calls():
 
 
 def said_in_readme():
-    """Each statement of README's table of what is proved, without its links."""
-    for _, heads, found in rows_of(README):
-        if "proved" in heads[0]:
-            yield from re.sub(r"\[([^]]*)\]\([^)]*\)", r"\1", found[0]).split("; ")
+    """Each statement of README's paragraph of what is proved, without its links."""
+    found = re.search(r"\*\*Proved of the sources[^*]*\*\*(?s:(.*?))\n(?:-|\n)", text_of(README))
+    plain = re.sub(r"\[([^]]*)\]\([^)]*\)", r"\1", " ".join(found[1].split())) if found else ""
+    yield from plain.split(". ")[0].split("; ") if plain else ()
 
 
 def given_clauses():
@@ -159,10 +159,10 @@ def lost_statements(clauses, statements, given):
 
 
 def wrong_statements(clauses):
-    """The errors in README's table of proved statements."""
+    """The errors in README's proved statements."""
     statements, given = [*said_in_readme()], [*given_clauses()]
     if not statements or not given:
-        return [f"{README if given else PROMISES} has no table of what README says is proved"]
+        return [f"{README if given else PROMISES} doesn't have what README says is proved"]
     return lost_statements(clauses, statements, given)
 
 
@@ -179,8 +179,8 @@ class Contracts(judge.Judge):
         *judge.on_each([it for it in PAGES if it != PROMISES], "`fits` of `rows_follow`\n\n", ": `rows_follow` has no"),
         ("crates/wkb_c/src/lib.rt", "", 'pub extern "C" fn wkb_raw_lost() {}\n', "no row begins with `wkb_raw_lost`"),
         (README, "; reports the first", "; is fast; reports the first", "`is fast` has no clause"),
-        (PROMISES, "| `turns_bounded` |", "| `lost` |", "`Costs` of wkb_read has no such clause"),
-        (PROMISES, "| `turns_bounded` |", "| |", "`Costs` of wkb_read has no such clause: none is named"),
+        (PROMISES, "| `refusal`, `one_cause` |", "| `lost` |", "`Reads` of wkb_read has no such clause"),
+        (PROMISES, "| `refusal`, `one_cause` |", "| |", "`Reads` of wkb_read has no such clause: none is named"),
         (PROMISES, "| `wkb_laws` | `equal_encodings` |", "| `wkb` | `equal_encodings` |", "of wkb has no such clause"),
         (PROMISES, "| `canonical` | `ok` |", f"| `canonical` | {UNNAMED} |", "`canonical` of wkb has no such clause"),
         (PROMISES, "| returns exactly what the bytes encode |", "| returns what it likes |", "README doesn't say"),

@@ -9,7 +9,8 @@
 - CITATION.cff: the licences are those of the files LICENSE-*, and the title begins as README's does.
 - CHANGELOG.md: the calls that it lists for one geometry and for columns are in c/wkb.h, and its numbers of types and
   dimensions are those of docs/FORMAT.md.
-- README's times in C are those of docs/SPEED.md, those of plain C as quotients, and where that is faster.
+- README's rows of other programs are those of docs/DIFFERENCES.md. How many times as fast it says the bounds are,
+  beside OGR and GEOS, is what the bars of docs/SPEED.md show, and where plain C is faster what its quotients say.
 """
 import fnmatch
 import functools
@@ -23,11 +24,9 @@ from checks import judge
 from library import wkb
 from pages import ROOT, paths, program, rows_of, spans, text_of, texts
 
-SPEED = "docs/SPEED.md"
+SPEED, PEERS = "docs/SPEED.md", "docs/DIFFERENCES.md"
 # What a script names that builds for a system or a processor.
 BUILT_FOR = {"musl": "musl-gcc", "aarch64": "aarch64", "Windows": "mingw32", "macOS": "macos", "FreeBSD": "freebsd"}
-# How far a number of README is at most from the one that it was rounded from, and a quotient of SPEED.
-ROUNDED, HUNDREDTH = 0.55, 0.0051
 QUOTIENTS = "our time / plain C"
 PAGE, PROGRAM = "docs/PROGRAM.md", program("wkb_hex")
 POLYGON, POINT = text_of("examples/polygon_with_hole.hex").strip(), text_of("examples/point.hex").strip()
@@ -254,15 +253,27 @@ def timed():
             yield from (((heads[0], row[0], head), float(cell)) for head, cell in zip(heads[1:], row[1:]) if cell)
 
 
+def wrong_peers():
+    """The cells of README's table of other programs that aren't those of docs/DIFFERENCES.md."""
+    rows = {page: {it[2][0]: dict(zip(it[1], it[2])) for it in rows_of(page) if it[1][0] == "what we tried"}
+            for page in ("README.md", PEERS)}
+    if not rows["README.md"]:
+        yield "README.md has no table of other programs"
+    for name, row in rows["README.md"].items():
+        if row != rows[PEERS].get(name):
+            yield f"README.md: {name}: {PEERS} has {rows[PEERS].get(name)}"
+
+
 def wrong_times():
-    """The times of README that aren't those of docs/SPEED.md."""
-    times = dict(timed())
-    for _, heads, row in rows_of("README.md"):
-        for head, cell in zip(heads[1:], row[1:]) if heads[0] == "ns a geometry" else []:
-            quotient = times[QUOTIENTS, row[0], "other order"] if "plain C" in head else 1
-            meant = times["ns a row", row[0], head.replace(" in plain C", "")] / quotient
-            if abs(float(cell) - meant) > ROUNDED + (quotient != 1) * meant * HUNDREDTH / quotient:
-                yield f"README.md: {row[0]}, {head}: {SPEED} has {meant:.0f}"
+    """How many times as fast README says the bounds are, if that isn't what the bars show."""
+    times, text = dict(timed()), text_of("README.md")
+    drawn = re.findall(r'<text x="20" y="\d+">([^<]+)<', text_of("docs/pictures/speed.svg"))
+    for name in ("OGR", "GEOS"):
+        rows = [("ns a row", it) for it in drawn if ("ns a row", it, name) in times]
+        ratios = [times[*it, name] / times[*it, "bounds"] for it in rows]
+        meant = f"{min(ratios):.0f} to {max(ratios):.0f} times as fast as by {name}"
+        if meant not in text:
+            yield f"README.md: by {SPEED} it is {meant}"
 
 
 def wrong_losses():
@@ -272,9 +283,6 @@ def wrong_losses():
     meant = [math.floor(min(tenths)) / 10, math.ceil(max(tenths)) / 10]
     if not said or [float(it) for it in said.groups()] != meant:
         yield f"README.md: plain C takes {meant} of our time by {SPEED}"
-
-
-TIMED = re.search(r"(?m)^\| our time / plain C.*\n.*\n(\| point .*\|)$", text_of(SPEED))[1]
 
 
 class Tables(judge.Judge):
@@ -290,8 +298,11 @@ class Tables(judge.Judge):
         ("CITATION.cff", 'title: "Porchsorrel', 'title: "Sorrel', "README's title"),
         ("CHANGELOG.md", "the first four for columns", "the first five for columns", "wkb.h has no wkb_column_same"),
         ("docs/SYSTEMS.md", "/windows_test` |", "/dist_test` |", "checks/systems/dist_test builds nothing for Windows"),
-        ("README.md", "|     169 |", "|     170 |", "line of 10, bytes: docs/SPEED.md has 169"),
-        (SPEED, TIMED, "| point | 9.99 |", "point, write in plain C: docs/SPEED.md has"),
+        ("README.md", "| rejected | rejected | crash", "| rejected | rejected | no crash", "collections: docs/DIFF"),
+        ("README.md", "| order byte 2 |", "| order byte 3 |", "README.md: order byte 3: docs/DIFFERENCES.md has None"),
+        ("README.md", "| what we tried |", "| lost |", "README.md has no table of other programs"),
+        ("README.md", "7 times as fast as by OGR", "9 times as fast as by OGR", "times as fast as by OGR"),
+        (SPEED, "|   106.1 |", "|   206.1 |", "times as fast as by GEOS"),
         ("README.md", "takes 0.", "takes 1.", "of our time by docs/SPEED.md"),
         ("docs/SYSTEMS.md", "/cross_test` |", "/dist_test` |", "dist_test builds nothing for aarch64"),
         ("docs/SYSTEMS.md", "in C | `checks/systems/dist", "in C | `checks/systems/pads", "nothing for musl"),
@@ -303,7 +314,7 @@ class Tables(judge.Judge):
     def wrong(self):
         yield from (*wrong_crates(), *lost_places())
         yield from (*lost_files(), *wrong_systems(), *wrong_citation(), *wrong_changes())
-        yield from (*wrong_times(), *wrong_losses())
+        yield from (*wrong_peers(), *wrong_times(), *wrong_losses())
 
 
 class Program(judge.Judge):
