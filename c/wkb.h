@@ -2,9 +2,9 @@
 /** Well-Known Binary for C and C++: a reader and a writer, compiled from sources that are proved to do what this header
  * says.
  *
- * A sentence that ends in (tested) is tested only. So are wkb_version, wkb_words, wkb_word, wkb_whole, wkb_one_point,
- * wkb_little_word, wkb_big_word, the texts and the classes of statuses, and what a call does around the proved one: it
- * replaces null pointers, passes structs on, and returns what it has found.
+ * A sentence that ends in (tested) is backed by tests alone. So is all of wkb_version, wkb_words, wkb_word, wkb_whole,
+ * wkb_one_point, wkb_little_word, wkb_big_word, the texts and the classes of statuses, and what a call does around the
+ * proved one: it replaces null pointers, passes structs on, and returns what it has found.
  *
  * An input may contain arbitrary bytes, in either byte order. They may be at any alignment (tested). Structs have the
  * machine's byte order and alignment. Every call rejects an input as wkb_check() does, with the same status and fault.
@@ -330,9 +330,9 @@ wkb_status wkb_parts(const void *buf, size_t len, wkb_part *parts, size_t room, 
 /** Validates each row as wkb_check() does. No row stops the others.
  *
  * @param column         the rows; not null
- * @param[out] statuses  a byte a row: what wkb_check() returns, WKB_STATUS_NULL_ROW or WKB_STATUS_BAD_OFFSETS; may be
- *                       null if there are no rows
- * @note Of a row that is WKB_STATUS_NULL_ROW or WKB_STATUS_BAD_OFFSETS no byte is read (tested).
+ * @param[out] statuses  one byte per row: what wkb_check() returns, WKB_STATUS_NULL_ROW or WKB_STATUS_BAD_OFFSETS; may
+ *                       be null if there are no rows
+ * @note No byte of a row that is WKB_STATUS_NULL_ROW or WKB_STATUS_BAD_OFFSETS is read (tested).
  * @since 1.0 */
 void wkb_column_check(const wkb_column *column, uint8_t *statuses);
 
@@ -341,7 +341,7 @@ void wkb_column_check(const wkb_column *column, uint8_t *statuses);
  * @param column         the rows; not null
  * @param[out] found     an entry a row: what wkb_check() finds, or all zeros if the row's status isn't WKB_STATUS_OK;
  *                       may be null
- * @param[out] statuses  a byte a row, as in wkb_column_check(); may be null if there are no rows
+ * @param[out] statuses  one byte per row, as for wkb_column_check(); may be null if there are no rows
  * @since 1.0 */
 void wkb_column_found(const wkb_column *column, wkb_found *found, uint8_t *statuses);
 
@@ -350,7 +350,7 @@ void wkb_column_found(const wkb_column *column, wkb_found *found, uint8_t *statu
  * @param column         the rows; not null
  * @param[out] boxes     an entry a row: its bounds, or those of a geometry without coordinates if the row's status
  *                       isn't WKB_STATUS_OK; may be null if there are no rows
- * @param[out] statuses  a byte a row, as in wkb_column_check(); may be null if there are no rows
+ * @param[out] statuses  one byte per row, as for wkb_column_check(); may be null if there are no rows
  * @since 1.0 */
 void wkb_column_bounds(const wkb_column *column, wkb_box *boxes, uint8_t *statuses);
 
@@ -362,9 +362,9 @@ void wkb_column_bounds(const wkb_column *column, wkb_box *boxes, uint8_t *status
  *
  * @param column         the rows; not null
  * @param[out] parts     the tables; unchanged after the last table in it; may be null if room is 0
- * @param room           the capacity of parts in entries; with the result as capacity no row is WKB_STATUS_NO_ROOM
- * @param[out] ends      a number a row, in entries; may be null if there are no rows
- * @param[out] statuses  a byte a row, as in wkb_column_check(), or WKB_STATUS_NO_ROOM if the table would end at
+ * @param room           the capacity of parts in entries; if it is the returned value, no row is WKB_STATUS_NO_ROOM
+ * @param[out] ends      one number per row, in entries; may be null if there are no rows
+ * @param[out] statuses  one byte per row, as for wkb_column_check(), or WKB_STATUS_NO_ROOM if the table would end at
  *                       ends[i], which is more than room; may be null if there are no rows
  * @return the last end, or 0 without rows (tested).
  * @since 1.0 */
@@ -378,9 +378,9 @@ size_t wkb_column_parts(const wkb_column *column, wkb_part *parts, size_t room, 
  * @param column         the rows; not null
  * @param options        the byte order and the form that are written; not null
  * @param[out] out       the encodings; unchanged after the last encoding in it; may be null if room is 0
- * @param room           the capacity of out in bytes; with the result as capacity no row is WKB_STATUS_NO_ROOM
- * @param[out] ends      a number a row, in bytes; may be null if there are no rows
- * @param[out] statuses  a byte a row, as in wkb_column_check(), or WKB_STATUS_NO_ROOM if the encoding would end at
+ * @param room           the capacity of out in bytes; if it is the returned value, no row is WKB_STATUS_NO_ROOM
+ * @param[out] ends      one number per row, in bytes; may be null if there are no rows
+ * @param[out] statuses  one byte per row, as for wkb_column_check(), or WKB_STATUS_NO_ROOM if the encoding would end at
  *                       ends[i], which is more than room, or WKB_STATUS_UNKNOWN_OPTION if the row isn't null, its
  *                       offsets are good, and the options are invalid; may be null if there are no rows
  * @return the last end, or 0 without rows (tested).
@@ -454,10 +454,10 @@ typedef struct wkb_coordinates {
  * @param dimension      a wkb_dim: words that it doesn't name are left out, and a missing ordinate is NaN
  *                       (0x7ff8000000000000)
  * @param[in,out] out    the buffers with their capacities, and the results; not null
- * @param[out] statuses  a byte a row, as in wkb_column_check(), or WKB_STATUS_NO_ROOM if one of the three capacities is
- *                       too small for the row, whose end would be row_ends[i], and none of the row is written, or
- *                       WKB_STATUS_UNKNOWN_OPTION if the row isn't null, its offsets are good, and the dimension is
- *                       invalid; may be null if there are no rows
+ * @param[out] statuses  one byte per row, as for wkb_column_check(), or WKB_STATUS_NO_ROOM if one of the three
+ *                       capacities is too small for the row, whose end would be row_ends[i], and none of the row is
+ *                       written, or WKB_STATUS_UNKNOWN_OPTION if the row isn't null, its offsets are good, and the
+ *                       dimension is invalid; may be null if there are no rows
  * @since 1.0 */
 void wkb_column_coordinates(const wkb_column *column, wkb_dim dimension, wkb_coordinates *out, uint8_t *statuses);
 
@@ -500,20 +500,20 @@ typedef struct wkb_levels {
  * where it starts.
  *
  * WKB_STATUS_BAD_LEVELS: the row doesn't fit its kind, it needs a count of 2^32, its ends decrease, it starts or ends
- * past the end of a level, or at some level it starts before the end of an earlier row, null or not, that neither there
- * nor above ends before it starts or past the level's end.
+ * past the end of a level, or at some level it starts before the end of an earlier row, null or not, whose own ends at
+ * that level and above it are in order and in range.
  *
  * @param levels         the rows, all of one kind and one dimension; not null
  * @param kind           the rows', from WKB_KIND_POINT to WKB_KIND_MULTI_POLYGON
  * @param dimension      the rows', a wkb_dim
  * @param options        the byte order and the form that are written; not null
  * @param[out] out       the encodings; unchanged after the last encoding in it; may be null if room is 0
- * @param room           the capacity of out in bytes; with the result as capacity no row is WKB_STATUS_NO_ROOM
- * @param[out] ends      a number a row, in bytes; may be null if there are no rows
- * @param[out] statuses  a byte a row: WKB_STATUS_OK, WKB_STATUS_NULL_ROW, WKB_STATUS_BAD_LEVELS, WKB_STATUS_NO_ROOM if
- *                       the encoding would end at ends[i], which is more than room, or WKB_STATUS_UNKNOWN_OPTION if the
- *                       row isn't null, and the kind, the dimension or the options are invalid; may be null if there
- *                       are no rows
+ * @param room           the capacity of out in bytes; if it is the returned value, no row is WKB_STATUS_NO_ROOM
+ * @param[out] ends      one number per row, in bytes; may be null if there are no rows
+ * @param[out] statuses  one byte per row: WKB_STATUS_OK, WKB_STATUS_NULL_ROW, WKB_STATUS_BAD_LEVELS, WKB_STATUS_NO_ROOM
+ *                       if the encoding would end at ends[i], which is more than room, or WKB_STATUS_UNKNOWN_OPTION if
+ *                       the row isn't null, and the kind, the dimension or the options are invalid; may be null if
+ *                       there are no rows
  * @return the last end, or 0 without rows (tested).
  * @since 1.0 */
 size_t wkb_column_from_coordinates(const wkb_levels *levels, wkb_kind kind, wkb_dim dimension,
@@ -550,7 +550,7 @@ static inline wkb_part wkb_whole(const wkb_found *found) {
 /** Copies the words of coordinates of a ring, a point or a line string, in the machine's byte order.
  *
  * @param buf       the input; not null
- * @param part      the ring, point or line string in it, as wkb_parts() or wkb_whole() tell it; not null
+ * @param part      an entry for a ring, point or line string in it, from wkb_parts() or wkb_whole(); not null
  * @param first     the index of the first coordinate
  * @param count     the number of coordinates; first + count is at most the part's count
  * @param[out] out  the words: capacity for count times the part's width of them; may be null if count is 0
@@ -582,7 +582,7 @@ static inline uint64_t wkb_big_word(const uint8_t *b) {
  * It is at buf + offset + 8 * (width * i + n) in the input.
  *
  * @param buf   the input; not null
- * @param part  the ring, point or line string in it, as wkb_parts() or wkb_whole() tell it; not null
+ * @param part  an entry for a ring, point or line string in it, from wkb_parts() or wkb_whole(); not null
  * @param i     the index of the coordinate, below the part's count
  * @param n     the index of the word in it, below the part's width
  * @return the word as a number

@@ -1,7 +1,7 @@
 // SPDX-License-Identifier: MIT OR Apache-2.0
 // A C++20 wrapper of wkb.h: spans, optionals, exceptions, and ranges over the parts of a geometry. Header only. Nothing
-// in it is proved. Coordinates are copied only on request. A rejected input is an exception, or for the calls whose
-// names begin with try_ and for check an empty optional or false, which costs a hundredth of it.
+// in it is proved. Coordinates are copied only on request. A rejected input is an exception; the try_ calls and check
+// return an empty optional or false instead, at about 1 % of the cost.
 //
 // The input must not change during a call, by another thread or another process either: before the call, copy a
 // mapped file that others may write. The output must not overlap the input.

@@ -1,9 +1,8 @@
 -- SPDX-License-Identifier: MIT OR Apache-2.0
--- Well-Known Binary over bytea. But for wkb_box, which is PostgreSQL's alone, the functions have the names and the
--- meanings of those of the SQLite extension. All return null for null. All but the first three read the geometry at
--- the start of the value, and ignore the bytes after it. If there is none they raise invalid_binary_representation,
--- with the text of wkb_fault, so they aren't leakproof. The three raise no error over their argument, and are
--- leakproof.
+-- Well-Known Binary over bytea. Except for wkb_box, the SQLite extension has the same functions. All return null for
+-- null. All but the first three read the geometry at the start of the value, and ignore the bytes after it. If there
+-- is none they raise invalid_binary_representation, with the text of wkb_fault, so they aren't leakproof. The three
+-- raise no error over their argument, and are leakproof.
 \echo Use "CREATE EXTENSION wkb" to load this file. \quit
 
 create function wkb_well_formed(bytea) returns boolean

@@ -37,10 +37,10 @@ A column of geometries, in one piece of memory as Arrow has it::
 What the numbers mean, as enums of integers::
 
     Status, is_refusal(status), is_early_end(status), status_text(status)
-                                    what became of a call or of a row
+                                    the result of a call or of a row
     Kind, Dimension, Order, Form    POINT.., XY.., BIG and LITTLE, ISO..
 
-Records are Found, Fault, Part, Range and Box: frozen, compared by value, good as keys. Table is a sequence of Part or
+Records are Found, Fault, Part, Range and Box: immutable, comparable and hashable. Table is a sequence of Part or
 Box, and becomes a structured array by numpy.asarray. The column calls return ColumnFound, ColumnBounds, ColumnParts,
 ColumnEncodings and ColumnCoordinates, which are compared as a whole, and Facts; geoparquet returns a GeoParquet.
 Bounds, encodings and coordinates are arrays for packages of Arrow, and `rows` of ColumnEncodings is a sequence of bytes
@@ -51,11 +51,11 @@ A blob is anything with the buffer protocol. A call holds its buffer until it re
 view returns an array over the blob's memory. Sizes and offsets are in bytes. Functions, results, columns and Refused
 can be pickled, for other processes.
 
-Calls over a column, or over a blob of 16 KB or more, give the interpreter's lock back, so that those of several threads
-run side by side: where all that is read is read-only, such as bytes, a column that Column.of makes, and memory of
-Arrow. Over memory that may be written, such as a bytearray or most arrays of numpy, calls keep the lock, since another
-thread could write it meanwhile. memoryview(it).toreadonly() says that nobody does. No other process may write the input
-during a call: of a mapped file that others write, such as a numpy.memmap, pass a copy, bytes(it).
+Calls over a column, or over a blob of 16 KB or more, release the GIL, so that several threads run in parallel, if all
+that is read is read-only, such as bytes, a column that Column.of makes, and memory of Arrow. Over memory that may be
+written, such as a bytearray or most arrays of numpy, calls keep it, since another thread could write it meanwhile.
+memoryview(it).toreadonly() says that nobody does. No other process may write the input during a call: of a mapped file
+that others write, such as a numpy.memmap, pass a copy, bytes(it).
 
 The library is inside this package: version() is that of its wkb.h. help(wkb.write), and so on, says more of each name.
 """
