@@ -31,7 +31,7 @@ static void accept(wkb_status status, const char *place, const wkb_fault *fault)
     ereport(ERROR, (errcode(ERRCODE_PROGRAM_LIMIT_EXCEEDED), errmsg("the encoding is longer than a bytea can be"),
                     errhint("A bytea has at most 1 GB, and an SRID takes four bytes more.")));
   ereport(ERROR, (errcode(ERRCODE_INVALID_BINARY_REPRESENTATION), errmsg("invalid WKB%s: %s", place, text_of(fault)),
-                  errhint("wkb_fault returns why a value is not well formed, and null of those that are.")));
+                  errhint("wkb_fault returns why a value is not well formed, or null if it is.")));
 }
 
 /* An argument, in a copy where it is stored apart or compressed. No call of the library can be stopped, so a statement
