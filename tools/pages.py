@@ -30,7 +30,7 @@ def paths(*patterns):
     return [str(it.relative_to(ROOT)) for pattern in patterns for it in sorted({*files()} & {*ROOT.glob(pattern)})]
 
 
-PAGES = paths("*.md", "docs/*.md", "docs/api/*.md", "c/package/package.md")
+PAGES = paths("*.md", "docs/*.md", "c/package/package.md")
 # The texts that files have in a control, in place of their own.
 PLANTED = {}
 
@@ -88,13 +88,19 @@ def program(crate, name=None):
     return built if is_new else None
 
 
-def lines_of(page):
-    """(number, line) of each line of a page that is no code."""
-    fenced = False
-    for number, line in enumerate(text_of(page).splitlines(), 1):
+def prose_of(text):
+    """(number, line) of each line of a text that is no code."""
+    fenced, found = False, []
+    for number, line in enumerate(text.splitlines(), 1):
         fenced ^= line.startswith("```")
         if not fenced and not line.startswith(("```", "    ")):
-            yield number, line
+            found.append((number, line))
+    return found
+
+
+def lines_of(page):
+    """(number, line) of each line of a page that is no code."""
+    return prose_of(text_of(page))
 
 
 def shown(page):

@@ -9,8 +9,8 @@ use `wkb_dump` are skipped if that can't be built.
 A command without `$ ` isn't run, unless it runs the program: the page then has its output in backticks. The files that
 such a command names have to exist. Code between lines ```rust, ```antt, ```c, ```cpp, ```python or ```sql and ``` has
 to be, piece by piece, in the SOURCES below, which are compiled and run elsewhere. An edit or a fault that a page shows
-has to be one of the repository. Text that a page says is printed is in some source. docs/API.md and
-the pages in docs/api are those that tools/api makes, and the sizes in docs/TRUST.md those of tools/sizes.
+has to be one of the repository. Text that a page says is printed is in some source. tools/api finds
+a comment on each public call. The sizes in docs/TRUST.md are those of tools/sizes.
 """
 import functools
 import os
@@ -42,13 +42,9 @@ SOURCES = {
 }
 # The pages and pictures that scripts make, in the order in which a script prints them.
 MADE = [
-    ("tools/api", ["docs/API.md", "docs/api/*.md"]),
     ("tools/bars", ["docs/pictures/speed.svg"]),
     ("tools/bytes", ["docs/pictures/bytes.svg"]),
 ]
-# Where the pages of calls are, whose code tools/api makes.
-CALLS = "docs/api/"
-WRITTEN = [it for it in PAGES if not it.startswith(CALLS)]
 # Whose examples are proved nowhere.
 SKETCHED = ["crates/wkb/src/check.rt", "crates/wkb/src/lib.rt"]
 LINE = "010200000002000000" + 2 * POINT[10:]
@@ -160,7 +156,7 @@ def lost_pieces(page):
     """The pieces of the code on a page, from one empty line to the next, that are in no source; and lost edits."""
     languages = re.findall(r"(?m)^```(\w+)$", text_of(page))
     yield from (f"{page}: nothing is known of {it}" for it in languages if it not in {*SOURCES, "console", "text"})
-    for language in SOURCES if not page.startswith(CALLS) else []:
+    for language in SOURCES:
         blocks = text_of(page).split(f"```{language}\n")[1:]
         for piece in (piece for block in blocks for piece in block.split("```")[0].strip("\n").split("\n\n")):
             if piece not in code_of(language):
@@ -266,7 +262,9 @@ def made(tool):
 
 
 def lost_tables():
-    """The errors in generated pages, and in the table of sizes."""
+    """The errors in generated pictures, in the table of sizes, and of tools/api, which reads its own text only."""
+    if made("tools/api").returncode:
+        yield "tools/api failed"
     if made("tools/sizes").returncode or made("tools/sizes").stdout.decode() not in text_of(SIZES):
         yield f"{SIZES}: `tools/sizes | tools/put_tables {SIZES}` puts another table there"
     for tool, patterns in MADE:
@@ -281,10 +279,9 @@ class Shown(judge.Judge):
 
     controls = [
         *judge.on_each(PAGES, "    $ echo one\n    two\n\n", ":1: echo one"),
-        *judge.on_each(WRITTEN, "```c\nint lost;\n```\n\n", ": no source has\nint lost;"),
+        *judge.on_each(PAGES, "```c\nint lost;\n```\n\n", ": no source has\nint lost;"),
         *((page, "", *it) for page, it in zip(PAGES, PLANTS)),
         (SIZES, "| proofs | 2", "| proofs | 1", "puts another table there"),
-        ("docs/api/canon.md", "##", "#", "`tools/api --write` makes others"),
         ("docs/pictures/speed.svg", " OGR</text>", " ORG</text>", "speed.svg: `tools/bars --write` makes others"),
         ("docs/pictures/bytes.svg", ">24</text>", ">25</text>", "bytes.svg: `tools/bytes --write` makes others"),
         ("crates/wkb_cases/src/columns.rt", "let mut written", "let mut put", "no proved code has"),

@@ -8,8 +8,8 @@ import re
 from checks import judge
 from pages import PAGES, ROOT, text_of
 
-# The page of pages, and that of the pages of calls.
-FRONT, CALLS = "docs/README.md", "docs/API.md"
+# The page of pages.
+FRONT = "docs/README.md"
 LINK = re.compile(r"\[([^\]]*)\]\(([^)\s]+)\)")
 
 
@@ -45,8 +45,8 @@ def lost(page):
 
 
 def lost_pages():
-    """The pages that neither the page of pages nor that of the pages of calls leads to."""
-    found = {os.path.normpath(os.path.join("docs", it)) for _, it in LINK.findall(text_of(FRONT) + text_of(CALLS))}
+    """The pages to which the page of pages doesn't lead."""
+    found = {os.path.normpath(os.path.join("docs", it)) for _, it in LINK.findall(text_of(FRONT))}
     yield from (f"{FRONT}: no link to {it}" for it in PAGES if it not in found and it != FRONT)
 
 
@@ -55,7 +55,9 @@ class Links(judge.Judge):
 
     controls = [
         *judge.on_each(PAGES, "[lost](LOST.md)\n\n", ": no file LOST.md"),
-        ("docs/API.md", "", "[lost](FORMAT.md#lost)\n\n", "no heading FORMAT.md#lost"),
+        ("docs/COST.md", "", "[lost](FORMAT.md#lost)\n\n", "no heading FORMAT.md#lost"),
+        ("docs/COST.md", "", "[the grammar](PROVING.md)\n\n", "leads to PROVING.md"),
+        ("docs/MODEL.md", "", "[of an md](FORMAT.md)\n\n", "leads to FORMAT.md"),
         ("docs/README.md", "](SPEED.md)", "](COST.md)", "no link to docs/SPEED.md"),
     ]
 

@@ -8,9 +8,10 @@ import collections
 import functools
 import glob
 import re
+import subprocess
 
 from checks import judge
-from pages import PAGES, ROOT, lines_of, rows_of, spans, texts
+from pages import PAGES, ROOT, files, lines_of, prose_of, rows_of, spans, texts
 
 # Names of other programs, which no source of ours defines.
 FOREIGN = {"geom::bytea", "wkb::geometry"}
@@ -144,20 +145,29 @@ def lost_in_pictures(code):
                 yield f"{picture}: no code and no file is {name}"
 
 
+@functools.lru_cache(maxsize=None)
+def calls():
+    """(number, line) of each line of what tools/api prints, but for code."""
+    ran = subprocess.run([ROOT / "tools/api"], stdout=subprocess.PIPE, text=True, check=True)
+    return prose_of(ran.stdout)
+
+
 def named():
-    """(page, number of the line, name) of each name in backticks."""
-    return ((page, number, span) for page in PAGES for number, line in lines_of(page) for span in spans(line))
+    """(page, number of the line, name) of each name in backticks, on the pages and in what tools/api prints."""
+    lines = [("tools/api", *it) for it in calls()]
+    lines += [(page, *it) for page in PAGES for it in lines_of(page)]
+    return ((page, number, span) for page, number, line in lines for span in spans(line))
 
 
 class Names(judge.Judge):
     """Each path in backticks is that of something."""
 
     controls = [
-        *judge.on_each(PAGES, "`crate::lost`, `lost::name`\n\n", ":1: no source has `lost::name`"),
-        ("docs/API.md", "", "`crates/lost/file.rt`\n\n", "no file `crates/lost/file.rt`"),
-        ("docs/API.md", "", "`grep it crates/gone/file.rt`\n\n", "no file `crates/gone/file.rt`"),
-        ("docs/API.md", "", "`rt check --only coord::Coord::lost`\n\n", "no source has `coord::Coord::lost`"),
-        ("docs/API.md", "", "`wkb::reader::to_vec`\n\n", "no source has `wkb::reader::to_vec`"),
+        *judge.on_each(PAGES, "`lost_name`\n\n", ":1: no source has `lost_name`"),
+        ("docs/COST.md", "", "`crates/lost/file.rt`\n\n", "no file `crates/lost/file.rt`"),
+        ("docs/COST.md", "", "`grep it crates/gone/file.rt`\n\n", "no file `crates/gone/file.rt`"),
+        ("docs/COST.md", "", "`rt check --only coord::Coord::lost`\n\n", "no source has `coord::Coord::lost`"),
+        ("docs/COST.md", "", "`wkb::reader::to_vec`\n\n", "no source has `wkb::reader::to_vec`"),
         (FLOWS, "reader::read_wkb<", "writer::read_wkb<", "no code and no file is writer::read_wkb"),
         (FLOWS, ">put_encoding<", ">put_lost<", "no code and no file is put_lost"),
         ("docs/pictures/layers.svg", "c/proved/*.s<", "c/proved/*.o<", "no code and no file is c/proved/*.o"),
