@@ -3,7 +3,8 @@
 
     tools/contracts.py NAME..     prints the place of a call, a trait or a record, with its clauses and the command
                                   that proves the call; or the places of the clauses of this name, and of the other
-                                  definitions of specs/. The name may have its owner: wkb::canon::same, Writes.refused
+                                  definitions of specs/. The name may have its owner: wkb::canon::same, Wkb::buf,
+                                  Writes.refused
 """
 import collections
 import re
@@ -17,6 +18,8 @@ FUNCTION = re.compile(r'^( *)(?:pub(?:\(\w+\))? )?(?:const )?(?:extern "C" )?fn 
 BLOCK = re.compile(
     r"^ *(?:(?:pub )?(?:trait|struct|enum) |impl(?:<[^{\n]*?>)? (?:[\w:]+(?:<[^{\n]*>)? for )?)(\w+)", re.M
 )
+# Of the head of an `impl` or a trait: the trait, its argument, and the type or the trait itself.
+IMPL = re.compile(r"(?:pub )?(?:impl|trait)(?:<[^{]*?>)? (?:([\w:]+)(?:<([A-Za-z]\w+)?[^{]*>)? for )?(?:[\w:]+::)?(\w+)")
 DEFINITION = re.compile(r"^ *(?:pub )?(?:record|data) (\w+)", re.M)
 
 
@@ -86,12 +89,12 @@ class Clauses:
 
 def proof_of(crate, path, line):
     """The command that proves the call at a line of a file; none for a method that a trait only declares."""
-    lines = (ROOT / path).read_text(encoding="utf-8").splitlines()[:line]
+    lines = text_of(path).splitlines()[:line]
     names = [it for it in path.with_suffix("").parts[3:] if it not in ("lib", "main")]
     if lines[-1].startswith(" "):
-        around = next((it for it in reversed(lines) if re.match(r"(pub )?(impl|trait)\b", it)), "")
+        around = block_around(lines)
         found = IMPL.match(around)
-        if not found:
+        if not found or around.startswith(("trait", "pub trait")):
             return []
         # A check names a method by its type, the trait, and the trait's argument; the end of the name is enough.
         parts = [found[3], (found[1] or "").split("::")[-1], found[2] or ""]
@@ -99,12 +102,25 @@ def proof_of(crate, path, line):
     return [f"    (cd crates/{crate} && rt check --only {'::'.join([*names, FUNCTION.match(lines[-1])[2]])})"]
 
 
+def block_around(lines):
+    """The head of the `impl` or the trait that the last of these lines is in; the empty text if it is in none."""
+    heads = (it for it in reversed(lines) if re.match(r"(pub )?(impl|trait)\b", it))
+    return next(heads, "") if lines[-1].startswith(" ") else ""
+
+
+def is_of(place, owner):
+    """Whether what stands at a place is a method of this type or trait."""
+    _, _, _, path, line = place
+    found = IMPL.match(block_around(text_of(path).splitlines()[:line])) if path.suffix == ".rt" else None
+    return found is not None and owner in (found[1], found[3])
+
+
 def definitions(name):
     """The places of the definitions of this name, except for records."""
     head = re.compile(rf"(?m)^(?:  )?(?:(?:abbrev|unfoldable|pub|data) )*{re.escape(name)}(?= )")
     for path, text in texts("crates/*/specs/**/*.antt").items():
-        found = head.search(text) if name in defined(text) else None
-        if found:
+        found = head.search(text)
+        if found and name in defined(text):
             yield f"{path}:{text.count(chr(10), 0, found.start()) + 1}: {name}"
 
 
@@ -115,12 +131,12 @@ def told(clauses, word):
     named = [it for it in clauses.places if it[1] == (owner or label) and (not owner or it[2] == label)]
     # A user's path begins with `wkb`, also to a definition of another crate.
     found = [it for it in named if path[:1] == [it[0]]] or named
+    found = [it for it in found if path and is_of(it, path[-1])] or found
     found = found or [it for it in clauses.places if not owner and it[2] == label]
     for crate, owner, label, path, line in found:
         yield f"{path}:{line}: {owner}{'.' if label else ''}{label or ''}"
         if not label and path.suffix == ".rt":
             yield from proof_of(crate, path, line)
-    yield from definitions(word)
 
 
 def main(words):
@@ -128,7 +144,7 @@ def main(words):
         print(__doc__)
         return 0 if words else 2
     clauses = Clauses()
-    lines = [line for word in words for line in told(clauses, word)]
+    lines = [line for word in words for line in (*told(clauses, word), *definitions(word))]
     print(*lines or ["no source has a contract or a definition of this name"], sep="\n")
     return 0 if lines else 1
 
