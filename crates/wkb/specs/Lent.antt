@@ -8,21 +8,21 @@ use Rattle.wkb.specs.Reads.{Listed, Item, whole_of, spelling_at, order_of, Point
 use Rattle.wkb.specs.Reads.{point_seen, point_dimension, seen_coordinate, point_value, multi_point_seen}
 use Rattle.wkb.specs.Reads.{multi_point_dimension, seen_points, line_string_seen, line_string_dimension}
 use Rattle.wkb.specs.Reads.{seen_coordinates, ring_seen, ring_encoding, ring_order, ring_dimension, IsFront}
-use Rattle.wkb.specs.Laws.{IsMember, SpelledInFull, MembersInPlace, RingsInPlace, WordsStand, IsWordOf, StandsAt}
-use Rattle.wkb.specs.Laws.{member_start, ring_start, NextStart, SizeOfSpelled}
+use Rattle.wkb.specs.Laws.{IsMember, IsWordOf, StandsAt, member_start, ring_start}
+use Rattle.wkb.specs.Known.{spelled_in_full, members_in_place, rings_in_place, words_stand, next_start, size_of_spelled}
 use Rattle.wkb.specs.Bridges.{part_is_member, rest_stands, stands_within, begins_there}
 pub use Rattle.wkb.specs.Terms.{Lends, IsRingAt}
 
 -- The bytes that a view lends begin with its geometry, as `front` of a geometry's `buf` says: of the other views the
 -- value holds no collection.
-pub lent_front : SpelledInFull → {w : Item} {lent : List ℕ} → Lends w lent → nest w.value ≤ max_nesting → IsFront lent w
-lent_front full {w = w} {lent = lent} own shallow = record {
+pub lent_front : {w : Item} {lent : List ℕ} → Lends w lent → nest w.value ≤ max_nesting → IsFront lent w
+lent_front {w = w} {lent = lent} own shallow = record {
   rest = [];
   front =
       record {
         front = w.encoding;
         whole = own.encoding ∙ sym (append-nil w.encoding);
-        spelled = full w.spelled w.value w.encoding own.spells;
+        spelled = spelled_in_full w.spelled w.value w.encoding own.spells;
         shallow = shallow;
       };
   encoding_is = refl;
@@ -63,44 +63,44 @@ polygon_is_member m k p same spelled of =
     (multi_polygon m.dimension m.parts) m.parts k p.spelled p.parts refl spelled of)
 
 -- The bytes of a member are those of the whole at the member's place.
-pub member_stands : SpelledInFull → MembersInPlace → (whole : Item) (k : ℕ) (part : Item) {outer inner : List ℕ}
+pub member_stands : (whole : Item) (k : ℕ) (part : Item) {outer inner : List ℕ}
     → IsMember k whole.spelled whole.value part.spelled part.value → Lends whole outer → Lends part inner
     → StandsAt (member_start k whole.spelled whole.value) inner whole.encoding
-member_stands full place whole k part is out own =
+member_stands whole k part is out own =
     subst (λ b. StandsAt (member_start k whole.spelled whole.value) b whole.encoding) (sym own.encoding)
-    (place whole k part (subst AreBytes out.encoding out.bytes) (subst AreBytes own.encoding own.bytes)
-    (full whole.spelled whole.value whole.encoding out.spells)
-    (full part.spelled part.value part.encoding own.spells) is)
+    (members_in_place whole k part (subst AreBytes out.encoding out.bytes) (subst AreBytes own.encoding own.bytes)
+    (spelled_in_full whole.spelled whole.value whole.encoding out.spells)
+    (spelled_in_full part.spelled part.value part.encoding own.spells) is)
 
 -- What is at the place of the next member begins where the bytes of a member end.
-pub next_member_stands : SpelledInFull → NextStart → SizeOfSpelled → (whole : Item) (k n : ℕ) (part : Item)
+pub next_member_stands : (whole : Item) (k n : ℕ) (part : Item)
     {lent next : List ℕ} → n ≡ suc k
     → IsMember k whole.spelled whole.value part.spelled part.value → Lends part lent
     → StandsAt (member_start n whole.spelled whole.value) next whole.encoding
     → StandsAt (member_start k whole.spelled whole.value + length lent) next whole.encoding
-next_member_stands full next_start size whole k n part {lent = lent} {next = next} is member own stands =
+next_member_stands whole k n part {lent = lent} {next = next} is member own stands =
     let start = member_start k whole.spelled whole.value in
-    let spells = full part.spelled part.value part.encoding own.spells in
-    let long : length lent ≡ _ = ap length own.encoding ∙ size part.spelled part.value part.encoding spells in
+    let spells = spelled_in_full part.spelled part.value part.encoding own.spells in
+    let long : length lent ≡ _ = ap length own.encoding ∙ size_of_spelled part.spelled part.value part.encoding spells in
     let ends = next_start k whole.spelled whole.value part.spelled part.value member ∙ ap (λ l. start + l) (sym long) in
     subst (λ m. StandsAt m next whole.encoding)
     (ap (λ m. member_start m whole.spelled whole.value) is ∙ ends) stands
 
 -- The ring that `exterior` or `interior` returns is at its place in the polygon's bytes.
-pub ring_stands : SpelledInFull → RingsInPlace → (p : Listed (List (List Coordinate))) (j : ℕ) (r : LinearRing)
+pub ring_stands : (p : Listed (List (List Coordinate))) (j : ℕ) (r : LinearRing)
     {lent : List ℕ} → Lends (whole_of polygon p) lent
     → SpellsCoordinates (ring_order r) (ring_dimension r) (ring_seen r) (ring_encoding r)
     → AreBytes (ring_encoding r)
     → ring_order r ≡ order_of p.spelled → ring_dimension r ≡ p.dimension
     → Some (ring_seen r) ≡ slice_get p.parts j → IsRingAt p j r
-ring_stands full place p j r out coordinates bytes order same at =
+ring_stands p j r out coordinates bytes order same at =
     let here = subst (λ e. SpellsCoordinates e p.dimension (ring_seen r) (ring_encoding r)) order
     (subst (λ d. SpellsCoordinates (ring_order r) d (ring_seen r) (ring_encoding r)) same coordinates) in
-    let whole = full p.spelled (polygon p.dimension p.parts) p.encoding out.spells in
+    let whole = spelled_in_full p.spelled (polygon p.dimension p.parts) p.encoding out.spells in
     record {
       spelled = here;
       stands =
-          place (whole_of polygon p) p.dimension p.parts j (ring_seen r) (ring_encoding r)
+          rings_in_place (whole_of polygon p) p.dimension p.parts j (ring_seen r) (ring_encoding r)
           (subst AreBytes out.encoding out.bytes) bytes whole here refl (sym at);
       at = at;
     }
@@ -117,14 +117,14 @@ ring_coordinates_stand p j r lent h is =
     (stands_within (rest_stands 4 (ring_encoding r) long) h.stands)
 
 -- A word of a ring's coordinate is in bytes around the polygon, as many words after the ring's count.
-pub ring_word_stands : WordsStand → (p : Listed (List (List Coordinate))) (j i n w : ℕ) (r : LinearRing) (start : ℕ)
+pub ring_word_stands : (p : Listed (List (List Coordinate))) (j i n w : ℕ) (r : LinearRing) (start : ℕ)
     (outer : List ℕ) → StandsAt start p.encoding outer → IsRingAt p j r → IsWordOf (ring_seen r) i n w
     → number (order_of p.spelled) 8
     (drop (start + ring_start j p.spelled p.dimension p.parts + (4 + 8 * (width p.dimension * i + n))) outer) ≡ w
-ring_word_stands words p j i n w r start outer stands ring word =
+ring_word_stands p j i n w r start outer stands ring word =
     let at = start + ring_start j p.spelled p.dimension p.parts in
     let here = 4 + 8 * (width p.dimension * i + n) in
     let rest = drop (length (ring_encoding r)) (drop at outer) in
     ap (number (order_of p.spelled) 8)
     (sym (drop-drop here at outer) ∙ ap (drop here) (begins_there (stands_within ring.stands stands)))
-    ∙ words (order_of p.spelled) p.dimension (ring_seen r) (ring_encoding r) rest i n w ring.spelled word
+    ∙ words_stand (order_of p.spelled) p.dimension (ring_seen r) (ring_encoding r) rest i n w ring.spelled word

@@ -13,6 +13,7 @@ pub mod Encodings
 pub mod Reads
 pub mod Writes
 pub mod Laws
+pub mod Known
 mod Terms
 pub mod Bridges
 pub mod Handed

@@ -8,10 +8,10 @@ use Rattle.wkb.specs.Spellings.{header}
 use Rattle.wkb.specs.Geometries.{geometry_of}
 use Rattle.wkb.specs.Encodings.{encoding, IsRewritingWithSrid}
 use Rattle.wkb.specs.Writes.{WriteOptions, IsEncodingOf}
-use Rattle.wkb.specs.Reads.{Item, IsFront, HasNoFront, IsRefusal, IsNotMemory, Reads, Wkb}
+use Rattle.wkb.specs.Reads.{Item, IsFront, IsOnlyFront, HasNoFront, IsRefusal, IsNotMemory, Reads, Wkb}
 use Rattle.wkb.specs.Canonical.{HaveOneValue, HaveTwoValues, IsRewritingUnder, IsRefusedUnder, IsPairRefusal, IsSize}
 use Rattle.wkb.specs.Bridges.{memory_or}
-use Rattle.wkb.specs.Laws.{NeverBoth, HasOneFront}
+use Rattle.wkb.specs.Known.{never_both, has_one_front}
 pub use Rattle.wkb.specs.Terms.{own_options}
 
 -- Bytes that begin with a geometry, such as those of a geometry's `buf`, are never rejected by a call that rejects
@@ -39,28 +39,34 @@ read_the_same {w = w} (Ok x) f reads =
     rw (encoding, sym one.1, sym one.2) refl
 read_the_same (Err e) f reads = tt
 
+-- Whatever geometry such bytes begin with is that geometry.
+pub only_front : {buf : List ℕ} {w : Item} → IsFront buf w → IsOnlyFront buf w
+only_front {buf = buf} {w = w} f = λ s t rest g.
+    let one = has_one_front buf s w.spelled t w.value rest f.rest g f.front in
+    (one.0 ∙ f.encoding_is, one.1, one.2)
+
 -- ---- a refusal by its cause
 
 -- No error says why such bytes are rejected.
-pub no_refusal : NeverBoth → {buf : List ℕ} {w : Item} {e : WkbError} → IsFront buf w → IsRefusal buf e → ⊥
-no_refusal never {buf = buf} {w = w} f r =
-    never buf w.spelled w.value f.rest r.cause r.turns r.slots f.front r.refuses
+pub no_refusal : {buf : List ℕ} {w : Item} {e : WkbError} → IsFront buf w → IsRefusal buf e → ⊥
+no_refusal {buf = buf} {w = w} f r =
+    never_both buf w.spelled w.value f.rest r.cause r.turns r.slots f.front r.refuses
 
 -- What reports an allocation failure or a refusal reports an allocation failure, as `canonical_with_srid` does.
-pub not_refused : NeverBoth → {A : Type 0} {buf : List ℕ} {w : Item} (r : Result A WkbError) → IsFront buf w
+pub not_refused : {A : Type 0} {buf : List ℕ} {w : Item} (r : Result A WkbError) → IsFront buf w
     → IfErr r (λ e. IsMemory e ⊎ IsRefusal buf e) → IfErr r IsMemory
-not_refused never (Ok x) f err = tt
-not_refused never (Err e) f (inl memory) = memory
-not_refused never (Err e) f (inr refusal) = absurd (no_refusal never f refusal)
+not_refused (Ok x) f err = tt
+not_refused (Err e) f (inl memory) = memory
+not_refused (Err e) f (inr refusal) = absurd (no_refusal f refusal)
 
 -- `canonical` reports an allocation failure, or that the encoding is too long.
-pub not_refused_under : NeverBoth → {A : Type 0} (options : WriteOptions) {buf : List ℕ} {w : Item}
+pub not_refused_under : {A : Type 0} (options : WriteOptions) {buf : List ℕ} {w : Item}
     (r : Result A WkbError) → IsFront buf w → IfErr r (λ e. IsMemory e ⊎ IsRefusedUnder options buf e)
     → IfErr r (λ e. IsMemory e ⊎ IsSize e)
-not_refused_under never options (Ok x) f err = tt
-not_refused_under never options (Err e) f (inl memory) = inl memory
-not_refused_under never options (Err e) f (inr (inl refusal)) = absurd (no_refusal never f refusal)
-not_refused_under never options (Err e) f (inr (inr long)) = inr long.1
+not_refused_under options (Ok x) f err = tt
+not_refused_under options (Err e) f (inl memory) = inl memory
+not_refused_under options (Err e) f (inr (inl refusal)) = absurd (no_refusal f refusal)
+not_refused_under options (Err e) f (inr (inr long)) = inr long.1
 
 no_memory_reported : (e : WkbError) → IsMemory e → IsNotMemory e → ⊥
 no_memory_reported (errors.Memory x) is not = not
@@ -72,42 +78,42 @@ no_memory_reported (errors.OverflowError x) is not = is
 no_memory_reported (errors.IOError x) is not = is
 
 -- `same` of two geometries' bytes reports no error.
-pub always_compared : NeverBoth → {A : Type 0} {a b : List ℕ} {w v : Item} (r : Result A WkbError) → IsFront a w
+pub always_compared : {A : Type 0} {a b : List ℕ} {w v : Item} (r : Result A WkbError) → IsFront a w
     → IsFront b v → IfErr r (λ e. IsMemory e ⊎ IsPairRefusal a b e) → IfErr r IsNotMemory → IfErr r (λ _. ⊥)
-always_compared never (Ok x) f g err not = tt
-always_compared never (Err e) f g (inl memory) not = no_memory_reported e memory not
-always_compared never (Err e) f g (inr (inl refusal)) not = no_refusal never f refusal
-always_compared never (Err e) f g (inr (inr second)) not = no_refusal never g second.1
+always_compared (Ok x) f g err not = tt
+always_compared (Err e) f g (inl memory) not = no_memory_reported e memory not
+always_compared (Err e) f g (inr (inl refusal)) not = no_refusal f refusal
+always_compared (Err e) f g (inr (inr second)) not = no_refusal g second.1
 
 -- ---- what is written and compared is the geometry's value
 
 -- `canonical` of a geometry's bytes is the encoding of its value.
-pub own_encoding : HasOneFront → (options : WriteOptions) {buf : List ℕ} {w : Item}
+pub own_encoding : (options : WriteOptions) {buf : List ℕ} {w : Item}
     (r : Result (Vec ℕ Global) WkbError) → IsFront buf w → IfOk r (λ out. IsRewritingUnder options buf out.items)
     → IsEncodingOf options (geometry_of w.value) r
-own_encoding one options (Err e) f ok = tt
-own_encoding one options {buf = buf} {w = w} (Ok out) f ok =
+own_encoding options (Err e) f ok = tt
+own_encoding options {buf = buf} {w = w} (Ok out) f ok =
     ok.written
     ∙ ap (λ t. encoding options.endianness options.form (geometry_of t))
-    (one buf ok.s w.spelled ok.t w.value ok.rest f.rest ok.front f.front).2
+    (has_one_front buf ok.s w.spelled ok.t w.value ok.rest f.rest ok.front f.front).2
 
 -- `canonical_with_srid` of a geometry's bytes is the encoding of its value with its own SRID.
-pub own_encoding_with_srid : HasOneFront → (order : Endianness) {buf : List ℕ} {w : Item}
+pub own_encoding_with_srid : (order : Endianness) {buf : List ℕ} {w : Item}
     (r : Result (Vec ℕ Global) WkbError) → IsFront buf w → IfOk r (λ out. IsRewritingWithSrid order buf out.items)
     → IsEncodingOf (own_options order w) (geometry_of w.value) r
-own_encoding_with_srid one order (Err e) f ok = tt
-own_encoding_with_srid one order {buf = buf} {w = w} (Ok out) f ok =
-    let same = one buf ok.s w.spelled ok.t w.value ok.rest f.rest ok.front f.front in
+own_encoding_with_srid order (Err e) f ok = tt
+own_encoding_with_srid order {buf = buf} {w = w} (Ok out) f ok =
+    let same = has_one_front buf ok.s w.spelled ok.t w.value ok.rest f.rest ok.front f.front in
     ok.written ∙ ap (λ s. encoding order (Ewkb (header s).srid) (geometry_of ok.t)) same.1
     ∙ ap (λ t. encoding order (Ewkb (header w.spelled).srid) (geometry_of t)) same.2
 
 -- `same` returns whether two geometries have equal values.
-pub values_compared : HasOneFront → (equal : Bool) {a b : List ℕ} {w v : Item} → IsFront a w → IsFront b v
+pub values_compared : (equal : Bool) {a b : List ℕ} {w v : Item} → IsFront a w → IsFront b v
     → MatchBool equal (HaveOneValue a b) (HaveTwoValues a b)
     → MatchBool equal (w.value ≡ v.value) (w.value ≡ v.value → ⊥)
-values_compared one true {a = a} {b = b} {w = w} {v = v} f g h =
-    (one a w.spelled h.s w.value h.t f.rest h.rest f.front h.first).2
-    ∙ (one b h.u v.spelled h.t v.value h.more g.rest h.second g.front).2
-values_compared one false {a = a} {b = b} {w = w} {v = v} f g h = λ is.
-    h.different ((one a h.s w.spelled h.t w.value h.rest f.rest h.first f.front).2 ∙ is
-    ∙ (one b v.spelled h.u v.value h.v g.rest h.more g.front h.second).2)
+values_compared true {a = a} {b = b} {w = w} {v = v} f g h =
+    (has_one_front a w.spelled h.s w.value h.t f.rest h.rest f.front h.first).2
+    ∙ (has_one_front b h.u v.spelled h.t v.value h.more g.rest h.second g.front).2
+values_compared false {a = a} {b = b} {w = w} {v = v} f g h = λ is.
+    h.different ((has_one_front a h.s w.spelled h.t w.value h.rest f.rest h.first f.front).2 ∙ is
+    ∙ (has_one_front b v.spelled h.u v.value h.v g.rest h.more g.front h.second).2)

@@ -8,15 +8,15 @@ use Rattle.wkb.specs.Geometries.{Geometry, IsGeometry, normal, normal_point}
 use Rattle.wkb.specs.Encodings.{IsForm, encoding_of, refusal_of}
 use Rattle.wkb.specs.Writes.{WriteOptions}
 use Rattle.wkb.specs.Reads.{Item, IsOnlyFront, point_of}
-use Rattle.wkb.specs.Laws.{WritableIsRead}
+use Rattle.wkb.specs.Known.{writable_is_read}
 pub use Rattle.wkb.specs.Terms.{IsReadBefore}
 
 -- An encoding that other bytes follow is read before them.
 pub encoding_is_read : (rest : List ℕ) (options : WriteOptions) (g : Geometry) (encoding bytes : List ℕ)
-    → WritableIsRead → IsForm options.form → IsGeometry g → encoding ≡ encoding_of options g
+    → IsForm options.form → IsGeometry g → encoding ≡ encoding_of options g
     → refusal_of options g ≡ None → bytes ≡ encoding ++ rest → IsReadBefore rest options g bytes
-encoding_is_read rest options g encoding bytes law fits lawful is fine whole shallow =
-    let read = law options.endianness options.form g rest fits lawful fine shallow in
+encoding_is_read rest options g encoding bytes fits lawful is fine whole shallow =
+    let read = writable_is_read options.endianness options.form g rest fits lawful fine shallow in
     let same = whole ∙ ap (λ l. l ++ rest) is in
     (read.0, subst (λ b. Front b read.0 (normal g) rest) (sym same) read.1, read.2)
 

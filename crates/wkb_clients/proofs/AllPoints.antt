@@ -20,7 +20,7 @@ use Rattle.wkb.specs.Encodings.{encoding_of, refusal_of, fault, Fault, IsForm, f
 use Rattle.wkb.specs.Encodings.{count_fault, size_fault}
 use Rattle.wkb.specs.Plain.{coordinates_in}
 use Rattle.wkb.specs.Spellings.{Front}
-use Rattle.wkb.specs.Laws.{EncodingHasSize, FrontIsWritable, WritableIsRead}
+use Rattle.wkb.specs.Known.{encoding_has_size, front_is_writable}
 use Rattle.wkb.specs.ReadBack.{encoding_is_read}
 use Rattle.wkb.specs.Reads.{Item, values, IsFront}
 use Rattle.wkb.specs.Writes.{WriteOptions, IsVecError}
@@ -134,12 +134,12 @@ mutual
       (all_fit d t fits.0 only.0) (all_fit_each d ts fits.1 only.1)
 
 -- so it is in each geometry that was read and has one dimension
-pub read_fit : FrontIsWritable → (buf : List ℕ) (w : Item) (d : Dimension) → IsFront buf w → AreBytes buf
+pub read_fit : (buf : List ℕ) (w : Item) (d : Dimension) → IsFront buf w → AreBytes buf
     → length buf < 2 ^ 64 → d ≡ dimension w.value → HasOnly d w.value
     → AreCoordinates (as_dimensions (dimension w.value)) (coordinates_of w.value)
-read_fit law buf w d f bytes long own only =
+read_fit buf w d f bytes long own only =
     all_fit (dimension w.value) w.value
-    (law LittleEndian buf w.spelled w.value f.rest bytes long f.front).0
+    (front_is_writable LittleEndian buf w.spelled w.value f.rest bytes long f.front).0
     (subst (λ e. HasOnly e w.value) own only)
 
 -- ---- the multi point
@@ -180,12 +180,12 @@ normal_is : (t : Value)
 normal_is t = λ i. multi_point (dimension_again (dimension t) i) (normal_points (coordinates_of t) i)
 
 -- what was written is that encoding, and is read as that multi point
-pub are_points : WritableIsRead → (options : WriteOptions) (t : Value) (bytes : List ℕ) → IsForm options.form
+pub are_points : (options : WriteOptions) (t : Value) (bytes : List ℕ) → IsForm options.form
     → AreCoordinates (as_dimensions (dimension t)) (coordinates_of t)
     → bytes ≡ encoding_of options (points_meant t) → refusal_of options (points_meant t) ≡ None
     → ArePoints options t bytes
-are_points law options t bytes form fit is fine =
-    let read = encoding_is_read [] options (points_meant t) bytes bytes law form
+are_points options t bytes form fit is fine =
+    let read = encoding_is_read [] options (points_meant t) bytes bytes form
     (points_lawful (as_dimensions (dimension t)) (coordinates_of t) fit) is fine (sym (append-nil bytes)) (omega arith) in
     record {
       encoding_is = is;
@@ -221,14 +221,14 @@ short_by Xyzm n true few = omega (arith, few)
 short_by Xyzm n false few = omega (arith, few)
 
 -- fewer points than four bytes can count are written
-few_are_written : EncodingHasSize → (options : WriteOptions) (t : Value) → IsForm options.form
+few_are_written : (options : WriteOptions) (t : Value) → IsForm options.form
     → AreCoordinates (as_dimensions (dimension t)) (coordinates_of t)
     → length (coordinates_of t) < 2 ^ 32 → refusal_of options (points_meant t) ≡ None
 unfolding or_else size_fault
-few_are_written law options t form fit few =
+few_are_written options t form fit few =
     let none = no_fault t (length (coordinates_of t)) refl few in
     let lawful = points_lawful (as_dimensions (dimension t)) (coordinates_of t) fit in
-    let long = law options.endianness options.form (points_meant t) form lawful none in
+    let long = encoding_has_size options.endianness options.form (points_meant t) form lawful none in
     let counted = length-map (coordinates_of t) (λ (c : Coordinate). Some c) in
     let short : length (encoding_of options (points_meant t)) < 2 ^ 64 =
     subst (λ n. n < 2 ^ 64)
@@ -237,20 +237,21 @@ few_are_written law options t form fit few =
     (short_by (dimension t) (length (coordinates_of t)) (is_some (form_srid options.form)) few) in
     rw (none, lt-ltb _ (2 ^ 64) short) refl
 
-refused_by : EncodingHasSize → (options : WriteOptions) (t : Value) (f : Fault) (b : Bool) → IsForm options.form
+refused_by : (options : WriteOptions) (t : Value) (f : Fault) (b : Bool) → IsForm options.form
     → AreCoordinates (as_dimensions (dimension t)) (coordinates_of t)
     → refusal_of options (points_meant t) ≡ Some f → nat_lt (length (coordinates_of t)) (2 ^ 32) ≡ b
     → 2 ^ 32 ≤ length (coordinates_of t)
-refused_by law options t f true form fit is few =
-    let none = few_are_written law options t form fit (ltb-true (length (coordinates_of t)) (2 ^ 32) few) in
+refused_by options t f true form fit is few =
+    let none = few_are_written options t form fit (ltb-true (length (coordinates_of t)) (2 ^ 32) few) in
     absurd (cc)
-refused_by law options t f false form fit is many = ltb-false (length (coordinates_of t)) (2 ^ 32) many
+refused_by options t f false form fit is many = ltb-false (length (coordinates_of t)) (2 ^ 32) many
 
-pub want_of_room : EncodingHasSize → (options : WriteOptions) (t : Value) (e : WkbError) → IsForm options.form
+pub want_of_room : (options : WriteOptions) (t : Value) (e : WkbError) → IsForm options.form
     → AreCoordinates (as_dimensions (dimension t)) (coordinates_of t)
-    → IsVecError options (points_meant t) e → IsWantOfRoom t e
-want_of_room law options t e form fit (inl memory) = inl memory
-want_of_room law options t e form fit (inr r) = inr (refused_by law options t r.fault _ form fit r.is refl)
+    → IsVecError options (points_meant t) e → IsWantOfRoom options t e
+want_of_room options t e form fit (inl memory) = inl memory
+want_of_room options t e form fit (inr r) =
+    inr (record { many = refused_by options t r.fault _ form fit r.is refl; reports = r })
 
 -- the multi point that is written is that of the value
 pub meant_is : (t : Value) (dims line_dims points_dims : Dimensions) (words : List ℕ) (line : List Coordinate)

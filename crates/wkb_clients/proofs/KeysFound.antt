@@ -8,28 +8,28 @@ use Rattle.wkb_clients.specs.Common.{LittleEndian, Iso, AreBytes, Value, Front}
 use Rattle.std.specs.Bool.{Decides}
 use Rattle.std.proofs.lemmas.Slice.Eq.{bytes_eq-Decides}
 use Rattle.wkb.specs.Encodings.{IsRewriting}
-use Rattle.wkb.specs.Laws.{EqualEncodings, FrontIsRead, RewritingIsRead}
+use Rattle.wkb.specs.Known.{equal_encodings, front_is_read, rewriting_is_read}
 use Rattle.wkb_clients.specs.Keys.{key_of, IsKey, HasOneKey, Inserts, value_in, value_read}
 
 pub is_key : (input key : List ℕ) → IsRewriting LittleEndian Iso input key → IsKey input key
 unfolding key_of
 is_key input key h = record { spelled = h.s; value = h.t; rest = h.rest; front = h.front; is = h.written }
 
-pub one_key_lem : EqualEncodings → HasOneKey
+pub one_key_lem : HasOneKey
 unfolding key_of
-one_key_lem law a b x y bytes bytes' k l =
+one_key_lem a b x y bytes bytes' k l =
     let same =
-    law LittleEndian Iso a b k.spelled l.spelled k.value l.value k.rest l.rest tt bytes bytes' k.front l.front in
+    equal_encodings LittleEndian Iso a b k.spelled l.spelled k.value l.value k.rest l.rest tt bytes bytes' k.front l.front in
     (λ e. same.0 (sym k.is ∙ e ∙ l.is), λ e. k.is ∙ same.1 e ∙ sym l.is)
 
 -- a key is read as the value that it was made of
-pub key_read : FrontIsRead → RewritingIsRead → (input key : List ℕ) → AreBytes input → (k : IsKey input key)
+pub key_read : (input key : List ℕ) → AreBytes input → (k : IsKey input key)
     → value_in key ≡ k.value
 unfolding key_of value_in
-key_read front rewriting input key bytes k =
-    let r = rewriting LittleEndian Iso input k.spelled k.value k.rest [] tt bytes k.front in
+key_read input key bytes k =
+    let r = rewriting_is_read LittleEndian Iso input k.spelled k.value k.rest [] tt bytes k.front in
     let f : Front key r.0 k.value [] = subst (λ b. Front b r.0 k.value []) (append-nil _ ∙ sym k.is) r.1 in
-    ap (λ (x : _). value_read x.1) (front key r.0 k.value [] f)
+    ap (λ (x : _). value_read x.1) (front_is_read key r.0 k.value [] f)
 
 -- ---- among others
 
@@ -80,27 +80,26 @@ all_with bytes_of (x ∷ ks) k all is = (all.0, all_with bytes_of ks k all.1 is)
 
 -- ---- what an insertion did
 
-pub was_known : FrontIsRead → RewritingIsRead → {V : Type 0} (bytes_of : V → List ℕ) (ks : List V) (input key : List ℕ)
+pub was_known : {V : Type 0} (bytes_of : V → List ℕ) (ks : List V) (input key : List ℕ)
     → AreBytes input → IsKey input key
     → list_any (λ y. bytes_eq (bytes_of y) key) ks ≡ true
     → Inserts (map (λ y. value_in (bytes_of y)) ks) (map (λ y. value_in (bytes_of y)) ks) input true
-was_known front rewriting bytes_of ks input key bytes k found =
+was_known bytes_of ks input key bytes k found =
     record {
       spelled = k.spelled;
       value = k.value;
       rest = k.rest;
       front = k.front;
-      known = known bytes_of key k.value ks (key_read front rewriting input key bytes k) found;
+      known = known bytes_of key k.value ks (key_read input key bytes k) found;
       kept = refl;
     }
 
-pub is_stored : FrontIsRead → RewritingIsRead
-    → {V : Type 0} (bytes_of : V → List ℕ) (ks : List V) (input : List ℕ) (v : V) → AreBytes input
+pub is_stored : {V : Type 0} (bytes_of : V → List ℕ) (ks : List V) (input : List ℕ) (v : V) → AreBytes input
     → IsKey input (bytes_of v)
     → AllByRecursion (λ y. bytes_of y ≡ key_of (value_in (bytes_of y))) ks
     → list_any (λ y. bytes_eq (bytes_of y) (bytes_of v)) ks ≡ false
     → Inserts (map (λ y. value_in (bytes_of y)) ks) (map (λ y. value_in (bytes_of y)) (ks ++ v ∷ [])) input false
-is_stored front rewriting bytes_of ks input v bytes k all none =
+is_stored bytes_of ks input v bytes k all none =
     record {
       spelled = k.spelled;
       value = k.value;
@@ -109,9 +108,9 @@ is_stored front rewriting bytes_of ks input v bytes k all none =
       known = unknown bytes_of (bytes_of v) k.value ks all k.is none;
       kept = map-append (λ y. value_in (bytes_of y)) ks (v ∷ [])
           ∙ ap (λ w. map (λ y. value_in (bytes_of y)) ks ++ w ∷ [])
-          (key_read front rewriting input (bytes_of v) bytes k);
+          (key_read input (bytes_of v) bytes k);
     }
 
-pub is_its_own : FrontIsRead → RewritingIsRead → (input key : List ℕ) → AreBytes input → (k : IsKey input key)
+pub is_its_own : (input key : List ℕ) → AreBytes input → (k : IsKey input key)
     → key ≡ key_of (value_in key)
-is_its_own front rewriting input key bytes k = k.is ∙ ap key_of (sym (key_read front rewriting input key bytes k))
+is_its_own input key bytes k = k.is ∙ ap key_of (sym (key_read input key bytes k))

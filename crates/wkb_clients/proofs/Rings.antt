@@ -6,7 +6,8 @@ use Rattle.std.proofs.lemmas.List.{drop-drop}
 use Rattle.wkb_clients.specs.Common.{WkbError, number, width, IsMemory, Coordinate, Value, polygon}
 use Rattle.wkb_clients.specs.Common.{members, kind}
 use Rattle.wkb_clients.specs.Common.{header, Spells, Listed, whole_of, Item}
-use Rattle.wkb_clients.specs.Common.{IsMember, IsWordOf, MembersStand, RingsStand, WordsStand}
+use Rattle.wkb_clients.specs.Common.{IsMember, IsWordOf}
+use Rattle.wkb.specs.Known.{members_stand, rings_stand, words_stand}
 use Rattle.wkb_clients.specs.Common.{HasNoFront}
 use Rattle.std.proofs.Math.Seq.{drop-append_seam}
 use Rattle.wkb.specs.Reads.{ring_seen, LinearRing, IsCollectionOf}
@@ -74,16 +75,15 @@ behind_part encoding rest head before part after start is at =
     ∙ ap (λ n. drop n ((head ++ before) ++ (part ++ (after ++ rest)))) (at ∙ sym (length-append head before))
     ∙ drop-append_seam (head ++ before) (part ++ (after ++ rest))
 
-ring_word_at : MembersStand → RingsStand → WordsStand
-    → (blob : List ℕ) (offset k j i n x : ℕ) (w : Item) (ring : List Coordinate)
+ring_word_at : (blob : List ℕ) (offset k j i n x : ℕ) (w : Item) (ring : List Coordinate)
     → BeginsAt blob offset w → IsRingOf w k j ring → IsWordOf ring i n x → IsRingWordAt blob offset k j i n x
-ring_word_at members rings words blob offset k j i n x w ring there of word =
+ring_word_at blob offset k j i n x w ring there of word =
     let f = there.front in
     let spells = subst (λ t. Spells w.spelled w.value t) f.encoding_is f.front.spelled in
-    let m = members w k of.spelled (polygon of.of_polygon of.rings) spells of.is_member in
+    let m = members_stand w k of.spelled (polygon of.of_polygon of.rings) spells of.is_member in
     let part : Item = record { encoding = m.0; spelled = of.spelled; value = polygon of.of_polygon of.rings } in
     let p = m.1 in
-    let r = rings part of.of_polygon of.rings j ring p.spells refl of.is in
+    let r = rings_stand part of.of_polygon of.rings j ring p.spells refl of.is in
     let here = 4 + 8 * (width r.dimension * i + n) in
     let whole : drop offset blob ≡ w.encoding ++ f.rest = f.front.whole ∙ ap (λ t. t ++ f.rest) f.encoding_is in
     let in_whole : drop p.start (drop offset blob) ≡ m.0 ++ (p.after ++ f.rest) =
@@ -110,7 +110,7 @@ ring_word_at members rings words blob offset k j i n x w ring there of word =
       place = offset + p.start + r.start + here;
       place_is = omega arith;
       stands = ap (number (header of.spelled).order 8) (at ∙ ap (drop here) in_part)
-          ∙ words (header of.spelled).order r.dimension ring r.bytes
+          ∙ words_stand (header of.spelled).order r.dimension ring r.bytes
           (r.after ++ (p.after ++ f.rest)) i n x r.spells word;
     }
 
@@ -145,14 +145,13 @@ one_ring w k j a b h g =
     cc
 
 -- the coordinate of a ring was found, and its word or none
-pub ring_word_or_none : MembersStand → RingsStand → WordsStand
-    → (blob : List ℕ) (offset k j i n : ℕ) (w : Item) (ring : List Coordinate) (c : Coordinate) (found : Option ℕ)
+pub ring_word_or_none : (blob : List ℕ) (offset k j i n : ℕ) (w : Item) (ring : List Coordinate) (c : Coordinate) (found : Option ℕ)
     → BeginsAt blob offset w → IsRingOf w k j ring → Some c ≡ slice_get ring i → found ≡ slice_get c n
     → MatchOption found (HasNoRingWordAt blob offset k j i n) (λ x. IsRingWordAt blob offset k j i n x)
-ring_word_or_none members rings words blob offset k j i n w ring c (Some x) there of here found =
-    ring_word_at members rings words blob offset k j i n x w ring there of
+ring_word_or_none blob offset k j i n w ring c (Some x) there of here found =
+    ring_word_at blob offset k j i n x w ring there of
     (record { coordinate = c; coordinate_is = sym here; word_is = sym found })
-ring_word_or_none members rings words blob offset k j i n w ring c None there of here found =
+ring_word_or_none blob offset k j i n w ring c None there of here found =
     λ x h. no_word ring c i n x here found
     (subst (λ l. IsWordOf l i n x) (one_ring w k j h.ring ring (ring_of blob offset k j i n x w there h) of) h.word)
 

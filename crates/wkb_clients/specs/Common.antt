@@ -5,5 +5,5 @@ pub use Rattle.wkb.specs.Spellings.{Front, max_nesting, Spelling, Spells, header
 pub use Rattle.wkb.specs.Reads.{Item, geometry_at, whole_of, Listed, HasNoFront, IsFront, members_spelled}
 pub use Rattle.wkb.specs.Reads.{list_of_spellings, point_seen, polygon_seen, multi_polygon_seen, LinearRing, words_seen}
 pub use Rattle.wkb.specs.Reads.{ring_seen, ring_dimension}
-pub use Rattle.wkb.specs.Laws.{IsWordOf, IsMember, HoldsMember, MembersStand, HasOneEncoding, HoldsRing, RingsStand}
-pub use Rattle.wkb.specs.Laws.{WordsStand, StandsAt, member_start, ring_start}
+pub use Rattle.wkb.specs.Laws.{IsWordOf, IsMember, HoldsMember, HoldsRing}
+pub use Rattle.wkb.specs.Laws.{StandsAt, member_start, ring_start}

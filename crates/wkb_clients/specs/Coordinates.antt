@@ -9,8 +9,8 @@ use Rattle.wkb.specs.Values.{multi_polygon, collection, no_members, member, dime
 use Rattle.wkb.specs.Spellings.{Spelling, Front}
 use Rattle.wkb.specs.Geometries.{Geometry, normal_point}
 use Rattle.wkb.specs.Geometries.{multi_point as points_of}
-use Rattle.wkb.specs.Encodings.{encoding_of}
-use Rattle.wkb.specs.Writes.{WriteOptions}
+use Rattle.wkb.specs.Encodings.{encoding_of, refusal_of}
+use Rattle.wkb.specs.Writes.{WriteOptions, Reports}
 
 -- the coordinate of a point; an empty one has none
 abbrev pub of_point : Option Coordinate → List Coordinate
@@ -79,6 +79,11 @@ pub record ArePoints (options : WriteOptions) (t : Value) (bytes : List ℕ) : T
 abbrev pub FindsPoints : WriteOptions → Value → Option (Vec ℕ Global) → Type 0
 FindsPoints options t found = MatchOption found (HasOther t) (λ bytes. ArePoints options t bytes.items)
 
--- an allocation failed, or there are more points than a count of four bytes can say
-abbrev pub IsWantOfRoom : Value → WkbError → Type 0
-IsWantOfRoom t e = IsMemory e ⊎ (2 ^ 32 ≤ length (coordinates_of t))
+-- there are more points than a count of four bytes can say, and the error is the one of the writer
+pub record HasTooMany (options : WriteOptions) (t : Value) (e : WkbError) : Type 0 where
+  pub many : 2 ^ 32 ≤ length (coordinates_of t)
+  pub reports : Reports e (refusal_of options (points_meant t))
+
+-- an allocation failed, or there are too many points
+abbrev pub IsWantOfRoom : WriteOptions → Value → WkbError → Type 0
+IsWantOfRoom options t e = IsMemory e ⊎ HasTooMany options t e

@@ -8,7 +8,7 @@ ghost use Rattle.wkb_clients.specs.Members.{SpellsInFull};
 use std::alloc::Global;
 use wkb::error::WkbResult;
 use wkb::geom::MultiPolygonTrait;
-use wkb::laws::{are_bytes, one_encoding, spelled_in_full};
+use wkb::laws::are_bytes;
 use wkb::reader::{MultiPolygon, Polygon, Wkb};
 use wkb::writer::{WriteOptions, to_vec};
 
@@ -17,7 +17,6 @@ fn polygon_spelled(polygon: &Polygon)
     ensures bytes { AreBytes polygon.now.encoding }
     ensures spells { SpellsInFull (polygon_seen polygon.now) }
 {
-    spelled_in_full();
     are_bytes(polygon.buf());
 }
 
@@ -30,7 +29,6 @@ pub fn both_polygons<'m, 'a>(
     requires { clone.now ≡ source.now }
     ensures { option_map (λ p. p.now) result.1 ≡ option_map (λ p. p.now) result.0 }
 {
-    one_encoding();
     match (source.polygon(i), clone.polygon(i)) {
         (Some(one), Some(other)) => {
             polygon_spelled(one);

@@ -6,7 +6,6 @@ use crate::geopackage::from_offset;
 use std::alloc::Global;
 use wkb::error::WkbResult;
 use wkb::geom::{CoordTrait, GeometryTrait, GeometryType, LineStringTrait, PolygonTrait};
-use wkb::laws::{members_stand, rings_stand, words_stand};
 use wkb::reader::{LinearRing, Wkb, read_wkb};
 
 /// Which word of a collection is meant, each index from 0: the member, its ring (0 is the exterior), the ring's
@@ -48,9 +47,6 @@ pub fn ring_of_member<'a>(geometry: &Wkb<'a>, member: usize, ring: usize) -> Opt
 pub fn ring_word(alloc: Global, blob: &[u8], offset: usize, at: WordPath) -> WkbResult<Option<u64>>
     ensures { FindsRingWord blob.now offset at result }
 {
-    members_stand();
-    rings_stand();
-    words_stand();
     let geometry = match read_wkb(alloc, from_offset(blob, offset)) {
         Ok(geometry) => geometry,
         Err(e) => return Err(e),

@@ -12,7 +12,7 @@ use wkb::geom::{
     CoordTrait, Dimensioned, GeometryTrait, GeometryType, LineString, LineStringTrait,
     MultiLineStringTrait, MultiPointTrait, MultiPolygonTrait, PointTrait, PolygonTrait,
 };
-use wkb::laws::{are_bytes, encoding_length, front_is_writable, srid_fits, writable_is_read};
+use wkb::laws::{are_bytes, srid_fits};
 use wkb::reader::{Dimension, LinearRing, MultiLineString, MultiPoint, MultiPolygon, Polygon, Wkb};
 use wkb::writer::{WriteOptions, to_vec};
 
@@ -170,18 +170,16 @@ fn put_members(words: &mut Vec<u64>, members: &[Wkb]) -> Result<(), AllocError>
 /// The encoding of the multi point that has a point at each coordinate of the geometry, in their order. An empty point
 /// has no coordinate; a coordinate of NaNs keeps its words, and is read as an empty point.
 ///
-/// None if a collection has a member of another dimension. Rejected if there are more than 4294967295 coordinates.
+/// None if a collection has a member of another dimension. Rejected as the writer rejects that multi point: if there are
+/// more than 4294967295 coordinates.
 pub fn as_multi_point(
     alloc: Global,
     geometry: &Wkb,
     options: &WriteOptions,
 ) -> WkbResult<Option<Vec<u8>>>
     ensures ok { IfOk result (FindsPoints options.now geometry.now.value) }
-    ensures err { IfErr result (IsWantOfRoom geometry.now.value) }
+    ensures err { IfErr result (IsWantOfRoom options.now geometry.now.value) }
 {
-    front_is_writable();
-    writable_is_read();
-    encoding_length();
     srid_fits(options.form);
     are_bytes(geometry.buf());
     if !has_only(geometry, geometry.dimension()) {

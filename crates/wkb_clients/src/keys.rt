@@ -10,7 +10,7 @@ use std::marker::Model;
 use wkb::Endianness;
 use wkb::canon::canonical;
 use wkb::error::WkbResult;
-use wkb::laws::{are_bytes, equal_encodings, geometry_agrees, rewriting_is_read};
+use wkb::laws::are_bytes;
 use wkb::writer::{Form, WriteOptions};
 
 /// The key of the geometry at the start of the bytes: equal values have equal keys, whatever their byte orders, codes
@@ -32,7 +32,6 @@ pub fn key(alloc: Global, bytes: &[u8]) -> WkbResult<Vec<u8>>
 pub fn one_key()
     ensures { HasOneKey }
 {
-    equal_encodings();
 }
 
 /// Values of geometries in the order in which they came, each once. It holds their keys, and looks at each of them.
@@ -77,8 +76,6 @@ impl Store {
         ensures err { IfErr result (λ e. IsMemory e ⊎ IsRefusal bytes.now e) }
         ensures kept { IfErr result (λ e. self.new ≡ self.old) }
     {
-        geometry_agrees();
-        rewriting_is_read();
         are_bytes(bytes);
         let key = match key(*self.keys.allocator(), bytes) {
             Ok(key) => key,

@@ -6,10 +6,7 @@ ghost use Rattle.wkb.specs.Reads.{multi_polygon_seen};
 ghost use Rattle.wkb_clients.specs.Members.{LendsMember, AreNeighbours, IsCornerWord};
 
 use wkb::geom::{CoordTrait, LineStringTrait, MultiPolygonTrait, PolygonTrait};
-use wkb::laws::{
-    are_bytes, members_in_place, next_start, rings_in_place, size_of_spelled, spelled_in_full,
-    words_stand,
-};
+use wkb::laws::are_bytes;
 use wkb::reader::MultiPolygon;
 
 /// The bytes of a polygon of a multi polygon, if there is one of this index: at its place in those of the multi
@@ -17,8 +14,6 @@ use wkb::reader::MultiPolygon;
 fn polygon_bytes<'a>(multi: &MultiPolygon<'a>, i: usize) -> Option<&'a [u8]>
     ensures { IfSome result (λ bytes. LendsMember (multi_polygon_seen multi.now) i bytes.now) }
 {
-    members_in_place();
-    spelled_in_full();
     are_bytes(multi.buf());
     match multi.polygon(i) {
         Some(polygon) => {
@@ -35,10 +30,6 @@ fn polygon_bytes<'a>(multi: &MultiPolygon<'a>, i: usize) -> Option<&'a [u8]>
 pub fn neighbour_bytes<'a>(multi: &MultiPolygon<'a>, i: u32) -> Option<(&'a [u8], &'a [u8])>
     ensures { IfSome result (AreNeighbours (multi_polygon_seen multi.now) i) }
 {
-    members_in_place();
-    next_start();
-    size_of_spelled();
-    spelled_in_full();
     are_bytes(multi.buf());
     let i = i as usize;
     let Some(polygon) = multi.polygon(i) else {
@@ -62,10 +53,6 @@ pub fn corner_word(
 ) -> Option<u64>
     ensures { IfSome result (IsCornerWord (multi_polygon_seen multi.now) member coordinate word) }
 {
-    members_in_place();
-    rings_in_place();
-    spelled_in_full();
-    words_stand();
     are_bytes(multi.buf());
     let Some(polygon) = multi.polygon(member) else {
         return None;

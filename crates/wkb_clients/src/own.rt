@@ -13,7 +13,6 @@ use wkb::Endianness;
 use wkb::canon::{canonical_with_srid, same};
 use wkb::check::{Bounds, Refused, Summary, bounds, check};
 use wkb::error::WkbResult;
-use wkb::laws::{one_front, read_or_refused};
 use wkb::reader::{Wkb, read_wkb};
 
 /// The check never rejects the bytes of a geometry.
@@ -46,8 +45,6 @@ pub fn key_anew(alloc: Global, w: &Wkb<'_>, order: Endianness) -> WkbResult<Vec<
     ensures ok { IsEncodingOf (own_options order w.now) (geometry_of w.now.value) result }
     ensures err { IfErr result IsMemory }
 {
-    one_front();
-    read_or_refused();
     canonical_with_srid(alloc, w.buf(), order)
 }
 
@@ -55,8 +52,6 @@ pub fn key_anew(alloc: Global, w: &Wkb<'_>, order: Endianness) -> WkbResult<Vec<
 pub fn are_equal(alloc: Global, w: &Wkb<'_>, v: &Wkb<'_>) -> bool
     ensures { MatchBool result (w.now.value ≡ v.now.value) (w.now.value ≡ v.now.value → ⊥) }
 {
-    one_front();
-    read_or_refused();
     match same(alloc, w.buf(), v.buf()) {
         Ok(equal) => equal,
         Err(_) => unreachable!(),

@@ -7,7 +7,7 @@ returns-in-Some-Some c =
     let o = rw c.in-Some-Some.is-0 at c.polygon.ensures in
     let p = rw c.in-Some-Some.is-1 at c.polygon-2.ensures in
     ap Some
-    (same_polygon c.one_encoding.ensures c.args.source.now c.args.clone.now c.args.i c.in-Some-Some.one.now
+    (same_polygon c.args.source.now c.args.clone.now c.args.i c.in-Some-Some.one.now
     c.in-Some-Some.other.now c.requires o.part p.part
     o.dimension p.dimension o.spelled p.spelled
     c.polygon_spelled.ensures.bytes c.polygon_spelled-in-Some-Some.ensures.bytes c.polygon_spelled.ensures.spells

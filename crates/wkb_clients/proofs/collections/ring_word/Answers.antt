@@ -16,7 +16,7 @@ returns-in-Some-coord c =
     let there =
     begins_at c.args.blob.now c.args.offset c.from_offset.result.now w c.from_offset.ensures c.in-Ok.ensures.front
     c.in-Ok.ensures.one_front in
-    ring_word_or_none c.members_stand.ensures c.rings_stand.ensures c.words_stand.ensures.ring c.args.blob.now
+    ring_word_or_none c.args.blob.now
     c.args.offset at.member at.ring at.coordinate
     at.word
     w _ _ c.nth.result there c.in-Some.ensures c.in-Some-coord.ensures.value c.nth.ensures

@@ -15,8 +15,8 @@ use Rattle.wkb_clients.proofs.coordinates.as_multi_point.Goals.{After-as_slice}
 fit : (c : After-as_slice)
     → AreCoordinates (as_dimensions (dimension c.args.geometry.now.value)) (coordinates_of c.args.geometry.now.value)
 fit c =
-    read_fit c.front_is_writable.ensures.iso c.buf.result.now c.args.geometry.now c.dimension.result c.buf.ensures.front
-    c.are_bytes.ensures (omega arith) c.dimension.ensures c.if-not-has_only.ensures
+    read_fit c.buf.result.now c.args.geometry.now c.dimension.result c.buf.ensures.front c.are_bytes.ensures (omega arith)
+    c.dimension.ensures c.if-not-has_only.ensures
 
 -- the words are those of all coordinates
 words_are : (c : After-as_slice) → c.as_slice.result.now ≡ words_of (coordinates_of c.args.geometry.now.value)
@@ -40,7 +40,7 @@ returns-in-Ok-clause-ok c =
     let meant = meant_is c.args.geometry.now.value c.dim.result (line_string_dimensions line) (points_dimensions points) _
     (line_string_coordinates line) (points_points points) c.dim.ensures c.in-Some.ensures.dimensions
     c.new-2.ensures.dimensions c.new-2.ensures.points c.in-Some.ensures.coordinates (words_are p) (fit p) in
-    are_points c.writable_is_read.ensures options c.args.geometry.now.value c.in-Ok.bytes.items c.srid_fits.ensures
+    are_points options c.args.geometry.now.value c.in-Ok.bytes.items c.srid_fits.ensures
     (fit p)
     (c.in-Ok.ensures.ok ∙ ap (encoding_of options) meant) (ap (refusal_of options) (sym meant) ∙ c.in-Ok.ensures.writable)
 
@@ -53,5 +53,5 @@ returns-clause-err c =
     let meant = meant_is c.args.geometry.now.value c.dim.result (line_string_dimensions line) (points_dimensions points) _
     (line_string_coordinates line) (points_points points) c.dim.ensures c.in-Some.ensures.dimensions
     c.new-2.ensures.dimensions c.new-2.ensures.points c.in-Some.ensures.coordinates (words_are p) (fit p) in
-    want_of_room c.encoding_length.ensures.size options c.args.geometry.now.value c.in-Err.e c.srid_fits.ensures (fit p)
+    want_of_room options c.args.geometry.now.value c.in-Err.e c.srid_fits.ensures (fit p)
     (subst (λ g. IsVecError options g c.in-Err.e) meant c.in-Err.ensures.err)

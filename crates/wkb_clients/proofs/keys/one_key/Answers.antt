@@ -2,4 +2,4 @@ use Rattle.wkb_clients.proofs.KeysFound.{one_key_lem}
 use Rattle.wkb_clients.proofs.keys.one_key.Goals as goal
 
 pub returns : goal.returns
-returns c = one_key_lem c.equal_encodings.ensures
+returns c = one_key_lem

@@ -20,7 +20,7 @@ returns c =
     let own : Lends (polygon_seen p) _ =
     record { bytes = c.are_bytes-2.ensures; encoding = bytes.encoding; spells = bytes.spells } in
     let ring =
-    ring_stands c.spelled_in_full.ensures c.rings_in_place.ensures p 0 r own lent.spells lent.bytes e.order e.dimension
+    ring_stands p 0 r own lent.spells lent.bytes e.order e.dimension
     e.part in
     let word : IsWordOf (ring_seen r) c.args.coordinate c.args.word c.in-Some-nth.word = record {
       coordinate = words_seen c.in-Some-coord.coord;
@@ -28,7 +28,7 @@ returns c =
       word_is = sym c.in-Some-nth.ensures;
     } in
     let stands =
-    member_stands c.spelled_in_full.ensures c.members_in_place.ensures whole c.args.member (polygon_seen p) member
+    member_stands whole c.args.member (polygon_seen p) member
     (record { bytes = c.are_bytes.ensures; encoding = b.encoding; spells = b.spells }) own in
     record {
       part = polygon_seen p;
@@ -43,6 +43,6 @@ returns c =
           + (4 + 8 * (width p.dimension * c.args.coordinate + c.args.word));
       place_is = omega arith;
       stands =
-          ring_word_stands c.words_stand.ensures.ring p 0 c.args.coordinate c.args.word c.in-Some-nth.word r start
+          ring_word_stands p 0 c.args.coordinate c.args.word c.in-Some-nth.word r start
           whole.encoding (subst (λ t. StandsAt start t whole.encoding) bytes.encoding stands) ring word;
     }

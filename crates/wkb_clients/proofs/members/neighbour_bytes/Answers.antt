@@ -12,11 +12,10 @@ returns-in-Some-polygon_bytes c =
     let bytes = c.buf-bytes.ensures in
     let member = polygon_is_member c.args.multi.now c.args.i p o.dimension o.spelled o.part in
     record {
-      first = member_stands c.spelled_in_full.ensures c.members_in_place.ensures whole c.args.i (polygon_seen p) member
+      first = member_stands whole c.args.i (polygon_seen p) member
           (record { bytes = c.are_bytes.ensures; encoding = b.encoding; spells = b.spells })
           (record { bytes = c.are_bytes-2.ensures; encoding = bytes.encoding; spells = bytes.spells });
-      second = next_member_stands c.spelled_in_full.ensures c.next_start.ensures.next c.size_of_spelled.ensures whole
-          c.args.i _ (polygon_seen p) (omega arith) member
+      second = next_member_stands whole c.args.i _ (polygon_seen p) (omega arith) member
           (record { bytes = c.are_bytes-2.ensures; encoding = bytes.encoding; spells = bytes.spells })
           c.in-Some-polygon_bytes.ensures;
     }

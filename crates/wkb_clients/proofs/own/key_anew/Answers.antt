@@ -3,10 +3,9 @@ use Rattle.wkb_clients.proofs.own.key_anew.Goals as goal
 
 pub returns-clause-ok : goal.returns-clause-ok
 returns-clause-ok c =
-    own_encoding_with_srid c.one_front.ensures c.args.order c.canonical_with_srid.result c.buf.ensures.front
+    own_encoding_with_srid c.args.order c.canonical_with_srid.result c.buf.ensures.front
     c.canonical_with_srid.ensures.ok
 
 pub returns-clause-err : goal.returns-clause-err
 returns-clause-err c =
-    not_refused c.read_or_refused.ensures.never_both c.canonical_with_srid.result c.buf.ensures.front
-    c.canonical_with_srid.ensures.err
+    not_refused c.canonical_with_srid.result c.buf.ensures.front c.canonical_with_srid.ensures.err

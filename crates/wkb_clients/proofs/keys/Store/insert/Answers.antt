@@ -16,7 +16,7 @@ returns-then-contains-clause-ok c =
     ap (λ l. list_any (λ y. bytes_eq (bytes_of y) c.in-Ok.key.items) l) (sym c.deref.ensures.value)
     ∙ sym c.contains.ensures.value ∙ c.if-contains.true in
     subst (λ s. Inserts s s c.args.bytes.now true) c.self.view_is
-    (was_known c.geometry_agrees.ensures.front c.rewriting_is_read.ensures bytes_of keys c.args.bytes.now
+    (was_known bytes_of keys c.args.bytes.now
     c.in-Ok.key.items c.are_bytes.ensures
     c.in-Ok.ensures.ok found)
 
@@ -24,7 +24,7 @@ pub invariant_of-self-2 : goal.invariant_of-self-2
 invariant_of-self-2 c =
     subst (λ l. AllByRecursion (λ y. bytes_of y ≡ key_of (value_in (bytes_of y))) l) (sym c.in_ok-push.ensures.items)
     (all_with bytes_of c.self.inside.keys.items c.in-Ok.key c.self.invariant
-    (is_its_own c.geometry_agrees.ensures.front c.rewriting_is_read.ensures c.args.bytes.now c.in-Ok.key.items
+    (is_its_own c.args.bytes.now c.in-Ok.key.items
     c.are_bytes.ensures c.in-Ok.ensures.ok))
 
 pub returns-clause-ok : goal.returns-clause-ok
@@ -34,7 +34,7 @@ returns-clause-ok c =
     ap (λ l. list_any (λ y. bytes_eq (bytes_of y) c.in-Ok.key.items) l) (sym c.deref.ensures.value)
     ∙ sym c.contains.ensures.value ∙ c.if-contains.false in
     let stored =
-    is_stored c.geometry_agrees.ensures.front c.rewriting_is_read.ensures bytes_of keys c.args.bytes.now c.in-Ok.key
+    is_stored bytes_of keys c.args.bytes.now c.in-Ok.key
     c.are_bytes.ensures
     c.in-Ok.ensures.ok c.self.invariant none in
     subst (λ s. Inserts s (map (λ y. value_in (bytes_of y)) c.push.new.self.items) c.args.bytes.now false)
