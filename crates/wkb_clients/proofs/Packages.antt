@@ -1,13 +1,13 @@
 -- What is found in a GeoPackage blob, and what isn't.
 use Rattle.std.proofs.Common.{◌≡◌, List, ℕ, Bool, true, false, sym, ap, subst, ◌∙◌, ◌⊎◌, inl, inr}
-use Rattle.wkb.specs.Prelude.{IsMemory, WkbError}
-use Rattle.wkb.specs.Checks.{Bounds, BoundsOnlyFront}
+use Rattle.wkb.specs.Prelude.{IsMemory, WkbError, Tells}
+use Rattle.wkb.specs.Checks.{Bounds, BoundsFront, BoundsOnlyFront, Refused, IsRefusedFor}
 use Rattle.wkb.specs.Ranges.{same_bounds}
-use Rattle.wkb.specs.Reads.{IsFront, HasNoFront}
+use Rattle.wkb.specs.Reads.{IsFront, HasNoFront, IsRefusal}
 use Rattle.wkb_clients.specs.Common.{Item}
 use Rattle.wkb_clients.specs.declared.geopackage.BlobHeader.{BlobHeader}
 use Rattle.wkb_clients.specs.Geopackage.{IsBlobHeader, HoldsGeometry, HoldsNoGeometry, body_of, envelope_around, header_order}
-use Rattle.wkb_clients.specs.Geopackage.{envelope_kind}
+use Rattle.wkb_clients.specs.Geopackage.{envelope_kind, HasWrongEnvelope, IsNotRead}
 
 -- the envelope is judged by what the blob says
 pub as_said : (blob : List ℕ) (h : BlobHeader) (b : Bounds) (r : Bool) → IsBlobHeader blob h
@@ -22,6 +22,27 @@ none_around blob body b same only fails = λ h w holds.
     let front = subst (λ l. IsFront l w) (sym same) holds.front in
     let wrong : false ≡ true = fails ∙ holds.around b (only w.spelled w.value front.rest front.front) in
     absurd (cc)
+
+pub wrong_envelope : (blob body : List ℕ) (h : BlobHeader) (b : Bounds) → IsBlobHeader blob h → body ≡ body_of blob
+    → BoundsFront body b → false ≡ envelope_around (header_order blob) (envelope_kind blob) blob b
+    → HasWrongEnvelope blob
+wrong_envelope blob body h b head same front fails = record {
+  header = h;
+  is_header = head;
+  bounds = b;
+  front = subst (λ l. BoundsFront l b) same front;
+  wrong = sym fails;
+}
+
+-- what is behind the header is rejected
+pub not_read : (blob body : List ℕ) (h : BlobHeader) (e : WkbError) → IsBlobHeader blob h → body ≡ body_of blob
+    → IsMemory e ⊎ IsRefusal body e → IsNotRead blob e
+not_read blob body h e head same why =
+    record { header = h; is_header = head; why = subst (λ l. IsMemory e ⊎ IsRefusal l e) same why }
+
+pub is_refusal : (body : List ℕ) (r : Refused) (e : WkbError) → IsRefusedFor body r → Tells e r.cause → IsRefusal body e
+is_refusal body r e h tells =
+    record { cause = r.cause; turns = r.part; slots = h.slots; refuses = h.refuses; tells = tells }
 
 -- no geometry is there
 pub none_there : (blob body : List ℕ) → body ≡ body_of blob → HasNoFront body → HoldsNoGeometry blob

@@ -1,9 +1,9 @@
 -- What a GeoPackage blob holds (OGC 12-128, clause 2.1.3).
 use Rattle.std.specs.Prelude.{◌≡◌, ℕ, ◌+◌, ◌/◌, ◌%◌, ◌<◌, ◌≤◌, List, length, drop, slice_index, Bool, true, not}
-use Rattle.std.specs.Prelude.{◌&&◌, ◌==◌, nat_le, if◌then◌else◌}
-use Rattle.wkb.specs.Prelude.{Endianness, BigEndian, LittleEndian, number, is_nan, IsMemory}
-use Rattle.wkb.specs.Checks.{Range, Bounds, AreBounds, rank}
-use Rattle.wkb.specs.Reads.{IsFront}
+use Rattle.std.specs.Prelude.{◌&&◌, ◌==◌, ◌⊎◌, false, nat_le, if◌then◌else◌}
+use Rattle.wkb.specs.Prelude.{Endianness, BigEndian, LittleEndian, number, is_nan, IsMemory, WkbError}
+use Rattle.wkb.specs.Checks.{Range, Bounds, AreBounds, BoundsFront, rank}
+use Rattle.wkb.specs.Reads.{IsFront, IsRefusal}
 use Rattle.wkb_clients.specs.Common.{Item}
 use Rattle.wkb_clients.specs.declared.geopackage.BlobHeader.{BlobHeader}
 use Rattle.wkb_clients.specs.declared.geopackage.Unread.{Unread}
@@ -51,10 +51,12 @@ HasNoBlobHeader blob = (h : BlobHeader) → IsBlobHeader blob h → ⊥
 abbrev pub is_number_at_most : ℕ → ℕ → Bool
 is_number_at_most v w = not (is_nan v) && nat_le (rank v) (rank w)
 
--- whether the two words at an offset are numbers, at most the least and at least the greatest of the range
+-- Whether the two words at an offset are numbers, at most the least and at least the greatest of the range. Where that
+-- has no number, as on each axis of an empty geometry, they are NaNs.
 abbrev pub axis_around : Endianness → List ℕ → ℕ → Range → Bool
 axis_around order blob at r =
-    is_number_at_most (number order 8 (drop at blob)) r.least
+    if r.count == 0 then is_nan (number order 8 (drop at blob)) && is_nan (number order 8 (drop (at + 8) blob))
+    else is_number_at_most (number order 8 (drop at blob)) r.least
     && (not (is_nan (number order 8 (drop (at + 8) blob))) && nat_le (rank r.greatest) (rank (number order 8 (drop (at + 8) blob))))
 
 -- the axes behind x and y: z, m, or both
@@ -79,6 +81,26 @@ pub record HoldsGeometry (blob : List ℕ) (h : BlobHeader) (w : Item) : Type 0 
 
 abbrev pub HoldsNoGeometry : List ℕ → Type 0
 HoldsNoGeometry blob = (h : BlobHeader) (w : Item) → HoldsGeometry blob h w → ⊥
+
+-- There is a header and a geometry behind it, and the envelope isn't around its numbers.
+pub record HasWrongEnvelope (blob : List ℕ) : Type 0 where
+  pub header : BlobHeader
+  pub is_header : IsBlobHeader blob header
+  pub bounds : Bounds
+  pub front : BoundsFront (body_of blob) bounds
+  pub wrong : envelope_around (header_order blob) (envelope_kind blob) blob bounds ≡ false
+
+-- There is a header, and the error says why what is behind it is rejected, or that an allocation failed.
+pub record IsNotRead (blob : List ℕ) (e : WkbError) : Type 0 where
+  pub header : BlobHeader
+  pub is_header : IsBlobHeader blob header
+  pub why : IsMemory e ⊎ IsRefusal (body_of blob) e
+
+-- the reason is true of the blob
+abbrev pub IsWhy : List ℕ → Unread → Type 0
+IsWhy blob reasons.Header = HasNoBlobHeader blob
+IsWhy blob reasons.Envelope = HasWrongEnvelope blob
+IsWhy blob (reasons.Geometry e) = IsNotRead blob e
 
 -- an allocation failed
 abbrev pub IsWantOfMemory : Unread → Type 0

@@ -1,13 +1,14 @@
 -- Which geometries meet a box.
-use Rattle.std.specs.Prelude.{◌≡◌, ℕ, List, Bool, true, ◌&&◌, nat_le}
+use Rattle.std.specs.Prelude.{◌≡◌, ℕ, List, Bool, true, ◌&&◌, nat_le, nat_lt}
 use Rattle.std.specs.Borrow.{Bor}
 use Rattle.wkb.specs.Checks.{Range, Bounds, BoundsFront, rank}
 use Rattle.wkb.specs.Kept.{Keeps}
 use Rattle.wkb_clients.specs.declared.boxes.BoundingBox.{BoundingBox}
 
--- whether neither of two ranges ends before the other begins, in the order of numbers
+-- whether the second range has a number and neither ends before the other begins, in the order of numbers
 abbrev pub ranges_meet : Range → Range → Bool
-ranges_meet a b = nat_le (rank a.least) (rank b.greatest) && nat_le (rank b.least) (rank a.greatest)
+ranges_meet a b =
+    nat_lt 0 b.count && (nat_le (rank a.least) (rank b.greatest) && nat_le (rank b.least) (rank a.greatest))
 
 abbrev pub bounds_meet : BoundingBox → Bounds → Bool
 bounds_meet box b = ranges_meet box.x b.x && ranges_meet box.y b.y

@@ -1,9 +1,10 @@
-//! A reader of GeoPackage blobs (OGC 12-128, clause 2.1.3), whose contract says which blobs it takes.
+//! A reader of GeoPackage blobs (OGC 12-128, clause 2.1.3), whose contract says which blobs it takes, and why it takes no
+//! other. The geometry may be EWKB, which the clause doesn't allow.
 
 ghost use Rattle.std.specs.Prelude.{◌≡◌, ◌+◌, ◌<◌, ◌≤◌, ◌⊎◌, MatchOption, IfOk, IfErr, drop, length};
 ghost use Rattle.wkb_clients.specs.Geopackage.{IsBlobHeader, HasNoBlobHeader, start_behind, order_said, body_of};
 ghost use Rattle.wkb_clients.specs.Geopackage.{is_number_at_most, axis_around, others_around, envelope_around};
-ghost use Rattle.wkb_clients.specs.Geopackage.{header_order, envelope_kind, HoldsGeometry, HoldsNoGeometry, IsWantOfMemory};
+ghost use Rattle.wkb_clients.specs.Geopackage.{header_order, envelope_kind, HoldsGeometry, HoldsNoGeometry, IsWantOfMemory, IsWhy};
 
 use std::alloc::Global;
 use wkb::Endianness;
@@ -97,13 +98,16 @@ fn body_of(blob: &[u8], header: BlobHeader) -> &[u8]
     from_offset(blob, start_behind(header.envelope))
 }
 
-/// Whether the two words at an offset are numbers around the range.
+/// Whether the two words at an offset are numbers around the range, or NaNs if it has no number, as in an empty geometry.
 fn axis_around(blob: &[u8], at: usize, order: Endianness, range: Range) -> bool
     requires { at + 16 ≤ length blob.now }
     ensures { result ≡ axis_around order blob.now at range }
 {
     let least = u64_at(blob, at, order);
     let greatest = u64_at(blob, at + 8, order);
+    if range.count == 0 {
+        return is_nan(least) && is_nan(greatest);
+    }
     (!is_nan(least) && is_at_most(least, range.least))
         && (!is_nan(greatest) && is_at_most(range.greatest, greatest))
 }
@@ -133,10 +137,12 @@ fn envelope_around(blob: &[u8], order: Endianness, kind: u8, found: Bounds) -> b
         && (axis_around(blob, 24, order, found.y) && others_around(blob, order, kind, found))
 }
 
-/// Reads a blob: its header, an envelope around all numbers of the geometry, and the geometry.
+/// Reads a blob: its header, an envelope around all numbers of the geometry, and the geometry. The envelope of an empty
+/// geometry has NaNs alone.
 pub fn read<'a>(alloc: Global, blob: &'a [u8]) -> Result<Package<'a>, Unread>
     ensures ok { IfOk result (λ p. HoldsGeometry blob.now p.header p.geometry) }
     ensures err { IfErr result (λ e. IsWantOfMemory e ⊎ HoldsNoGeometry blob.now) }
+    ensures why { IfErr result (λ e. IsWhy blob.now e) }
 {
     let Some(header) = read_header(blob) else {
         return Err(Unread::Header);

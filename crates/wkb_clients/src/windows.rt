@@ -8,14 +8,14 @@ use std::alloc::{AllocError, Global};
 use wkb::check::{Bounds, Range, bounds};
 use wkb::geom::is_at_most;
 
-/// Whether neither of two ranges ends before the other begins.
+/// Whether the second range has a number and neither ends before the other begins.
 fn ranges_meet(a: Range, b: Range) -> bool
     ensures { result ≡ ranges_meet a b }
 {
-    is_at_most(a.least, b.greatest) && is_at_most(b.least, a.greatest)
+    b.count > 0 && (is_at_most(a.least, b.greatest) && is_at_most(b.least, a.greatest))
 }
 
-/// Whether bounds meet a box.
+/// Whether bounds meet a box; those of an empty geometry meet none.
 fn bounds_meet(window: &BoundingBox, found: Bounds) -> bool
     ensures { result ≡ bounds_meet window.now found }
 {

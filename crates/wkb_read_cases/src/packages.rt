@@ -25,7 +25,8 @@ fn outcome(alloc: Global, text: &str) -> Result<u8, Fail> {
     }
 }
 
-// A point (1 2): in an envelope from (1 2) to (1 2), without one, and in one whose z nothing is said of.
+// A point (1 2): in an envelope from (1 2) to (1 2), without one, and in one whose z nothing is said of. An empty point and
+// an empty polygon, in envelopes of NaNs.
 #[test]
 fn packages_read(rt: HostRuntime) -> Result<(), Fail> {
     let alloc = rt.alloc();
@@ -37,11 +38,19 @@ fn packages_read(rt: HostRuntime) -> Result<(), Fail> {
         "47500005 e6100000 000000000000f0bf 000000000000f03f 0000000000000040 0000000000000840
         0000000000000000 0000000000000000 01 01000000 P";
     assert!(rt; outcome(alloc, with_z)? == 2);
+    let point =
+        "47500013 e6100000 000000000000f87f 000000000000f87f 000000000000f87f 000000000000f87f
+        01 01000000 000000000000f87f 000000000000f87f";
+    assert!(rt; outcome(alloc, point)? == 1);
+    let polygon =
+        "47500013 e6100000 000000000000f87f 000000000000f87f 000000000000f87f 000000000000f87f
+        01 03000000 00000000";
+    assert!(rt; outcome(alloc, polygon)? == 1);
     Ok(())
 }
 
 // Another letter, another version, a bit of a later use, an envelope of no kind, one that is cut; one from x 2 on, one
-// of a NaN; and a geometry without its last byte.
+// of a NaN, one of zeros around an empty geometry; and a geometry without its last byte.
 #[test]
 fn packages_refused(rt: HostRuntime) -> Result<(), Fail> {
     let alloc = rt.alloc();
@@ -56,6 +65,10 @@ fn packages_refused(rt: HostRuntime) -> Result<(), Fail> {
     let nan =
         "47500003 e6100000 000000000000f87f 000000000000f03f 0000000000000040 0000000000000040 01 01000000 P";
     assert!(rt; outcome(alloc, nan)? == 30);
+    let zeros =
+        "47500013 e6100000 0000000000000000 0000000000000000 0000000000000000 0000000000000000
+        01 03000000 00000000";
+    assert!(rt; outcome(alloc, zeros)? == 30);
     assert!(rt;
         outcome(
             alloc,
@@ -66,7 +79,7 @@ fn packages_refused(rt: HostRuntime) -> Result<(), Fail> {
 }
 
 // The box from (2 2) to (3 3): the line from (1 1) to (3 3) meets it, and so does a point on its corner, (2 2); not the
-// point (1 2), nor bytes that begin with no geometry.
+// point (1 2), nor bytes that begin with no geometry. An empty polygon meets no box, not that of all numbers either.
 #[test]
 fn rows_in_a_box(rt: HostRuntime) -> Result<(), Fail> {
     let line = bytes(
@@ -79,6 +92,20 @@ fn rows_in_a_box(rt: HostRuntime) -> Result<(), Fail> {
         greatest: THREE,
         count: 2,
     };
+    let all = Range {
+        least: 0xfff0000000000000,
+        greatest: 0x7ff0000000000000,
+        count: 2,
+    };
+    let empty = bytes("01 03000000 00000000")?;
+    match found_in(
+        rt.alloc(),
+        &BoundingBox { x: all, y: all },
+        &[empty.as_slice()],
+    ) {
+        Ok(found) => assert!(rt; found.len() == 0),
+        Err(error) => return Err(Fail::new(error)),
+    }
     let window = BoundingBox { x: side, y: side };
     let rows = [outside.as_slice(), line.as_slice(), &[], corner.as_slice()];
     match found_in(rt.alloc(), &window, &rows) {
