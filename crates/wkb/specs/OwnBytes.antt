@@ -1,17 +1,18 @@
 -- Lemmas: what calls return for bytes that begin with a geometry, as those do that `buf` of a geometry returns.
 use Rattle.std.proofs.Common.{◌≡◌, ℕ, List, Result, Ok, Err, Bool, true, false, ◌⊎◌, inl, inr, refl, sym, ap, ◌∙◌}
+use Rattle.std.proofs.Common.{◌≤◌, length, arith}
 use Rattle.std.specs.Prelude.{IfOk, IfErr, MatchBool, Vec}
 use Rattle.std.specs.Global.{Global}
-use Rattle.wkb.specs.Prelude.{WkbError, IsMemory, Endianness, Ewkb}
+use Rattle.wkb.specs.Prelude.{WkbError, IsMemory, Endianness, Ewkb, Iso}
 use Rattle.wkb_geom.specs.declared.error.WkbError.TheVariants as errors
 use Rattle.wkb.specs.Spellings.{header}
 use Rattle.wkb.specs.Geometries.{geometry_of}
 use Rattle.wkb.specs.Encodings.{encoding, IsRewritingWithSrid}
 use Rattle.wkb.specs.Writes.{WriteOptions, IsEncodingOf}
-use Rattle.wkb.specs.Reads.{Item, IsFront, IsOnlyFront, HasNoFront, IsRefusal, IsNotMemory, Reads, Wkb}
+use Rattle.wkb.specs.Reads.{Item, IsFront, IsOnlyFront, IsRead, HasNoFront, IsRefusal, IsNotMemory, Reads, Wkb}
 use Rattle.wkb.specs.Canonical.{HaveOneValue, HaveTwoValues, IsRewritingUnder, IsRefusedUnder, IsPairRefusal, IsSize}
 use Rattle.wkb.specs.Bridges.{memory_or}
-use Rattle.wkb.specs.Known.{never_both, has_one_front}
+use Rattle.wkb.specs.Known.{never_both, has_one_front, length_of_front}
 pub use Rattle.wkb.specs.Terms.{own_options}
 
 -- Bytes that begin with a geometry, such as those of a geometry's `buf`, are never rejected by a call that rejects
@@ -44,6 +45,13 @@ pub only_front : {buf : List ℕ} {w : Item} → IsFront buf w → IsOnlyFront b
 only_front {buf = buf} {w = w} f = λ s t rest g.
     let one = has_one_front buf s w.spelled t w.value rest f.rest g f.front in
     (one.0 ∙ f.encoding_is, one.1, one.2)
+
+-- A geometry that was read is written in either order in as many bytes as its own, or in fewer.
+pub no_longer : (order : Endianness) {w : Item} → IsRead w
+    → length (encoding order Iso (geometry_of w.value)) ≤ length w.encoding
+no_longer order {w = w} r =
+    let size = length_of_front order w.encoding w.spelled w.value r.front.rest r.bytes r.front.front in
+    omega (arith, size, ap length r.front.encoding_is)
 
 -- ---- a refusal by its cause
 

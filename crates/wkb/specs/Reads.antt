@@ -7,7 +7,7 @@ pub use Rattle.wkb_geom.specs.Stored.{Listed, whole_of, value_code, rings_code, 
 pub use Rattle.wkb_geom.specs.Fronts.{HasNoFront}
 pub use Rattle.wkb_read.specs.Reads.{IsFront, IsOnlyFront, IsRefusal, TellsEach, IfRefused, IfMemory, CountsValue}
 pub use Rattle.wkb_read.specs.Reads.{CountsRefusal, CountsAtMost, CanBeWritten, AsksForNone, BeginsNone, KindTakesNone}
-pub use Rattle.wkb_read.specs.Reads.{TakesNoMemory, Reads, Costs}
+pub use Rattle.wkb_read.specs.Reads.{TakesNoMemory, IsRead, Reads, Costs}
 pub use Rattle.wkb_read.specs.Meanings.{geometry_seen, members_seen}
 pub use Rattle.wkb_read.specs.Lawful.{geometry_lawful, members_lawful, one_dimension_seen}
 pub use Rattle.wkb_read.specs.Lawful.{seen_as_it_is, members_as_they_are}

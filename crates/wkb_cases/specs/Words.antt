@@ -88,14 +88,14 @@ pub use Rattle.wkb.specs.Reads.{Item, spellings, values, point_of, line_string_o
 pub use Rattle.wkb.specs.Reads.{ring_in, geometry_told, geometry_at, Listed, whole_of, value_code, rings_code}
 pub use Rattle.wkb.specs.Reads.{polygons_code, item_code, listed_code, HasNoFront, IsFront, IsOnlyFront, IsRefusal}
 pub use Rattle.wkb.specs.Reads.{TellsEach, IfRefused, IfMemory, CountsValue, CountsRefusal, CountsAtMost, CanBeWritten}
-pub use Rattle.wkb.specs.Reads.{AsksForNone, BeginsNone, KindTakesNone, TakesNoMemory, Reads, Costs, geometry_seen}
-pub use Rattle.wkb.specs.Reads.{members_seen, geometry_lawful, members_lawful, one_dimension_seen, seen_as_it_is}
-pub use Rattle.wkb.specs.Reads.{members_as_they_are, IsCollectionOf, IsViewOf, collection_seen, joined_encodings}
-pub use Rattle.wkb.specs.Reads.{HoldsMembers, IsCollectionIn, AreMembers, IsMemberAt, words_seen, ring_seen}
-pub use Rattle.wkb.specs.Reads.{coordinate_encoding, coord_order, coord_dimension, coord_encoding, ring_order}
-pub use Rattle.wkb.specs.Reads.{ring_dimension, ring_encoding, ring_offset, ring_coord_bytes, CoordBytesSpell}
-pub use Rattle.wkb.specs.Reads.{RingBytesSpell, LendsCoordinates, point_seen, line_string_seen, multi_point_seen}
-pub use Rattle.wkb.specs.Reads.{point_layout, line_string_layout, multi_point_layout, point_dimension}
+pub use Rattle.wkb.specs.Reads.{AsksForNone, BeginsNone, KindTakesNone, TakesNoMemory, IsRead, Reads, Costs}
+pub use Rattle.wkb.specs.Reads.{geometry_seen, members_seen, geometry_lawful, members_lawful, one_dimension_seen}
+pub use Rattle.wkb.specs.Reads.{seen_as_it_is, members_as_they_are, IsCollectionOf, IsViewOf, collection_seen}
+pub use Rattle.wkb.specs.Reads.{joined_encodings, HoldsMembers, IsCollectionIn, AreMembers, IsMemberAt, words_seen}
+pub use Rattle.wkb.specs.Reads.{ring_seen, coordinate_encoding, coord_order, coord_dimension, coord_encoding}
+pub use Rattle.wkb.specs.Reads.{ring_order, ring_dimension, ring_encoding, ring_offset, ring_coord_bytes}
+pub use Rattle.wkb.specs.Reads.{CoordBytesSpell, RingBytesSpell, LendsCoordinates, point_seen, line_string_seen}
+pub use Rattle.wkb.specs.Reads.{multi_point_seen, point_layout, line_string_layout, multi_point_layout, point_dimension}
 pub use Rattle.wkb.specs.Reads.{line_string_dimension, multi_point_dimension, point_order, point_spelling}
 pub use Rattle.wkb.specs.Reads.{line_string_order, line_string_spelling, seen_coordinates, coordinate_in}
 pub use Rattle.wkb.specs.Reads.{line_string_offset, multi_point_offset, seen_coordinate, seen_points, point_coord_bytes}
@@ -131,6 +131,18 @@ pub use Rattle.wkb.specs.Laws.{behind_count, IsOneOf, IsMember, first_spellings,
 pub use Rattle.wkb.specs.Laws.{member_start, ring_start, StandsAt, HoldsMember, FirstStart, NextStart, FirstRingStart}
 pub use Rattle.wkb.specs.Laws.{NextRingStart, MembersStand, HoldsRing, RingsStand, MembersInPlace, RingsInPlace}
 pub use Rattle.wkb.specs.Laws.{IsWordOf, WordsStand, LineStringWordsStand, RanksInOrder}
+pub use Rattle.wkb.specs.Known.{has_one_front, rest_is_free, bytes_are_read, read_or_refused, never_both, one_refusal}
+pub use Rattle.wkb.specs.Known.{refused_outward, cut_is_refused, geometry_agrees, front_is_read, refusal_is_read}
+pub use Rattle.wkb.specs.Known.{front_is_bounded, refusal_is_bounded, reading_is_bounded, encoding_spells}
+pub use Rattle.wkb.specs.Known.{written_is_read, writable_is_read, encoding_has_size, length_of_encoding}
+pub use Rattle.wkb.specs.Known.{length_of_front, front_is_writable, ewkb_is_writable, size_is_refused}
+pub use Rattle.wkb.specs.Known.{own_srid_is_writable, rewriting_is_read, rewriting_is_fixed}
+pub use Rattle.wkb.specs.Known.{rewriting_with_srid_is_fixed, equal_encodings, equal_encodings_with_srid}
+pub use Rattle.wkb.specs.Known.{equal_encodings_with_own_srid, named_dimension, spelled_in_full, size_of_spelled}
+pub use Rattle.wkb.specs.Known.{spelled_is_writable, equal_spelled, equal_spelled_with_srid, has_one_encoding}
+pub use Rattle.wkb.specs.Known.{have_one_encoding, coordinate_has_one_encoding, first_start, next_start}
+pub use Rattle.wkb.specs.Known.{first_ring_start, next_ring_start, members_stand, rings_stand, members_in_place}
+pub use Rattle.wkb.specs.Known.{rings_in_place, words_stand, line_string_words_stand}
 pub use Rattle.wkb.specs.Bridges.{memory_or, part_is_member, member_of, appended, encoding_alone, read_before}
 pub use Rattle.wkb.specs.Bridges.{read_again, front_stands, rest_stands, stands_within, begins_there, parts_counted}
 pub use Rattle.wkb.specs.Bridges.{members_counted, srid_of_options}
@@ -149,9 +161,9 @@ pub use Rattle.wkb.specs.Offsets.{BeginsAt, begins_at, none_begins_at, value_the
 pub use Rattle.wkb.specs.Offsets.{no_word_there}
 pub use Rattle.wkb.specs.Order.{RanksInOrder as RanksInOrder-Order, HasNumbers, IsBetween, stay_numbers}
 pub use Rattle.wkb.specs.Order.{range_has_numbers, between}
-pub use Rattle.wkb.specs.OwnBytes.{own_options, never_refused, memory_alone, read_the_same, no_refusal, not_refused}
-pub use Rattle.wkb.specs.OwnBytes.{not_refused_under, always_compared, own_encoding, own_encoding_with_srid}
-pub use Rattle.wkb.specs.OwnBytes.{values_compared}
+pub use Rattle.wkb.specs.OwnBytes.{own_options, never_refused, memory_alone, read_the_same, only_front, no_longer}
+pub use Rattle.wkb.specs.OwnBytes.{no_refusal, not_refused, not_refused_under, always_compared, own_encoding}
+pub use Rattle.wkb.specs.OwnBytes.{own_encoding_with_srid, values_compared}
 pub use Rattle.wkb.specs.Ranges.{IsWithin, BringsWithin, stays_within, within_range_of, number_within, item_within}
 pub use Rattle.wkb.specs.Ranges.{ordinate_within, member_within, drop_at, widened_next, counts_once, same_bounds}
 pub use Rattle.wkb.specs.ReadBack.{IsReadBefore, encoding_is_read, value_is_read, empty_point_read, point_read}

@@ -9,7 +9,7 @@ use Rattle.std.proofs.lemmas.Bool.{ltb-true, ltb-false, lt-ltb}
 use Rattle.std.proofs.lemmas.List.{length-map}
 use Rattle.std.proofs.lemmas.List.Concat.{flat_map-append}
 use Rattle.wkb.specs.Prelude.{Dimension, Dimensions, Xy, Xyz, Xym, Xyzm, as_dimensions, written_dimension, size}
-use Rattle.wkb.specs.Prelude.{WkbError, AreBytes, LittleEndian}
+use Rattle.wkb.specs.Prelude.{WkbError}
 use Rattle.wkb.specs.Values.{Coordinate, Value, Values, point, line_string, polygon, multi_point, multi_line_string}
 use Rattle.wkb.specs.Values.{multi_polygon, collection, no_members, member, dimension}
 use Rattle.wkb.specs.Values.{member_count, member_count_each}
@@ -20,9 +20,9 @@ use Rattle.wkb.specs.Encodings.{encoding_of, refusal_of, fault, Fault, IsForm, f
 use Rattle.wkb.specs.Encodings.{count_fault, size_fault}
 use Rattle.wkb.specs.Plain.{coordinates_in}
 use Rattle.wkb.specs.Spellings.{Front}
-use Rattle.wkb.specs.Known.{encoding_has_size, front_is_writable}
+use Rattle.wkb.specs.Known.{encoding_has_size}
 use Rattle.wkb.specs.ReadBack.{encoding_is_read}
-use Rattle.wkb.specs.Reads.{Item, values, IsFront}
+use Rattle.wkb.specs.Reads.{Item, values}
 use Rattle.wkb.specs.Writes.{WriteOptions, IsVecError}
 use Rattle.wkb_clients.specs.Coordinates.{of_point, of_parts, coordinates_of, coordinates_of_each, words_of, HasOnly}
 use Rattle.wkb_clients.specs.Coordinates.{Adds, HaveOnly, points_meant, ArePoints, IsWantOfRoom}
@@ -132,15 +132,6 @@ mutual
   all_fit_each d (member t ts) fits only =
       append_fit (as_dimensions d) (coordinates_of t) (coordinates_of_each ts)
       (all_fit d t fits.0 only.0) (all_fit_each d ts fits.1 only.1)
-
--- so it is in each geometry that was read and has one dimension
-pub read_fit : (buf : List ℕ) (w : Item) (d : Dimension) → IsFront buf w → AreBytes buf
-    → length buf < 2 ^ 64 → d ≡ dimension w.value → HasOnly d w.value
-    → AreCoordinates (as_dimensions (dimension w.value)) (coordinates_of w.value)
-read_fit buf w d f bytes long own only =
-    all_fit (dimension w.value) w.value
-    (front_is_writable LittleEndian buf w.spelled w.value f.rest bytes long f.front).0
-    (subst (λ e. HasOnly e w.value) own only)
 
 -- ---- the multi point
 

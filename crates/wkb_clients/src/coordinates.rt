@@ -12,7 +12,7 @@ use wkb::geom::{
     CoordTrait, Dimensioned, GeometryTrait, GeometryType, LineString, LineStringTrait,
     MultiLineStringTrait, MultiPointTrait, MultiPolygonTrait, PointTrait, PolygonTrait,
 };
-use wkb::laws::{are_bytes, srid_fits};
+use wkb::laws::srid_fits;
 use wkb::reader::{Dimension, LinearRing, MultiLineString, MultiPoint, MultiPolygon, Polygon, Wkb};
 use wkb::writer::{WriteOptions, to_vec};
 
@@ -181,7 +181,8 @@ pub fn as_multi_point(
     ensures err { IfErr result (IsWantOfRoom options.now geometry.now.value) }
 {
     srid_fits(options.form);
-    are_bytes(geometry.buf());
+    // `read` of its `buf` says that every coordinate fits.
+    geometry.buf();
     if !has_only(geometry, geometry.dimension()) {
         return Ok(None);
     }

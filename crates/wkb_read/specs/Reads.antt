@@ -1,5 +1,6 @@
 -- What the result of reading says of the input.
-use Rattle.std.specs.Prelude.{◌≡◌, ℕ, ◌+◌, ◌*◌, ◌≤◌, List, length, Bool, Result, Ok, Err, IfOk, IfErr}
+use Rattle.std.specs.Prelude.{◌≡◌, ℕ, ◌+◌, ◌*◌, ◌≤◌, ◌<◌, ◌^◌, List, length, Bool, Result, Ok, Err, IfOk, IfErr}
+use Rattle.wkb_geom.specs.Numbers.{AreBytes}
 use Rattle.wkb_read.specs.Prelude.{Endianness, Dimension, Iso, WkbError, Value, member_count, listed_count, Spelling}
 use Rattle.wkb_read.specs.Prelude.{any, Front, HasNoFront, max_nesting, Cause, Refuses, Opens, Tells, geometry_of}
 use Rattle.wkb_read.specs.Prelude.{IsWritable, Item, Counts, IsGeometry, normal}
@@ -61,6 +62,17 @@ pub record CountsAtMost (buf : List ℕ) (c : Counts) : Type 0 where
 -- the value can be written in either order
 abbrev pub CanBeWritten : Value → Type 0
 CanBeWritten t = (order : Endianness) → IsWritable order Iso (geometry_of t)
+
+-- What every geometry is that was read, wherever it is handed on, and every member of it: its bytes are those of a
+-- slice and begin with it, and its value is lawful, can be written, is its own normal value, and is what the traits show.
+pub record IsRead (w : Item) : Type 0 where
+  pub front : IsFront w.encoding w
+  pub bytes : AreBytes w.encoding
+  pub fits : length w.encoding < 2 ^ 64
+  pub lawful : IsGeometry (geometry_of w.value)
+  pub seen : geometry_seen w ≡ geometry_of w.value
+  pub normal : normal (geometry_of w.value) ≡ w.value
+  pub writable : CanBeWritten w.value
 
 -- no list of the input asks for an entry
 pub record AsksForNone (buf : List ℕ) : Type 0 where

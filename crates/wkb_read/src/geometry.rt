@@ -1,5 +1,7 @@
 //! Collections, and geometries of any kind.
 
+ghost use Rattle.std.specs.Prelude.{◌<◌, ◌^◌, length};
+ghost use Rattle.wkb_geom.specs.Numbers.{AreBytes};
 ghost use Rattle.wkb_read.specs.Prelude.{as_dimensions};
 ghost use Rattle.wkb_read.specs.Meanings.{members_seen, geometry_seen};
 ghost use Rattle.wkb_read.specs.Lawful.{members_lawful, geometry_lawful, one_dimension_seen};
@@ -109,11 +111,18 @@ impl<'a> Model for Wkb<'a> {
     ghost size_decreases = { λ a h. kind_falls a.kind };
 }
 
+/// What the lemmas ask of the bytes of a slice.
+#[inline(always)]
+fn are_bytes(_bytes: &[u8])
+    ensures bytes { AreBytes _bytes.now }
+    ensures fits { length _bytes.now < 2 ^ 64 }
+{}
+
 impl<'a> GeometryCollection<'a> {
     ghost use Rattle.std.specs.Prelude.{◌≡◌, true, IfOk, length};
     ghost use Rattle.wkb_read.specs.Prelude.{srid_of, BytesSpell, IsSpelledAsWritten};
     ghost use Rattle.wkb_read.specs.Places.{collection_seen};
-    ghost use Rattle.wkb_read.specs.Reads.{IsFront};
+    ghost use Rattle.wkb_read.specs.Reads.{IsFront, IsRead};
 
     /// The number of its bytes.
     #[inline]
@@ -132,9 +141,22 @@ impl<'a> GeometryCollection<'a> {
     }
 
     /// The bytes of this geometry, from its order byte to its end.
-    #[tactic(auto, using(crate::proofs::Fronts::own_front))]
     #[inline]
     pub fn buf(&self) -> &'a [u8]
+        ensures encoding { result.now ≡ self.now.encoding }
+        ensures spells { BytesSpell (collection_seen self.now) }
+        ensures front { IsFront result.now (collection_seen self.now) }
+        ensures read { IsRead (collection_seen self.now) }
+    {
+        let buf = self.bytes();
+        are_bytes(buf);
+        buf
+    }
+
+    /// Its bytes, as `buf` returns them.
+    #[tactic(auto, using(crate::proofs::Fronts::own_front))]
+    #[inline]
+    fn bytes(&self) -> &'a [u8]
         ensures encoding { result.now ≡ self.now.encoding }
         ensures spells { BytesSpell (collection_seen self.now) }
         ensures front { IsFront result.now (collection_seen self.now) }
@@ -244,7 +266,7 @@ impl<'a> Wkb<'a> {
     ghost use Rattle.wkb_read.specs.Prelude.{LendsEncoding};
     ghost use Rattle.wkb_read.specs.Places.{collection_seen};
     ghost use Rattle.wkb_read.specs.Types.{geometry_type_of, IsListed};
-    ghost use Rattle.wkb_read.specs.Reads.{Reads, IsFront};
+    ghost use Rattle.wkb_read.specs.Reads.{Reads, IsFront, IsRead};
 
     /// The geometry at the start of the bytes, as `read_wkb` returns it.
     pub fn try_new(alloc: Global, buf: &'a [u8]) -> WkbResult<Wkb<'a>>
@@ -284,8 +306,21 @@ impl<'a> Wkb<'a> {
     }
 
     /// The bytes of this geometry, from its order byte to its end.
-    #[tactic(auto, using(crate::proofs::Fronts::own_front, crate::proofs::Fronts::point_shallow))]
+    #[inline]
     pub fn buf(&self) -> &'a [u8]
+        ensures encoding { result.now ≡ self.now.encoding }
+        ensures spells { BytesSpell self.now }
+        ensures front { IsFront result.now self.now }
+        ensures read { IsRead self.now }
+    {
+        let buf = self.bytes();
+        are_bytes(buf);
+        buf
+    }
+
+    /// Its bytes, as `buf` returns them.
+    #[tactic(auto, using(crate::proofs::Fronts::own_front, crate::proofs::Fronts::point_shallow))]
+    fn bytes(&self) -> &'a [u8]
         ensures encoding { result.now ≡ self.now.encoding }
         ensures spells { BytesSpell self.now }
         ensures front { IsFront result.now self.now }
@@ -297,7 +332,7 @@ impl<'a> Wkb<'a> {
             View::MultiPoint(multi) => multi.buf(),
             View::MultiLineString(multi) => multi.buf(),
             View::MultiPolygon(multi) => multi.buf(),
-            View::GeometryCollection(collection) => collection.buf(),
+            View::GeometryCollection(collection) => collection.bytes(),
         }
     }
 

@@ -1,4 +1,4 @@
-use Rattle.std.proofs.Common.{◌≡◌, ◌++◌, ap, subst, sym, ◌∙◌, arith}
+use Rattle.std.proofs.Common.{◌≡◌, ◌++◌, ap, subst, sym, ◌∙◌}
 use Rattle.wkb.specs.Encodings.{encoding_of, refusal_of}
 use Rattle.wkb.specs.Geometries.{AreCoordinates}
 use Rattle.wkb.specs.Levels.{points_dimensions, points_points}
@@ -6,8 +6,8 @@ use Rattle.wkb.specs.Plain.{line_string_dimensions, line_string_coordinates}
 use Rattle.wkb.specs.Prelude.{as_dimensions}
 use Rattle.wkb.specs.Values.{dimension}
 use Rattle.wkb.specs.Writes.{IsVecError}
-use Rattle.wkb_clients.specs.Coordinates.{coordinates_of, words_of}
-use Rattle.wkb_clients.proofs.AllPoints.{read_fit, are_whole, are_points, want_of_room, meant_is}
+use Rattle.wkb_clients.specs.Coordinates.{coordinates_of, words_of, HasOnly}
+use Rattle.wkb_clients.proofs.AllPoints.{all_fit, are_whole, are_points, want_of_room, meant_is}
 use Rattle.wkb_clients.proofs.coordinates.as_multi_point.Goals as goal
 use Rattle.wkb_clients.proofs.coordinates.as_multi_point.Goals.{After-as_slice}
 
@@ -15,8 +15,9 @@ use Rattle.wkb_clients.proofs.coordinates.as_multi_point.Goals.{After-as_slice}
 fit : (c : After-as_slice)
     → AreCoordinates (as_dimensions (dimension c.args.geometry.now.value)) (coordinates_of c.args.geometry.now.value)
 fit c =
-    read_fit c.buf.result.now c.args.geometry.now c.dimension.result c.buf.ensures.front c.are_bytes.ensures (omega arith)
-    c.dimension.ensures c.if-not-has_only.ensures
+    let t = c.args.geometry.now.value in
+    all_fit (dimension t) t c.buf.ensures.read.lawful
+    (subst (λ d. HasOnly d t) c.dimension.ensures c.if-not-has_only.ensures)
 
 -- the words are those of all coordinates
 words_are : (c : After-as_slice) → c.as_slice.result.now ≡ words_of (coordinates_of c.args.geometry.now.value)

@@ -1,0 +1,8 @@
+use Rattle.wkb_read.specs.Places.{collection_seen}
+use Rattle.wkb_read.proofs.Fronts.{own_read}
+use Rattle.wkb_read.proofs.geometry.GeometryCollection.buf.Goals as goal
+
+pub returns-clause-read : goal.returns-clause-read
+returns-clause-read c =
+    own_read (collection_seen c.args.self.now) _ c.bytes-buf.ensures.encoding c.bytes-buf.ensures.front
+    c.are_bytes.ensures.bytes c.are_bytes.ensures.fits
