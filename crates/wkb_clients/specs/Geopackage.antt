@@ -59,12 +59,16 @@ axis_around order blob at r =
     else is_number_at_most (number order 8 (drop at blob)) r.least
     && (not (is_nan (number order 8 (drop (at + 8) blob))) && nat_le (rank r.greatest) (rank (number order 8 (drop (at + 8) blob))))
 
+-- of z and m the envelope says nothing where the geometry has no number
+abbrev pub other_around : Endianness → List ℕ → ℕ → Range → Bool
+other_around order blob at r = if r.count == 0 then true else axis_around order blob at r
+
 -- the axes behind x and y: z, m, or both
 abbrev pub others_around : Endianness → ℕ → List ℕ → Bounds → Bool
 others_around order kind blob b =
-    if kind == 2 then axis_around order blob 40 b.z
-    else (if kind == 3 then axis_around order blob 40 b.m
-    else (if kind == 4 then axis_around order blob 40 b.z && axis_around order blob 56 b.m else true))
+    if kind == 2 then other_around order blob 40 b.z
+    else (if kind == 3 then other_around order blob 40 b.m
+    else (if kind == 4 then other_around order blob 40 b.z && other_around order blob 56 b.m else true))
 
 -- whether an envelope of this kind is around the bounds, on each axis that it has
 abbrev pub envelope_around : Endianness → ℕ → List ℕ → Bounds → Bool

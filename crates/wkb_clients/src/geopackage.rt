@@ -3,7 +3,7 @@
 
 ghost use Rattle.std.specs.Prelude.{◌≡◌, ◌+◌, ◌<◌, ◌≤◌, ◌⊎◌, MatchOption, IfOk, IfErr, drop, length};
 ghost use Rattle.wkb_clients.specs.Geopackage.{IsBlobHeader, HasNoBlobHeader, start_behind, order_said, body_of};
-ghost use Rattle.wkb_clients.specs.Geopackage.{is_number_at_most, axis_around, others_around, envelope_around};
+ghost use Rattle.wkb_clients.specs.Geopackage.{is_number_at_most, axis_around, other_around, others_around, envelope_around};
 ghost use Rattle.wkb_clients.specs.Geopackage.{header_order, envelope_kind, HoldsGeometry, HoldsNoGeometry, IsWantOfMemory, IsWhy};
 
 use std::alloc::Global;
@@ -112,15 +112,26 @@ fn axis_around(blob: &[u8], at: usize, order: Endianness, range: Range) -> bool
         && (!is_nan(greatest) && is_at_most(range.greatest, greatest))
 }
 
+/// Whether the two words at an offset are around the range of z or of m; of an axis without a number they may be any.
+fn other_around(blob: &[u8], at: usize, order: Endianness, range: Range) -> bool
+    requires { at + 16 ≤ length blob.now }
+    ensures { result ≡ other_around order blob.now at range }
+{
+    if range.count == 0 {
+        return true;
+    }
+    axis_around(blob, at, order, range)
+}
+
 /// Whether the axes behind x and y are around those of the bounds.
 fn others_around(blob: &[u8], order: Endianness, kind: u8, found: Bounds) -> bool
     requires { start_behind kind ≤ length blob.now }
     ensures { result ≡ others_around order kind blob.now found }
 {
     match kind {
-        2 => axis_around(blob, 40, order, found.z),
-        3 => axis_around(blob, 40, order, found.m),
-        4 => axis_around(blob, 40, order, found.z) && axis_around(blob, 56, order, found.m),
+        2 => other_around(blob, 40, order, found.z),
+        3 => other_around(blob, 40, order, found.m),
+        4 => other_around(blob, 40, order, found.z) && other_around(blob, 56, order, found.m),
         _ => true,
     }
 }
