@@ -10,6 +10,8 @@ import unittest
 from checks import judge
 from pages import ROOT, files, paths, text_of
 
+# What the licence of each file is, in the form that tools of REUSE read.
+REUSE = ".reuse/dep5"
 LINE = "SPDX-License-Identifier: MIT OR Apache-2.0"
 # What is compiled, imported, installed or built with, by its path.
 NAMED = re.compile(
@@ -38,7 +40,7 @@ class Lines(judge.Judge):
 
 class Texts(judge.Judge):
     """The licences that packages have, which hold no files above their own folders, and those in LICENSES, where REUSE
-    looks for the text of each that REUSE.toml names."""
+    looks for the text of each that .reuse/dep5 names."""
 
     copies = {
         **{f"{folder}/{name}": name for folder in ("python", "rust/geo") for name in ("LICENSE-APACHE", "LICENSE-MIT")},
@@ -47,14 +49,14 @@ class Texts(judge.Judge):
     }
     controls = [
         *((copy, "2.0" if "APACHE" in name else "2024", "2.1", f"{copy} is not") for copy, name in copies.items()),
-        ("REUSE.toml", "LicenseRef-Rattle-kit", "LicenseRef-lost", "LICENSES has"),
+        (REUSE, "LicenseRef-Rattle-kit", "LicenseRef-lost", "LICENSES has"),
     ]
 
     def wrong(self):
-        named = set(re.findall(r"[\w.-]+", " ".join(re.findall(r'License-Identifier = "(.*)"', text_of("REUSE.toml")))))
+        named = set(re.findall(r"[\w.-]+", " ".join(re.findall(r"(?m)^License: (.*)$", text_of(REUSE)))))
         texts = {pathlib.PurePath(it).stem for it in paths("LICENSES/*.txt")}
         if texts != named - {"OR", "AND"}:
-            yield f"LICENSES has {texts}, and REUSE.toml names {named}"
+            yield f"LICENSES has {texts}, and {REUSE} names {named}"
         for copy, name in self.copies.items():
             if text_of(copy) != text_of(name):
                 yield f"{copy} is not {name} at the top"

@@ -236,3 +236,19 @@ fn hostile_bytes() {
         }
     }
 }
+
+/// Each status of `c/wkb.h` is one of this crate, but those that no call of the crate returns.
+#[test]
+fn statuses_are_those_of_the_header() {
+    let ours = include_str!("../src/status.rs");
+    let mut count = 0;
+    for line in include_str!("../../c/wkb.h").lines() {
+        let Some(rest) = line.strip_prefix("  WKB_STATUS_") else { continue };
+        let Some((name, rest)) = rest.split_once(" = ") else { continue };
+        let number: String = rest.chars().take_while(char::is_ascii_digit).collect();
+        let defined = ours.contains(&format!("const {name}: Status = Status({number});"));
+        assert!(defined || ["NO_MEMORY", "UNKNOWN_OPTION"].contains(&name), "{name} = {number}");
+        count += 1;
+    }
+    assert!(count >= 17, "{count} statuses");
+}
