@@ -58,7 +58,6 @@ void release(uint8_t *taken, size_t size);
 /* The tests, by their files. Each group ends the program where something is wrong. */
 void calls_are_right(void);
 void texts_are_right(void);
-void bounds_are_right(void);
 void words_are_right(void);
 void columns_are_right(void);
 void coordinates_are_right(void);
