@@ -242,9 +242,8 @@ fn hostile_bytes() {
 fn statuses_are_those_of_the_header() {
     let ours = include_str!("../src/status.rs");
     let mut count = 0;
-    for line in include_str!("../../c/wkb.h").lines() {
-        let Some(rest) = line.strip_prefix("  WKB_STATUS_") else { continue };
-        let Some((name, rest)) = rest.split_once(" = ") else { continue };
+    let rests = include_str!("../../c/wkb.h").lines().filter_map(|line| line.strip_prefix("  WKB_STATUS_"));
+    for (name, rest) in rests.filter_map(|it| it.split_once(" = ")) {
         let number: String = rest.chars().take_while(char::is_ascii_digit).collect();
         let defined = ours.contains(&format!("const {name}: Status = Status({number});"));
         assert!(defined || ["NO_MEMORY", "UNKNOWN_OPTION"].contains(&name), "{name} = {number}");
