@@ -19,7 +19,8 @@ BLOCK = re.compile(
     r"^ *(?:(?:pub )?(?:trait|struct|enum) |impl(?:<[^{\n]*?>)? (?:[\w:]+(?:<[^{\n]*>)? for )?)(\w+)", re.M
 )
 # Of the head of an `impl` or a trait: the trait, its argument, and the type or the trait itself.
-IMPL = re.compile(r"(?:pub )?(?:impl|trait)(?:<[^{]*?>)? (?:([\w:]+)(?:<([A-Za-z]\w+)?[^{]*>)? for )?(?:[\w:]+::)?(\w+)")
+IMPL = re.compile(r"(?:pub )?(?:impl|trait)(?:<[^{]*?>)? (?:([\w:]+)(?:<([A-Za-z]\w+)?[^{]*>)? for )?"
+                  r"(?:[\w:]+::)?(\w+)")
 DEFINITION = re.compile(r"^ *(?:pub )?(?:record|data) (\w+)", re.M)
 
 

@@ -108,7 +108,7 @@ class Sbom(unittest.TestCase):
         self.assertEqual(kit["licenseDeclared"], "NOASSERTION")
 
     def test_what_contains_the_assembly_has_its_licence(self):
-        stated = re.search(r'path = "c/proved/\*\.s"(?s:.*?)SPDX-License-Identifier = "(.*)"', text_of("REUSE.toml"))[1]
+        stated = re.search(r"(?m)^Files: c/proved/\*\.s$(?s:.*?)^License: (.*)$", text_of(REUSE))[1]
         packages = {it["SPDXID"]: it for it in self.sbom["packages"]}
         library = packages["SPDXRef-porchsorrel-wkb-c"]
         self.assertEqual(library["licenseDeclared"], stated)

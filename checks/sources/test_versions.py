@@ -27,9 +27,9 @@ NAMED = [
     ("postgres/wkb.control", r"(?m)^default_version = '(.*)'$"),
     ("postgres/expected", r"(?m)^([\d.]+)\|23$"),
 ]
-# The packages, which name the licence that REUSE.toml has for all that they hold: the path there, and how they name it.
+# The packages, which name the licence that .reuse/dep5 has for what they hold: the files there, and how they say it.
 # The page that names the oldest Rust of Cargo.toml.
-LICENSED = {"Cargo.toml": "c/proved/*.s", "python/pyproject.toml": "c/proved/*.s", "rust/geo/Cargo.toml": "**"}
+LICENSED = {"Cargo.toml": "c/proved/*.s", "python/pyproject.toml": "c/proved/*.s", "rust/geo/Cargo.toml": "*"}
 LICENSE = r'(?m)^license = .*"(.*)"'
 RUST = "README.md", r"Debian[^.]*.*\bRust ([\d.]*\d)"
 
@@ -49,13 +49,12 @@ class Versions(unittest.TestCase):
                 self.assertEqual({*re.findall(pattern, text.replace(self.version, "9.9.9"))}, {"9.9.9"})
 
     def test_the_packages_have_the_licences(self):
-        parts = pages.text_of("REUSE.toml").split("[[annotations]]")[1:]
-        stated = {re.search('path = "(.*)"', it)[1]: re.search('License-Identifier = "(.*)"', it)[1] for it in parts}
+        stated = dict(re.findall(r"(?m)^Files: (.*)$(?s:.*?)^License: (.*)$", pages.text_of(".reuse/dep5")))
         for path, held in LICENSED.items():
             with self.subTest(path=path):
                 self.assertEqual(re.findall(LICENSE, pages.text_of(path)), [stated[held]])
         listed = re.search(r"(?m)^license:\n((?:  - .*\n)+)", pages.text_of("CITATION.cff"))[1]
-        self.assertEqual(" OR ".join(re.findall("- (.*)", listed)), stated["**"])
+        self.assertEqual(" OR ".join(re.findall("- (.*)", listed)), stated["*"])
 
     def test_a_page_names_the_oldest_rust(self):
         oldest = re.search(r'(?m)^rust-version = "(.*)"$', pages.text_of("Cargo.toml"))[1]
