@@ -69,7 +69,7 @@ PLANTS = [
     ("It is `checks/edits/run --write`.\n\n", "checks/edits/run has no --write"),
     ("1. It is\n\n       python3 examples/dask_column.py --lost\n\n", "dask_column.py has no --lost"),
     ("It is `checks/runs -k it`.\n\n", "no file checks/runs"),
-    ("It is `tools/sums check`.\n\n", "tools/sums has no check"),
+    ("It is `tools/sums lost`.\n\n", "tools/sums has no lost"),
     ("    target_link_libraries(program lost)\n\n", "CMake has no target lost"),
     ("`pkg-config --cflags --libs lost`\n\n", "pkg-config has no lost"),
     ("It prints `what is lost`.\n\n", "no source prints `what is lost`"),

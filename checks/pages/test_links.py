@@ -56,8 +56,6 @@ class Links(judge.Judge):
     controls = [
         *judge.on_each(PAGES, "[lost](LOST.md)\n\n", ": no file LOST.md"),
         ("docs/COST.md", "", "[lost](FORMAT.md#lost)\n\n", "no heading FORMAT.md#lost"),
-        ("docs/COST.md", "", "[the grammar](PROVING.md)\n\n", "leads to PROVING.md"),
-        ("docs/MODEL.md", "", "[of an md](FORMAT.md)\n\n", "leads to FORMAT.md"),
         ("docs/README.md", "](SPEED.md)", "](COST.md)", "no link to docs/SPEED.md"),
     ]
 

@@ -163,7 +163,7 @@ class Names(judge.Judge):
     """Each path in backticks is that of something."""
 
     controls = [
-        *judge.on_each(PAGES, "`lost_name`\n\n", ":1: no source has `lost_name`"),
+        *judge.on_each(PAGES, "`crate::lost`, `lost::name`\n\n", ":1: no source has `lost::name`"),
         ("docs/COST.md", "", "`crates/lost/file.rt`\n\n", "no file `crates/lost/file.rt`"),
         ("docs/COST.md", "", "`grep it crates/gone/file.rt`\n\n", "no file `crates/gone/file.rt`"),
         ("docs/COST.md", "", "`rt check --only coord::Coord::lost`\n\n", "no source has `coord::Coord::lost`"),
