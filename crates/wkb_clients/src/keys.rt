@@ -31,8 +31,7 @@ pub fn key(alloc: Global, bytes: &[u8]) -> WkbResult<Vec<u8>>
 /// Two inputs have one key exactly if their values are equal.
 pub fn one_key()
     ensures { HasOneKey }
-{
-}
+{}
 
 /// Values of geometries in the order in which they came, each once. It holds their keys, and looks at each of them.
 #[derive(Drop)]
