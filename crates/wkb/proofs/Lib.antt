@@ -1,3 +1,3 @@
 pub mod Rewritings
 pub mod Ordinates
-mod Doubles
+pub mod Visits

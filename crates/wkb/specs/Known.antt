@@ -10,6 +10,8 @@ use Rattle.wkb.specs.Laws.{EqualEncodingsWithOwnSrid, NamedDimension, SpelledInF
 use Rattle.wkb.specs.Laws.{EqualSpelled, EqualSpelledWithSrid, HasOneEncoding, HaveOneEncoding}
 use Rattle.wkb.specs.Laws.{CoordinateHasOneEncoding, FirstStart, NextStart, FirstRingStart, NextRingStart}
 use Rattle.wkb.specs.Laws.{MembersStand, RingsStand, MembersInPlace, RingsInPlace, WordsStand, LineStringWordsStand}
+use Rattle.wkb.specs.Laws.{RanksInOrder}
+use Rattle.wkb.specs.Doubles.{in_order}
 use Rattle.wkb_laws.proofs.OneFront.{one_front_lem}
 use Rattle.wkb_laws.proofs.Rewritings.{rest_is_free_lem, bytes_are_read_lem, encoding_spells_lem, written_is_read_lem}
 use Rattle.wkb_laws.proofs.Rewritings.{writable_is_read_lem, rewriting_is_read_lem, rewriting_is_fixed_lem}
@@ -231,3 +233,7 @@ words_stand = words_lem
 -- A word of a line string stands after its count, in its order.
 pub line_string_words_stand : LineStringWordsStand
 line_string_words_stand = line_string_words_lem
+
+-- Numbers are in the order of the ranks of their words.
+pub ranks_in_order : RanksInOrder
+ranks_in_order = in_order

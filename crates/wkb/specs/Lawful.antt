@@ -2,7 +2,7 @@
 use Rattle.std.proofs.Common.{◌≡◌, ℕ, ◌<◌, ◌≤◌, List, Some, sym, ap, ◌∙◌, slice_get, slice_index, arith}
 use Rattle.std.specs.List.{AllByRecursion}
 use Rattle.std.proofs.lemmas.Option.{slice_get-get_or}
-use Rattle.wkb.specs.Prelude.{as_dimensions, Dimension, Dimensions, size, Xy, Xyz, Xym, Xyzm}
+use Rattle.wkb.specs.Prelude.{as_dimensions, Dimension, Dimensions, size, Xy}
 use Rattle.wkb.specs.Values.{Coordinate}
 use Rattle.wkb.specs.Geometries.{IsCoordinate, IsPoint, AreCoordinates}
 use Rattle.wkb.specs.Reads.{Listed, Coord, LinearRing, Point, LineString, MultiPoint, words_seen, coord_dimension}
@@ -50,11 +50,10 @@ pub word_is_there : (dims : Dimensions) (c : Coordinate) (n w : ℕ) → IsCoord
 word_is_there dims c n w lawful inside is =
     slice_get-get_or c n 0 (omega (arith, inside, lawful.len)) ∙ ap Some (sym is)
 
-has_two : (d : Dimension) → 2 ≤ size (as_dimensions d)
+-- A coordinate of any dimension has an x and a y.
+pub has_two : (d : Dimension) → 2 ≤ size (as_dimensions d)
 has_two Xy = omega arith
-has_two Xyz = omega arith
-has_two Xym = omega arith
-has_two Xyzm = omega arith
+has_two _ = omega arith
 
 -- The word that `x` of a coordinate that was read returns is there.
 pub x_is_there : (c : Coord) (w : ℕ) → w ≡ slice_index (words_seen c) 0 → slice_get (words_seen c) 0 ≡ Some w

@@ -1,32 +1,17 @@
 -- Lemmas: where the bytes are that views lend, a member's in those of the whole, a ring's in those of its polygon.
-use Rattle.std.proofs.Common.{◌≡◌, ℕ, suc, ◌+◌, ◌*◌, ◌≤◌, List, length, drop, Some, refl, sym, ap, subst, ◌∙◌}
-use Rattle.std.proofs.Common.{slice_get, drop-drop, length-append, append-nil, [], arith}
+use Rattle.std.proofs.Common.{◌≡◌, ℕ, suc, ◌+◌, ◌*◌, List, length, drop, Some, refl, sym, ap, subst, ◌∙◌}
+use Rattle.std.proofs.Common.{slice_get, drop-drop}
 use Rattle.wkb.specs.Prelude.{width, AreBytes, number}
-use Rattle.wkb.specs.Values.{Coordinate, point, line_string, polygon, multi_line_string, multi_polygon, nest}
-use Rattle.wkb.specs.Spellings.{SpellsCoordinates, max_nesting}
+use Rattle.wkb.specs.Values.{Coordinate, point, line_string, polygon, multi_line_string, multi_polygon}
+use Rattle.wkb.specs.Spellings.{SpellsCoordinates}
 use Rattle.wkb.specs.Reads.{Listed, Item, whole_of, spelling_at, order_of, Point, LineString, MultiPoint, LinearRing}
 use Rattle.wkb.specs.Reads.{point_seen, point_dimension, seen_coordinate, point_value, multi_point_seen}
 use Rattle.wkb.specs.Reads.{multi_point_dimension, seen_points, line_string_seen, line_string_dimension}
-use Rattle.wkb.specs.Reads.{seen_coordinates, ring_seen, ring_encoding, ring_order, ring_dimension, IsFront}
+use Rattle.wkb.specs.Reads.{seen_coordinates, ring_seen, ring_encoding, ring_order, ring_dimension, Lends}
 use Rattle.wkb.specs.Laws.{IsMember, IsWordOf, StandsAt, member_start, ring_start}
 use Rattle.wkb.specs.Known.{spelled_in_full, members_in_place, rings_in_place, words_stand, next_start, size_of_spelled}
-use Rattle.wkb.specs.Bridges.{part_is_member, rest_stands, stands_within, begins_there}
-pub use Rattle.wkb.specs.Terms.{Lends, IsRingAt}
-
--- The bytes that a view lends begin with its geometry, as `front` of a geometry's `buf` says: of the other views the
--- value holds no collection.
-pub lent_front : {w : Item} {lent : List ℕ} → Lends w lent → nest w.value ≤ max_nesting → IsFront lent w
-lent_front {w = w} {lent = lent} own shallow = record {
-  rest = [];
-  front =
-      record {
-        front = w.encoding;
-        whole = own.encoding ∙ sym (append-nil w.encoding);
-        spelled = spelled_in_full w.spelled w.value w.encoding own.spells;
-        shallow = shallow;
-      };
-  encoding_is = refl;
-}
+use Rattle.wkb.specs.Bridges.{part_is_member, stands_within, begins_there}
+pub use Rattle.wkb.specs.Terms.{IsRingAt}
 
 -- The point of a multi point at an index is its member of this number.
 pub point_is_member : (m : MultiPoint) (k : ℕ) (p : Point) → point_dimension p ≡ multi_point_dimension m
@@ -68,7 +53,7 @@ pub member_stands : (whole : Item) (k : ℕ) (part : Item) {outer inner : List �
     → StandsAt (member_start k whole.spelled whole.value) inner whole.encoding
 member_stands whole k part is out own =
     subst (λ b. StandsAt (member_start k whole.spelled whole.value) b whole.encoding) (sym own.encoding)
-    (members_in_place whole k part (subst AreBytes out.encoding out.bytes) (subst AreBytes own.encoding own.bytes)
+    (members_in_place whole k part out.read.bytes own.read.bytes
     (spelled_in_full whole.spelled whole.value whole.encoding out.spells)
     (spelled_in_full part.spelled part.value part.encoding own.spells) is)
 
@@ -101,20 +86,9 @@ ring_stands p j r out coordinates bytes order same at =
       spelled = here;
       stands =
           rings_in_place (whole_of polygon p) p.dimension p.parts j (ring_seen r) (ring_encoding r)
-          (subst AreBytes out.encoding out.bytes) bytes whole here refl (sym at);
+          out.read.bytes bytes whole here refl (sym at);
       at = at;
     }
-
--- The bytes of the ring's coordinates come after the four of its count.
-pub ring_coordinates_stand : (p : Listed (List (List Coordinate))) (j : ℕ) (r : LinearRing) (lent : List ℕ)
-    → IsRingAt p j r → lent ≡ drop 4 (ring_encoding r)
-    → StandsAt (ring_start j p.spelled p.dimension p.parts + 4) lent p.encoding
-ring_coordinates_stand p j r lent h is =
-    let c = h.spelled in
-    let long : 4 ≤ length (ring_encoding r) =
-    omega (arith, c.first.len, ap length c.whole, length-append c.front c.rest) in
-    subst (λ b. StandsAt (ring_start j p.spelled p.dimension p.parts + 4) b p.encoding) (sym is)
-    (stands_within (rest_stands 4 (ring_encoding r) long) h.stands)
 
 -- A word of a ring's coordinate is in bytes around the polygon, as many words after the ring's count.
 pub ring_word_stands : (p : Listed (List (List Coordinate))) (j i n w : ℕ) (r : LinearRing) (start : ℕ)

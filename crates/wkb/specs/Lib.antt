@@ -1,5 +1,6 @@
 pub mod Canonical
 pub mod Checks
+pub mod Coordinates
 pub mod Prelude
 pub mod Values
 pub mod Spellings
@@ -15,6 +16,7 @@ pub mod Writes
 pub mod Laws
 pub mod Known
 mod Terms
+mod Doubles
 pub mod Bridges
 pub mod Handed
 pub mod Kept

@@ -1,12 +1,13 @@
 -- Lemmas: members by their index, of a list, of a geometry that bytes spell, and of what `as_type` hands out.
-use Rattle.std.proofs.Common.{◌≡◌, ℕ, zero, suc, List, [], ◌∷◌, length, map, Some, None, true}
+use Rattle.std.proofs.Common.{◌≡◌, ℕ, zero, suc, ◌+◌, ◌*◌, ◌<◌, List, [], ◌∷◌, length, map, Some, None, true}
 use Rattle.std.proofs.Common.{false, nat_lt, sym, ap, subst}
-use Rattle.std.proofs.Common.{◌∙◌, slice_get}
+use Rattle.std.proofs.Common.{◌∙◌, slice_get, arith}
 use Rattle.std.specs.Prelude.{slice_index_or}
 use Rattle.std.proofs.lemmas.Bool.{ltb-true, ltb-false}
 use Rattle.std.proofs.lemmas.Option.{slice_get-get_or, slice_get_past}
 use Rattle.wkb.specs.Prelude.{Dimension}
-use Rattle.wkb.specs.Values.{Value, Values, collection, members, no_members, member}
+use Rattle.wkb.specs.Values.{Value, Values, collection, members, no_members, member, member_count}
+use Rattle.wkb.specs.Values.{member_count_each}
 use Rattle.wkb.specs.Spellings.{Spelling, node, Spellings, no_spellings, spelling}
 use Rattle.wkb.specs.Geometries.{AreGeometries, geometries}
 use Rattle.wkb.specs.Reads.{Item, spellings, values, IsCollectionOf, members_spelled, geometry_seen, geometry_lawful}
@@ -72,6 +73,18 @@ value_by_node (node a ws ss) z k s u t v h g = one_of_number k ss (members z) s 
 pub one_member : (w : Item) (k : ℕ) (s u : Spelling) (t v : Value) → IsMember k w.spelled w.value s t
     → IsMember k w.spelled w.value u v → t ≡ v
 one_member w k s u t v h g = value_by_node w.spelled w.value k s u t v h g
+
+falls_by : (ms : List Item) (i : ℕ) (m : Item) → i < length ms
+    → member_count (slice_index_or ms i m).value < member_count_each (values ms)
+falls_by [] i m h = absurd (omega (arith, h))
+falls_by (x ∷ ms) zero m h = omega arith
+falls_by (x ∷ ms) (suc i) m h = omega (arith, falls_by ms i m (omega (arith, h)))
+
+-- A member has fewer members in it than all together, by which a walk over members ends.
+pub member_falls : (ms : List Item) (i : ℕ) (m : Item) (t : ℕ) → m ≡ slice_index_or ms i m → i < length ms
+    → 2 * member_count_each (values ms) ≡ t → 2 * member_count m.value + 1 < t
+member_falls ms i m t is inside measure =
+    omega (arith, falls_by ms i m inside, ap (λ (v : Item). member_count v.value) is)
 
 -- Geometries that were read are lawful members of a collection.
 pub items_lawful : (ws : List Item) → AreGeometries (geometries (map geometry_seen ws))

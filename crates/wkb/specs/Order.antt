@@ -1,9 +1,10 @@
--- Lemmas over `ranks_in_order`: words are in the order of numbers.
+-- Lemmas: words are in the order of numbers.
 use Rattle.std.proofs.Common.{◌≡◌, ℕ, List, [], ◌∷◌, Bool, true, false, nat_lt, if◌then◌else◌, refl}
 use Rattle.wkb.specs.Prelude.{IsWord, is_nan}
 use Rattle.wkb.specs.Checks.{Range, rank, with_number, with_word, widened, range_of, no_numbers}
+use Rattle.wkb.specs.Known.{ranks_in_order}
 use Rattle.wkb.specs.Ranges.{IsWithin}
-pub use Rattle.wkb.specs.Laws.{RanksInOrder}
+pub use Rattle.wkb.specs.Doubles.{is_number, not_nan}
 pub use Rattle.wkb.specs.Terms.{HasNumbers, IsBetween}
 
 number_of : (b : Bool) (v w : ℕ) → is_nan v ≡ false → is_nan w ≡ false → is_nan (if b then w else v) ≡ false
@@ -28,10 +29,10 @@ pub range_has_numbers : (ws : List ℕ) → HasNumbers (range_of ws)
 range_has_numbers ws = stay_numbers no_numbers ws (record { least = refl; greatest = refl })
 
 -- What is within a range of numbers is between its least and its greatest.
-pub between : RanksInOrder → (r : Range) (w : ℕ) → IsWord r.least → IsWord r.greatest → IsWord w → HasNumbers r
+pub between : (r : Range) (w : ℕ) → IsWord r.least → IsWord r.greatest → IsWord w → HasNumbers r
     → is_nan w ≡ false → IsWithin r w → IsBetween r.least r.greatest w
-between order r w low high fits numbers number h =
+between r w low high fits numbers number h =
     record {
-      least = order r.least w low fits numbers.least number h.least;
-      greatest = order w r.greatest fits high number numbers.greatest h.greatest;
+      least = ranks_in_order r.least w low fits numbers.least number h.least;
+      greatest = ranks_in_order w r.greatest fits high number numbers.greatest h.greatest;
     }

@@ -1,18 +1,18 @@
 -- Lemmas: what calls return for bytes that begin with a geometry, as those do that `buf` of a geometry returns.
-use Rattle.std.proofs.Common.{◌≡◌, ℕ, List, Result, Ok, Err, Bool, true, false, ◌⊎◌, inl, inr, refl, sym, ap, ◌∙◌}
+use Rattle.std.proofs.Common.{◌≡◌, ℕ, List, Result, Ok, Err, Bool, true, false, ◌⊎◌, inl, inr, refl, sym, ap, subst, ◌∙◌}
 use Rattle.std.proofs.Common.{◌≤◌, length, arith}
 use Rattle.std.specs.Prelude.{IfOk, IfErr, MatchBool, Vec}
 use Rattle.std.specs.Global.{Global}
 use Rattle.wkb.specs.Prelude.{WkbError, IsMemory, Endianness, Ewkb, Iso}
 use Rattle.wkb_geom.specs.declared.error.WkbError.TheVariants as errors
-use Rattle.wkb.specs.Spellings.{header}
+use Rattle.wkb.specs.Spellings.{header, Spells}
 use Rattle.wkb.specs.Geometries.{geometry_of}
 use Rattle.wkb.specs.Encodings.{encoding, IsRewritingWithSrid}
 use Rattle.wkb.specs.Writes.{WriteOptions, IsEncodingOf}
 use Rattle.wkb.specs.Reads.{Item, IsFront, IsOnlyFront, IsRead, HasNoFront, IsRefusal, IsNotMemory, Reads, Wkb}
 use Rattle.wkb.specs.Canonical.{HaveOneValue, HaveTwoValues, IsRewritingUnder, IsRefusedUnder, IsPairRefusal, IsSize}
 use Rattle.wkb.specs.Bridges.{memory_or}
-use Rattle.wkb.specs.Known.{never_both, has_one_front, length_of_front}
+use Rattle.wkb.specs.Known.{never_both, has_one_front, has_one_encoding, length_of_front}
 pub use Rattle.wkb.specs.Terms.{own_options}
 
 -- Bytes that begin with a geometry, such as those of a geometry's `buf`, are never rejected by a call that rejects
@@ -45,6 +45,15 @@ pub only_front : {buf : List ℕ} {w : Item} → IsFront buf w → IsOnlyFront b
 only_front {buf = buf} {w = w} f = λ s t rest g.
     let one = has_one_front buf s w.spelled t w.value rest f.rest g f.front in
     (one.0 ∙ f.encoding_is, one.1, one.2)
+
+-- Two geometries that were read are one if their spellings and their values are.
+pub one_item : {v w : Item} → IsRead v → IsRead w → v.spelled ≡ w.spelled → v.value ≡ w.value → v ≡ w
+one_item {v = v} {w = w} r q s t =
+    let whole : (i : Item) → IsRead i → Spells i.spelled i.value i.encoding =
+    λ i h. subst (Spells i.spelled i.value) h.front.encoding_is h.front.front.spelled in
+    let here = subst (λ x. Spells x w.value v.encoding) s (subst (λ x. Spells v.spelled x v.encoding) t (whole v r)) in
+    let same = has_one_encoding w.spelled w.value v.encoding w.encoding r.bytes q.bytes here (whole w q) in
+    λ i. record { encoding = same i; spelled = s i; value = t i }
 
 -- A geometry that was read is written in either order in as many bytes as its own, or in fewer.
 pub no_longer : (order : Endianness) {w : Item} → IsRead w

@@ -7,10 +7,9 @@ pub use Rattle.wkb_geom.specs.Stored.{Listed, whole_of, value_code, rings_code, 
 pub use Rattle.wkb_geom.specs.Fronts.{HasNoFront}
 pub use Rattle.wkb_read.specs.Reads.{IsFront, IsOnlyFront, IsRefusal, TellsEach, IfRefused, IfMemory, CountsValue}
 pub use Rattle.wkb_read.specs.Reads.{CountsRefusal, CountsAtMost, CanBeWritten, AsksForNone, BeginsNone, KindTakesNone}
-pub use Rattle.wkb_read.specs.Reads.{TakesNoMemory, IsRead, Reads, Costs}
+pub use Rattle.wkb_read.specs.Reads.{TakesNoMemory, IsRead, Lends, Reads, Costs}
 pub use Rattle.wkb_read.specs.Meanings.{geometry_seen, members_seen}
 pub use Rattle.wkb_read.specs.Lawful.{geometry_lawful, members_lawful, one_dimension_seen}
-pub use Rattle.wkb_read.specs.Lawful.{seen_as_it_is, members_as_they_are}
 pub use Rattle.wkb_read.specs.Views.{IsCollectionOf, IsViewOf}
 pub use Rattle.wkb_read.specs.Places.{collection_seen, joined_encodings, HoldsMembers, IsCollectionIn, AreMembers}
 pub use Rattle.wkb_read.specs.Places.{IsMemberAt}

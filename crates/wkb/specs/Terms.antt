@@ -7,13 +7,13 @@ use Rattle.wkb_geom.specs.declared.geom.GeometryType.TheVariants.{MultiLineStrin
 use Rattle.wkb_view.specs.declared.point.Point as points
 use Rattle.wkb_view.specs.declared.line_string.LineString as lines
 use Rattle.wkb_view.specs.declared.multi_point.MultiPoint as multi_points
-use Rattle.wkb.specs.Prelude.{AreBytes, Endianness, Ewkb, is_nan}
+use Rattle.wkb.specs.Prelude.{Endianness, Ewkb, is_nan}
 use Rattle.wkb.specs.Values.{Coordinate, nest}
 use Rattle.wkb.specs.Spellings.{Spelling, SpellsCoordinates, Front, max_nesting, HasOptions, header}
 use Rattle.wkb.specs.Geometries.{Geometry, normal}
 use Rattle.wkb.specs.Checks.{Range, rank, widened}
 use Rattle.wkb.specs.Writes.{WriteOptions}
-use Rattle.wkb.specs.Reads.{Listed, Item, BytesSpell, order_of, LinearRing, ring_seen, ring_encoding, IsFront}
+use Rattle.wkb.specs.Reads.{Listed, Item, order_of, LinearRing, ring_seen, ring_encoding, IsFront}
 use Rattle.wkb.specs.Reads.{IsOnlyFront}
 use Rattle.wkb.specs.Laws.{StandsAt, ring_start}
 
@@ -35,12 +35,6 @@ pub record HasNumbers (r : Range) : Type 0 where
 pub record IsBetween (low high w : ℕ) : Type 0 where
   pub least : from_bits binary64 low ≤ᶠ from_bits binary64 w
   pub greatest : from_bits binary64 w ≤ᶠ from_bits binary64 high
-
--- What `buf` and `are_bytes` say of the bytes that a view lends: they are the geometry's, and spell it.
-pub record Lends (w : Item) (lent : List ℕ) : Type 0 where
-  pub bytes : AreBytes lent
-  pub encoding : lent ≡ w.encoding
-  pub spells : BytesSpell w
 
 -- A ring of a polygon, by what its view lends: the ring's bytes spell its coordinates in the polygon's order and
 -- dimension, and are the polygon's at the ring's place.

@@ -17,6 +17,7 @@
 
 pub mod canon;
 pub mod check;
+pub mod coordinates;
 pub mod error;
 pub mod geom;
 pub mod laws;

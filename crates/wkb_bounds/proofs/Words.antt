@@ -24,7 +24,7 @@ use Rattle.wkb_bounds.specs.Bounded.{on, nothing, bounds_by, AreBounds, ArePlane
 use Rattle.wkb_check.specs.Pieces.{pieces_of, piece_of, own_end, IsRing, IsAhead, IsTaken, IsNext, Steps}
 use Rattle.wkb_check.specs.declared.pieces.Pieces.{Pieces}
 use Rattle.wkb_bounds.proofs.Widening.{widened-append}
-use Rattle.wkb_check.proofs.Placing.{leaf_of, own_piece}
+use Rattle.wkb_check.proofs.Placing.{only_piece}
 use Rattle.wkb_check.specs.Subjects.{Subject, dimension_in, subject_coordinates, subjects, subjects_of_rings}
 use Rattle.wkb_check.specs.Subjects.{subjects_of_each}
 use Rattle.wkb_check.proofs.Subjects.{piece_coordinates, ArePiecesOf, pieces_match}
@@ -133,7 +133,7 @@ pub one_words : (a : Axis) (buf : List ℕ) (g : HasGeometry buf) (p : Piece) �
 one_words a buf g p is low =
     ap (widened no_numbers) (sym (leaf_words a buf p low) ∙ sym (append-nil (piece_words a buf p)))
     ∙ ap (λ ps. widened no_numbers (words_of_each (piece_words a buf) ps))
-    (sym (own_piece 0 g.spelled g.value ∙ (λ i. sym is i ∷ (leaf_of buf 0 0 g p is low).3 i)))
+    (sym (only_piece buf 0 g p is low))
     ∙ all_words a buf g
 
 -- ---- the loop over the pieces

@@ -1,6 +1,6 @@
 //! Ranges on all axes, while they are widened.
 
-ghost use Rattle.std.specs.Prelude.{◌≡◌, ◌+◌, ◌*◌, ◌≤◌, length, true};
+ghost use Rattle.std.specs.Prelude.{◌≡◌, ◌+◌, ◌*◌, ◌≤◌, false, length, true};
 ghost use Rattle.wkb_geom.specs.declared.common.Dimension.TheVariants.{Xy};
 ghost use Rattle.wkb_geom.specs.Dimensions.{width};
 ghost use Rattle.wkb_geom.specs.Reading.{coordinates};
@@ -111,8 +111,7 @@ fn widen_plane_word_by_word(
     *y = y_ranks;
 }
 
-/// Widens the ranks of x and y by coordinates, with a loop for each order. It isn't inlined, so that its counters stay
-/// in registers.
+/// As `widen_plane_in`, with a loop for each order. It isn't inlined, so that its counters stay in registers.
 #[inline(never)]
 fn widen_plane(
     x: &mut Ranks,
@@ -219,7 +218,8 @@ impl AxisRanks {
     /// Whether all words of x and y were numbers.
     #[inline(always)]
     pub(crate) fn are_plane_numbers(self) -> bool
-        ensures { result ≡ true → ArePlaneNumbers self }
+        ensures all { result ≡ true → ArePlaneNumbers self }
+        ensures none { result ≡ false → ArePlaneNumbers self → ⊥ }
     {
         self.x.are_numbers() && self.y.are_numbers()
     }

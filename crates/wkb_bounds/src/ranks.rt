@@ -1,6 +1,6 @@
 //! Ranges by the order of numbers on their words.
 
-ghost use Rattle.std.specs.Prelude.{◌≡◌, ◌+◌, ◌*◌, ◌<◌, ◌≤◌, ◌^◌, length, IfSome, true};
+ghost use Rattle.std.specs.Prelude.{◌≡◌, ◌+◌, ◌*◌, ◌<◌, ◌≤◌, ◌^◌, length, IfSome, false, true};
 ghost use Rattle.wkb_geom.specs.Dimensions.{width};
 ghost use Rattle.wkb_bounds.specs.Ranges.{word_of as word_by, range_by, with_word};
 ghost use Rattle.wkb_bounds.specs.Ranges.{widened, CanWiden, WidensRange, AreNumbers, WidensNumbers};
@@ -91,7 +91,8 @@ impl Ranks {
     /// Whether all words were numbers.
     #[inline(always)]
     pub(crate) fn are_numbers(self) -> bool
-        ensures { result ≡ true → AreNumbers self }
+        ensures all { result ≡ true → AreNumbers self }
+        ensures none { result ≡ false → AreNumbers self → ⊥ }
     {
         LEAST_RANK <= self.least && self.greatest <= GREATEST_RANK
     }
@@ -158,8 +159,7 @@ impl Ranks {
         *self = ranks;
     }
 
-    /// Widens the ranks by a word of each coordinate, with a loop for each order. It isn't inlined, so that its
-    /// counters stay in registers.
+    /// As `widen_in`, with a loop for each order. It isn't inlined, so that its counters stay in registers.
     #[inline(never)]
     fn widen(&mut self, order: Endianness, size: usize, at: usize, count: u32, bytes: &[u8])
         requires { CanWiden self.old size at count bytes.now }

@@ -11,7 +11,7 @@ ghost use Rattle.wkb_bounds.specs.Bounded.{AreBounds, BoundsFront, BoundsOnlyFro
 ghost use Rattle.wkb_bounds.specs.Bounded.{nothing as no_bounds, Widens};
 ghost use Rattle.wkb_bounds.specs.Ordinates.{words_in};
 ghost use Rattle.wkb_check.specs.Pieces.{IsPieceAt, IsHeaderAt};
-ghost use Rattle.wkb_check.specs.Public.{Checks, DescribesFront};
+ghost use Rattle.wkb_check.specs.Public.{Checks, DescribesFront, HasNoPlain};
 
 use crate::axes::AxisRanks;
 use crate::by_order;
@@ -36,8 +36,7 @@ fn put_bounds_of_xy_in(order: Endianness, count: u32, bytes: &[u8], bounds: &mut
     *bounds = ranks.bounds();
 }
 
-/// Puts the bounds of `count` coordinates of x and y, with a loop for each order. It isn't inlined, so that its
-/// counters stay in registers.
+/// As `put_bounds_of_xy_in`, with a loop for each order. It isn't inlined, so that its counters stay in registers.
 #[inline(never)]
 fn put_bounds_of_xy(order: Endianness, count: u32, bytes: &[u8], bounds: &mut Bounds)
     requires { XY_SIZE * count ≤ length bytes.now }
@@ -121,10 +120,11 @@ fn put_bounds_found(buf: &[u8], found: &Summary, bounds: &mut Bounds)
     requires { DescribesFront buf.now found.now }
     ensures { (g : HasGeometry buf.now) → AreBounds bounds.new g.value }
 {
+    if found.wkb_type.kind() < POLYGON {
+        put_bounds_of_piece(buf, &Piece::outermost(buf, found), bounds);
+        return;
+    }
     match found.wkb_type {
-        WkbType::Point(_) | WkbType::LineString(_) => {
-            put_bounds_of_piece(buf, &Piece::outermost(buf, found), bounds);
-        }
         WkbType::Polygon(Dimension::Xy) => {
             put_bounds_of_rings(buf, found.order, found.srid, bounds);
         }
@@ -157,6 +157,7 @@ fn put_bounds_of_front(buf: &[u8], bounds: &mut Bounds)
 pub fn put_plain_bounds(buf: &[u8], bounds: &mut Bounds) -> bool
     ensures front { result ≡ true → BoundsFront buf.now bounds.new }
     ensures one_front { result ≡ true → BoundsOnlyFront buf.now bounds.new }
+    ensures none { result ≡ false → HasNoPlain buf.now }
     ensures kept { result ≡ false → bounds.new ≡ bounds.old }
 {
     match check_plain(buf) {

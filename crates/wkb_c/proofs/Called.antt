@@ -1,27 +1,27 @@
 -- What the call for one row of a column does.
-use Rattle.wkb_columns.proofs.Common.{◌≡◌, ◌≢◌, ℕ, ◌+◌, ◌≤◌, ◌<◌, ◌⊎◌, List, [], ◌∷◌, ◌++◌, length, drop, refl, sym, ap, ◌∙◌}
-use Rattle.wkb_columns.proofs.Common.{arith, append-nil, Spelling, node, header, Value}
-use Rattle.wkb_columns.proofs.Common.{kind, dimension, order_byte}
+use Rattle.wkb_abi.proofs.Common.{◌≡◌, ◌≢◌, ℕ, ◌+◌, ◌≤◌, ◌⊎◌, List, [], ◌∷◌, ◌++◌, length, drop, refl, sym, ap, ◌∙◌}
+use Rattle.wkb_abi.proofs.Common.{arith, append-nil, Spelling, node, Value}
 use lib.Seq.{sets, sets-eq}
 use Rattle.std.proofs.Common.{set}
 use Rattle.std.proofs.lemmas.List.{nil_from_length}
 use Rattle.wkb_geom.specs.Fronts.{Front}
 use Rattle.wkb_check.specs.Known.{HasGeometries}
-use Rattle.wkb_check.specs.Pieces.{count_of, size, piece_of, IsPieceAt}
+use Rattle.wkb_check.specs.Pieces.{last_end, IsPieceAt}
 use Rattle.wkb_check.specs.Public.{DescribesFront}
 use Rattle.wkb_check.specs.declared.answer.Summary.{Summary}
 use Rattle.wkb_check.specs.declared.pieces.Piece.{Piece}
-use Rattle.wkb_check.specs.Tables.{geometry_entries, FitGeometries, entry, entry_of, place, entry_count}
+use Rattle.wkb_check.specs.Subjects.{whole, subjects, subjects_of_each}
+use Rattle.wkb_check.specs.Tables.{geometry_entries, FitGeometries, entry_at, entry_of}
 use Rattle.wkb_check.specs.declared.parts.Part.{Part}
-use Rattle.wkb_check.proofs.Placing.{spelled_size, alone}
+use Rattle.wkb_check.proofs.Placing.{spelled_end, alone}
 use Rattle.wkb_check.proofs.Joining.{geometry_of_front}
-use Rattle.wkb_columns.specs.Columns.{IsRow, IsRefusedWith}
-use Rattle.wkb_columns.specs.declared.column.Column.{Column}
-use Rattle.wkb_columns.specs.RowItems.{IsRowStep, RowHas, RowFails}
-use Rattle.wkb_columns.specs.Subjects.{IsTable, LacksEntries, HasTable, HasParts}
-use Rattle.wkb_columns.specs.declared.status.TheConstants.{OK, NO_ROOM}
+use Rattle.wkb_abi.specs.Columns.{IsRow, IsRefusedWith}
+use Rattle.wkb_abi.specs.declared.column.Column.{Column}
+use Rattle.wkb_abi.specs.RowItems.{IsRowStep, RowHas, RowFails}
+use Rattle.wkb_abi.specs.Subjects.{IsTable, LacksEntries, HasTable, HasParts}
+use Rattle.wkb_abi.specs.declared.status.TheConstants.{OK, NO_ROOM}
 use Rattle.wkb_c.proofs.RowItems.{IsLent, called_step}
-use Rattle.wkb_columns.proofs.Telling.{begins}
+use Rattle.wkb_abi.proofs.Telling.{begins}
 use Rattle.wkb_c.proofs.Words.{holds, counted, entries_many}
 
 row_table : {c : Column} {i : ℕ} (row : List ℕ) → IsRow c i row → (s : Spelling) (t : Value) (rest : List ℕ)
@@ -46,19 +46,20 @@ module _ {c : Column} {i start status count : ℕ} {before lent sub after : List
       → IsRowStep (RowHas HasTable c) (RowFails IsRefusedWith c) i status count start before after
   list_step listed short =
       called_step l
+      (λ parts h.
+      let t = h.has in
+      omega (arith, ap length t.parts_are, entries_many t.s t.t t.front.front t.front.spelled))
       (λ ok.
       let h = listed ok in
-      let some : 0 < length (geometry_entries 0 0 h.s h.t) = omega (arith, h.many, h.held.count_is) in
-      (geometry_entries 0 0 h.s h.t, (row_table row is h.s h.t h.rest h.front, (some, h.held))))
+      record { items = _; is = row_table row is h.s h.t h.rest h.front; held = h.held })
       (λ told.
       let h = short told in
-      let many = entries_many h.s h.t h.front.front h.front.spelled in (
-        geometry_entries 0 0 h.s h.t,
-        (
-          row_table row is h.s h.t h.rest h.front,
-          record { count_is = omega (arith, h.many, many); short = omega (arith, h.many, h.short, many) },
-        ),
-      ))
+      let many = entries_many h.s h.t h.front.front h.front.spelled in
+      record {
+        items = _;
+        is = row_table row is h.s h.t h.rest h.front;
+        lacks = record { count_is = omega (arith, h.many, many); short = omega (arith, h.many, h.short, many) };
+      })
 
 -- the geometry at the start, as the only one of some
 abbrev pub one_geometry : (input : List ℕ) (s : Spelling) (t : Value) (rest : List ℕ) → Front input s t rest
@@ -67,14 +68,18 @@ one_geometry input s t rest f = alone (geometry_of_front f)
 
 pub fits_table : (input : List ℕ) (many : ℕ) (parts : List Part) → HasParts input many → many ≤ length parts
     → FitGeometries 1 input 0 (length parts)
-fits_table input many parts h fit = record {
-  more = h.rest;
-  all = one_geometry input h.s h.t h.rest h.front;
-  fit = omega (arith, fit, h.many_are, counted h.s h.t h.front.front h.front.spelled);
-}
+fits_table input many parts h fit =
+    let all = one_geometry input h.s h.t h.rest h.front in
+    let alone_is : length (subjects_of_each all.spelled all.values) ≡ length (subjects h.s h.t) =
+    ap length (append-nil (subjects h.s h.t)) in
+    record {
+      more = h.rest;
+      all = all;
+      fit = omega (arith, fit, h.many_are, counted h.s h.t h.front.front h.front.spelled, alone_is);
+    }
 
 pub table_put : (input : List ℕ) (many : ℕ) (parts new : List Part) → (h : HasParts input many) → many ≤ length parts
-    → new ≡ sets parts 0 (geometry_entries 0 0 h.s h.t ++ []) → IsTable input parts new many
+    → new ≡ sets parts 0 (geometry_entries 0 0 h.s h.t) → IsTable input parts new many
 table_put input many parts new h fit put =
     let entries = geometry_entries 0 0 h.s h.t in
     let long = entries_many h.s h.t h.front.front h.front.spelled in
@@ -86,27 +91,17 @@ table_put input many parts new h fit put =
       held = record {
         count_is = h.many_are ∙ sym long;
         whole =
-            put ∙ ap (sets parts 0) (append-nil entries)
-            ∙ sets-eq entries parts 0 (omega (arith, fit, long, h.many_are))
+            put ∙ sets-eq entries parts 0 (omega (arith, fit, long, h.many_are))
             ∙ ap (λ n. entries ++ drop n parts) (omega arith);
       };
       parts = holds h.s h.t (begins input h.s h.t h.rest h.front);
       many = h.many_are;
     }
 
--- the first entry of a geometry
-abbrev first_entry : Spelling → Value → Part
-first_entry s t =
-    entry (kind t) (dimension t) (header s).srid (order_byte (header s).order) (place 0 0 (header s) s t) (count_of t)
-
-entries_begin : (s : Spelling) (t : Value) → length (geometry_entries 0 0 s t) ≡ 1
-    → geometry_entries 0 0 s t ≡ first_entry s t ∷ []
-entries_begin (node h words ss) t is =
-    ap (λ z. first_entry (node h words ss) t ∷ z) (nil_from_length _ (omega (arith, is)))
-
-first_is_whole : (s : Spelling) (t : Value) (p : Piece) → p ≡ piece_of 0 s t → {end next : ℕ} → end ≡ 0 + size s t
-    → next ≡ 0 + entry_count s t → entry_of p end next ≡ first_entry s t
-first_is_whole (node h words ss) t p is end_is next_is = λ i. entry_of (is i) (end_is i) (next_is i)
+one_entry : (s : Spelling) (t : Value) → length (geometry_entries 0 0 s t) ≡ 1
+    → geometry_entries 0 0 s t ≡ entry_at 0 0 (whole s t) ∷ []
+one_entry (node h words ss) t is =
+    ap (λ z. entry_at 0 0 (whole (node h words ss) t) ∷ z) (nil_from_length _ (omega (arith, is)))
 
 -- what was found has so many parts
 abbrev pub parts_found : {input : List ℕ} {f : Summary} → DescribesFront input f → HasParts input f.parts
@@ -123,12 +118,12 @@ pub whole_put : {input : List ℕ} {f : Summary} {parts new : List Part} (d : De
     → IsTable input parts new f.parts
 whole_put {input} {f} {parts} {new} d p is one fit put =
     let front = d.front in
-    let long = spelled_size d.spelled d.value front.front front.spelled in
+    let long = spelled_end 0 d.spelled d.value front.front front.spelled in
     let many = entries_many d.spelled d.value front.front front.spelled in
-    let entries = entries_begin d.spelled d.value (omega (arith, many, d.described.parts, one)) in
-    let end : f.bytes ≡ 0 + size d.spelled d.value = omega (arith, d.described.bytes_are, long) in
-    let next : 1 ≡ 0 + entry_count d.spelled d.value =
+    let entries = one_entry d.spelled d.value (omega (arith, many, d.described.parts, one)) in
+    let end : f.bytes ≡ last_end 0 (subjects d.spelled d.value) = omega (arith, d.described.bytes_are, long) in
+    let next : 1 ≡ 0 + length (subjects d.spelled d.value) =
     omega (arith, one, d.described.parts, counted d.spelled d.value front.front front.spelled) in
     table_put input f.parts parts new (parts_found d) fit
-    (put ∙ ap (set parts 0) (first_is_whole d.spelled d.value p (is (geometry_of_front front)) end next)
-    ∙ ap (λ es. sets parts 0 (es ++ [])) (sym entries))
+    (put ∙ (λ i. set parts 0 (entry_of (is (geometry_of_front front) i) (end i) (next i)))
+    ∙ ap (sets parts 0) (sym entries))

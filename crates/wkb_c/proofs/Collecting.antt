@@ -1,12 +1,10 @@
 -- One geometry whose members are the geometries that rows begin with.
-use Rattle.wkb_columns.proofs.Common.{◌≡◌, ℕ, zero, suc, ◌≤◌, List, [], ◌∷◌, ◌++◌, length}
-use Rattle.wkb_columns.proofs.Common.{Option, Some, None, refl, sym, ap, subst, ◌∙◌, arith, append-nil}
-use Rattle.wkb_columns.proofs.Common.{Value, Values, member, no_members, kind, dimension, members}
-use Rattle.wkb_columns.proofs.Common.{point, line_string, polygon, multi_point, multi_line_string, multi_polygon, collection}
-use Rattle.wkb_columns.proofs.Common.{Dimension}
-use Rattle.std.specs.Prelude.{Bool, true, false, ◌||◌, nat_lt}
-use Rattle.std.proofs.Common.{ltb-false}
-use Rattle.std.proofs.lemmas.Bool.{cond_both}
+use Rattle.wkb_abi.proofs.Common.{◌≡◌, ℕ, zero, suc, ◌≤◌, List, [], ◌∷◌, ◌++◌, length}
+use Rattle.wkb_abi.proofs.Common.{Some, refl, sym, ap, subst, ◌∙◌, arith, append-nil}
+use Rattle.wkb_abi.proofs.Common.{Value, Values, member, no_members, kind, dimension, members}
+use Rattle.wkb_abi.proofs.Common.{point, line_string, polygon, multi_point, multi_line_string, multi_polygon, collection}
+use Rattle.wkb_abi.proofs.Common.{Dimension}
+use Rattle.std.specs.Prelude.{false}
 use Rattle.wkb_geom.specs.declared.common.Endianness.{Endianness}
 use Rattle.wkb_geom.specs.declared.common.Form.{Form}
 use Rattle.wkb_geom.specs.Encodings.{encoding, encodings, inner, header_encoding}
@@ -22,15 +20,12 @@ use Rattle.wkb_check.specs.Public.{member_room}
 use Rattle.wkb_rewrite.proofs.Encodings.{encoded_apart}
 use Rattle.wkb_rewrite.specs.Targets.{encoding_for}
 use Rattle.wkb_c.specs.Collections.{AreRowMembers, HaveMembers, IsCollected, part_of}
-use Rattle.wkb_c.specs.Collections.{front_of, inside_of, collect_asked, collect_with, WritesCollected, CollectedExceeds}
-use Rattle.wkb_c.specs.Collections.{PutsCollected, WholeExceeds, IsFirstUnfit, IsFirstUnfitFor}
-use Rattle.wkb_geom.specs.Codes.{dimension_of_thousands}
-use Rattle.wkb_columns.specs.Requests.{request_of, options_for}
+use Rattle.wkb_c.specs.Collections.{front_of, inside_of, IsWhole, IsFirstUnfit}
+use Rattle.wkb_c.specs.Collections.{IsAsked, IsFirstUnfitFor}
 use Rattle.wkb_c.specs.declared.collect.CollectTarget.{CollectTarget}
-use Rattle.wkb_columns.specs.declared.column.Column.{Column}
-use Rattle.wkb_columns.specs.declared.fault.WkbFault.{WkbFault}
-use Rattle.wkb_columns.specs.declared.options.Options.{Options}
-use Rattle.wkb_columns.specs.declared.options.Request.{Request}
+use Rattle.wkb_abi.specs.declared.column.Column.{Column}
+use Rattle.wkb_abi.specs.declared.fault.WkbFault.{WkbFault}
+use Rattle.wkb_abi.specs.declared.options.Options.{Options}
 
 -- ---- the whole, by its members
 
@@ -123,57 +118,12 @@ module _ (order : Endianness) (form : Form) where
 
 -- ---- what is asked for
 
-pub record IsAsked (k n : ℕ) (o : Options) (target : CollectTarget) : Type 0 where
-  pub low : 4 ≤ k
-  pub high : k ≤ 7
-  pub kind_is : target.kind ≡ k
-  pub named : dimension_of_thousands n ≡ Some target.dimension
-  pub request : Request
-  pub asked : request_of o ≡ Some request
-  pub options_are : target.options ≡ options_for request None
-
-one_target : {a b : CollectTarget} → ◌≡◌ {A = Option CollectTarget} (Some a) (Some b) → a ≡ b
-one_target e = cc
-
-asked_with : (k n : ℕ) (o : Options) (target : CollectTarget) → 4 ≤ k → k ≤ 7
-    → (d : Option Dimension) (r : Option Request) → dimension_of_thousands n ≡ d → request_of o ≡ r
-    → collect_with k d r ≡ Some target → IsAsked k n o target
-asked_with k n o target low high (Some d) (Some request) named asked e =
-    let same = one_target e in
-    record {
-      low = low;
-      high = high;
-      kind_is = sym (ap (λ (t : CollectTarget). t.kind) same);
-      named = named ∙ ap (λ (t : CollectTarget). Some t.dimension) same;
-      request = request;
-      asked = asked;
-      options_are = sym (ap (λ (t : CollectTarget). t.options) same);
-    }
-asked_with k n o target low high (Some d) None named asked e = absurd cc
-asked_with k n o target low high None r named asked e = absurd cc
-
-neither : (a b : Bool) → (a || b) ≡ false → (a ≡ false) × (b ≡ false)
-neither false false e = (refl, refl)
-neither false true e = absurd cc
-neither true b e = absurd cc
-
-pub is_asked : (k n : ℕ) (o : Options) (target : CollectTarget) → collect_asked k n o ≡ Some target
-    → IsAsked k n o target
-is_asked k n o target e =
-    cond_both (nat_lt k 4 || nat_lt 7 k) None (collect_with k (dimension_of_thousands n) (request_of o))
-    (λ z. z ≡ Some target → IsAsked k n o target) (λ t e. absurd cc)
-    (λ f e.
-    let both = neither (nat_lt k 4) (nat_lt 7 k) f in
-    asked_with k n o target (ltb-false _ _ both.0) (ltb-false _ _ both.1) (dimension_of_thousands n) (request_of o) refl refl
-    e)
-    e
-
 parts_of : (c : Column) (w : Wanted) (i : ℕ) (ts : Values) → AreRowMembers c w i ts
     → AreParts w ts × (nest_each ts ≤ member_room)
 parts_of c w i no_members are = (tt, omega arith)
 parts_of c w i (member t ts) are =
     let others = parts_of c w (suc i) ts are.1 in
-    ((are.0.begins.wanted, others.0), omega (arith, are.0.begins.front.shallow, others.1))
+    ((are.0.has.wanted, others.0), omega (arith, are.0.has.front.shallow, others.1))
 
 module _ {c : Column} {rows k n : ℕ} {o : Options} {target : CollectTarget} (a : IsAsked k n o target)
     (have : HaveMembers c (part_of target) rows) where
@@ -208,32 +158,17 @@ module _ {c : Column} {rows k n : ℕ} {o : Options} {target : CollectTarget} (a
             ∙ ap (λ z. encoding_for z v.value) a.options_are;
       }
 
-pub first_unfit_for : {c : Column} {rows k n i status : ℕ} (o : Options) {target : CollectTarget} {fault : WkbFault}
-    → collect_asked k n o ≡ Some target → IsFirstUnfit c (part_of target) rows i status fault
+pub first_unfit_for : {c : Column} {rows k n i status : ℕ} {o : Options} {target : CollectTarget} {fault : WkbFault}
+    → IsAsked k n o target → IsFirstUnfit c (part_of target) rows i status fault
     → IsFirstUnfitFor k n c rows i status fault
-first_unfit_for {c} {rows} {k} {n} {i} {status} o {target} {fault} asked first =
-    let a = is_asked k n o target asked in
-    record {
-      named = target.dimension;
-      named_is = a.named;
-      first =
-          subst (λ z. IsFirstUnfit c (member_part z target.dimension) rows i status fault) a.kind_is first;
-    }
-
-pub writes_collected : {c : Column} {rows k n size : ℕ} {o : Options} {target : CollectTarget} {before after : List ℕ}
-    → collect_asked k n o ≡ Some target → PutsCollected c target rows before after size
-    → WritesCollected c rows k n o before after size
-writes_collected {rows = rows} {target = target} asked p = record {
-  encoding = front_of target rows ++ inside_of target p.have.values;
-  is = collected (is_asked _ _ _ target asked) p.have;
-  held = p.held;
+first_unfit_for {c} {rows} {i = i} {status} {target = target} {fault} a first = record {
+  named = target.dimension;
+  named_is = a.named;
+  first = subst (λ z. IsFirstUnfit c (member_part z target.dimension) rows i status fault) a.kind_is first;
 }
 
-pub collected_exceeds : {c : Column} {rows k n size : ℕ} {o : Options} {target : CollectTarget} {before : List ℕ}
-    → collect_asked k n o ≡ Some target → WholeExceeds c target rows before size
-    → CollectedExceeds c rows k n o before size
-collected_exceeds {rows = rows} {target = target} asked p = record {
-  encoding = front_of target rows ++ inside_of target p.have.values;
-  is = collected (is_asked _ _ _ target asked) p.have;
-  lacks = p.lacks;
-}
+pub whole_collected : {c : Column} {rows k n : ℕ} {o : Options} {target : CollectTarget}
+    → IsAsked k n o target → (encoding : List ℕ) → IsWhole c target rows encoding
+    → IsCollected c rows k n o encoding
+whole_collected {c} {rows} {k} {n} {o} {target} asked encoding w =
+    subst (IsCollected c rows k n o) (sym w.encoding_is) (collected asked w.have)

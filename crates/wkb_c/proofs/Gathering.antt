@@ -1,8 +1,8 @@
 -- The members that rows begin with, row by row.
-use Rattle.wkb_columns.proofs.Common.{◌≡◌, ℕ, suc, ◌+◌, ◌≤◌, ◌<◌, List, ◌++◌, length, drop, ◌⊎◌, inl, inr}
-use Rattle.wkb_columns.proofs.Common.{refl, sym, ap, subst, ◌∙◌, arith, append-nil, append_assoc, length-append}
-use Rattle.wkb_columns.proofs.Common.{Spelling, Value, Values, member, no_members, kind, collection}
-use Rattle.wkb_columns.proofs.Common.{Dimension, is_some, None, srid_size, drop-drop}
+use Rattle.wkb_abi.proofs.Common.{◌≡◌, ℕ, suc, ◌+◌, ◌≤◌, ◌<◌, List, ◌++◌, length, drop, ◌⊎◌, inl, inr}
+use Rattle.wkb_abi.proofs.Common.{refl, sym, ap, subst, ◌∙◌, arith, append_assoc, length-append}
+use Rattle.wkb_abi.proofs.Common.{Spelling, Value, Values, member, no_members, kind, collection}
+use Rattle.wkb_abi.proofs.Common.{Dimension, is_some, None, srid_size, drop-drop}
 use Rattle.std.specs.Prelude.{false, ◌-◌, take, nat_lt, Result, Ok, Err, IfErr}
 use Rattle.std.proofs.Common.{length-drop, ltb-false}
 use Rattle.std.proofs.lemmas.Bool.{cond_both}
@@ -16,9 +16,9 @@ use Rattle.wkb_geom.specs.declared.common.Form.{Form}
 use Rattle.wkb_geom.specs.declared.common.Form.TheVariants.{Iso, Ewkb}
 use Rattle.wkb_geom.specs.declared.code.WkbType.{WkbType}
 use Rattle.wkb_geom.specs.declared.code.WkbType.TheVariants.{Point}
-use Rattle.wkb_geom.specs.Encodings.{encoding, encodings, inner, form_srid, IsRewriting}
+use Rattle.wkb_geom.specs.Encodings.{encoding, inner, form_srid, IsRewriting}
 use Rattle.wkb_geom.specs.Fronts.{FrontWithin}
-use Rattle.wkb_geom.specs.Geometries.{geometry_of, geometries_of}
+use Rattle.wkb_geom.specs.Geometries.{geometry_of}
 use Rattle.wkb_geom.specs.Numbers.{AreBytes}
 use Rattle.wkb_geom.specs.Reading.{type_kind, type_dimension}
 use Rattle.wkb_geom.specs.Spellings.{Wanted, part, any, member_part, IsPart}
@@ -33,19 +33,20 @@ use Rattle.wkb_rewrite.specs.Shares.{IsPut}
 use Rattle.wkb_rewrite.specs.Targets.{encoding_for}
 use Rattle.wkb_rewrite.proofs.Measured.{measured}
 use Rattle.wkb_sink.specs.declared.options.WriteOptions.{WriteOptions}
-use Rattle.wkb_c.specs.Collections.{BeginsWithMember, IsRowMember, AreRowMembers, HaveMembers, part_of, inner_of}
+use Rattle.wkb_c.specs.Collections.{BeginsWithMember, AreRowMembers, HaveMembers, part_of, inner_of}
 use Rattle.wkb_c.specs.Collections.{inside_of}
-use Rattle.wkb_c.specs.Collections.{RowIsMeasured, IsMeasuredFound, AreMeasured, IsUnwanted, IsUnfit, no_member}
+use Rattle.wkb_c.specs.Collections.{IsMeasuredFound, AreMeasured, IsUnwanted, IsUnfit, no_member}
 use Rattle.wkb_c.proofs.RowItems.{lent_rest}
-use Rattle.wkb_columns.proofs.OneRow.{one_row}
-use Rattle.wkb_columns.proofs.Telling.{accepted_there}
-use Rattle.wkb_columns.specs.Writings.{WritesRequested}
-use Rattle.wkb_columns.specs.declared.options.Request.TheVariants.{Encoding}
-use Rattle.wkb_columns.specs.declared.status.TheConstants.{OK, NO_ROOM}
-use Rattle.wkb_columns.specs.Columns.{IsRow, Reach}
+use Rattle.wkb_abi.proofs.OneRow.{one_row, never_lacks}
+use Rattle.wkb_abi.proofs.Telling.{accepted_there}
+use Rattle.wkb_abi.specs.RowItems.{RowHas}
+use Rattle.wkb_abi.specs.Writings.{WritesRequested}
+use Rattle.wkb_abi.specs.declared.options.Request.TheVariants.{Encoding}
+use Rattle.wkb_abi.specs.declared.status.TheConstants.{OK, NO_ROOM}
+use Rattle.wkb_abi.specs.Columns.{IsRow, LacksRow, Reach}
 use Rattle.wkb_c.specs.declared.collect.CollectTarget.{CollectTarget}
-use Rattle.wkb_columns.specs.declared.column.Column.{Column}
-use Rattle.wkb_columns.specs.declared.fault.WkbFault.{WkbFault}
+use Rattle.wkb_abi.specs.declared.column.Column.{Column}
+use Rattle.wkb_abi.specs.declared.fault.WkbFault.{WkbFault}
 
 -- ---- one row
 
@@ -105,8 +106,8 @@ same_members c w i no_members (member u us) a b many = absurd (omega (arith, man
 same_members c w i (member t ts) no_members a b many = absurd (omega (arith, many))
 same_members c w i (member t ts) (member u us) a b many =
     let own : BeginsWithMember w a.0.row u =
-    subst (λ z. BeginsWithMember w z u) (one_row b.0.is a.0.is) b.0.begins in
-    λ j. member (one_value own (there a.0.begins) j)
+    subst (λ z. BeginsWithMember w z u) (one_row b.0.is a.0.is) b.0.has in
+    λ j. member (one_value own (there a.0.has) j)
     (same_members c w (suc i) ts us a.1 b.1 (omega (arith, many)) j)
 
 pub one_list : {c : Column} {w : Wanted} {rows : ℕ} (h k : HaveMembers c w rows) → h.values ≡ k.values
@@ -139,9 +140,9 @@ module _ {o : WriteOptions} {row before after : List ℕ} {status size : ℕ}
 
   size_of : (status ≡ OK) ⊎ (status ≡ NO_ROOM) → size ≡ length (encoding_for o a.t)
   size_of (inl ok) =
-      let h = w.written ok in h.held.count_is ∙ ap length (requested_is h.encoding h.is_requested)
+      let h = w.written ok in h.held.count_is ∙ ap length (requested_is h.items h.is)
   size_of (inr none) =
-      let h = w.no_room none in h.lacks.count_is ∙ ap length (requested_is h.encoding h.is_requested)
+      let h = w.no_room none in h.lacks.count_is ∙ ap length (requested_is h.items h.is)
 
   pub requested_size : size ≡ length (encoding_for o a.t)
   requested_size = size_of w.known
@@ -150,10 +151,10 @@ module _ {o : WriteOptions} {row before after : List ℕ} {status size : ℕ}
       → after ≡ encoding_for o a.t ++ drop (length (encoding_for o a.t)) before
   bytes_of room (inl ok) =
       let h = w.written ok in
-      h.held.whole ∙ ap (λ z. z ++ drop (length z) before) (requested_is h.encoding h.is_requested)
+      h.held.whole ∙ ap (λ z. z ++ drop (length z) before) (requested_is h.items h.is)
   bytes_of room (inr none) =
       let h = w.no_room none in
-      absurd (omega (arith, room, h.lacks.short, ap length (requested_is h.encoding h.is_requested)))
+      absurd (omega (arith, room, h.lacks.short, ap length (requested_is h.items h.is)))
 
 pub found_measured : {target : CollectTarget} {row : List ℕ} {f : Summary} {size : ℕ} (o : WriteOptions) → AreBytes row
     → (d : DescribesFrontWithin member_room row f) → o ≡ inner_of target
@@ -200,83 +201,51 @@ same_self x y e other = own x (ap (λ z. sameb the_type x z) e ∙ other)
     own Xy e = absurd cc
     own _ e = absurd cc
 
--- ---- one member more
-
-abbrev snoc : Values → Value → Values
-snoc no_members t = member t no_members
-snoc (member u us) t = member u (snoc us t)
-
-count_more : (ts : Values) (t : Value) → count (snoc ts t) ≡ count ts + 1
-count_more no_members t = refl
-count_more (member u us) t = omega (arith, count_more us t)
-
-are_more : (c : Column) (w : Wanted) (i : ℕ) (ts : Values) (t : Value) → AreRowMembers c w i ts
-    → IsRowMember c w (i + count ts) t → AreRowMembers c w i (snoc ts t)
-are_more c w i no_members t are one =
-    let here : i + 0 ≡ i = omega arith in (subst (λ n. IsRowMember c w n t) here one, tt)
-are_more c w i (member u us) t are one =
-    let here : i + (1 + count us) ≡ suc i + count us = omega arith in
-    (are.0, are_more c w (suc i) us t are.1 (subst (λ n. IsRowMember c w n t) here one))
-
-encoded_more : (order : Endianness) (form : Form) (ts : Values) (t : Value)
-    → encodings order form (geometries_of (snoc ts t))
-    ≡ encodings order form (geometries_of ts) ++ encoding order form (geometry_of t)
-encoded_more order form no_members t = append-nil (encoding order form (geometry_of t))
-encoded_more order form (member u us) t =
-    ap (λ z. encoding order form (geometry_of u) ++ z) (encoded_more order form us t)
-    ∙ sym (append_assoc (encoding order form (geometry_of u)) (encodings order form (geometries_of us))
-    (encoding order form (geometry_of t)))
-
-abbrev have_more : {c : Column} {w : Wanted} {i : ℕ} {t : Value} → (h : HaveMembers c w i) → IsRowMember c w i t
-    → HaveMembers c w (i + 1)
-have_more {c} {w} {i} {t} h one = record {
-  values = snoc h.values t;
-  many = omega (arith, count_more h.values t, h.many);
-  are =
-      let here : i ≡ 0 + count h.values = omega (arith, h.many) in
-      are_more c w 0 h.values t h.are (subst (λ n. IsRowMember c w n t) here one);
-}
-
 -- ---- how long they are
 
--- the encodings of the members of the rows before row i are together this long, and no longer than these rows
+-- members of the rows from the first on, of which the last are these; the encodings of the others are this long
+pub record EndsWith (c : Column) (target : CollectTarget) (i size : ℕ) (last : Values) : Type 0 where
+  pub all : Values
+  pub are : AreRowMembers c (part_of target) 0 all
+  pub many : count all ≡ i + count last
+  pub size_is : length (inside_of target all) ≡ size + length (inside_of target last)
+
+-- The rows before row i begin with members, behind which come those of row i and the next. Their encodings are together
+-- this long, and no longer than these rows.
 pub record MeasuredBefore (c : Column) (target : CollectTarget) (i reach size : ℕ) : Type 0 where
-  pub have : HaveMembers c (part_of target) i
-  pub size_is : size ≡ length (inside_of target have.values)
+  pub go_on : (last : Values) → AreRowMembers c (part_of target) i last → EndsWith c target i size last
   pub fits : size ≤ reach
 
 pub none_measured : {c : Column} {target : CollectTarget} {reach : ℕ} → MeasuredBefore c target 0 reach 0
 none_measured = record {
-  have = record { values = no_members; many = refl; are = tt };
-  size_is = refl;
+  go_on = λ last are. record { all = last; are = are; many = omega arith; size_is = omega arith };
   fits = omega arith;
 }
 
 pub measured_more : {c : Column} {target : CollectTarget} {i reach to size n : ℕ} → Reach c i reach
-    → Reach c (i + 1) to → MeasuredBefore c target i reach size → RowIsMeasured c target i n
+    → Reach c (i + 1) to → MeasuredBefore c target i reach size → RowHas (IsMeasuredFound target) c i n
     → MeasuredBefore c target (i + 1) to (size + n)
 measured_more {c} {target} {i} {size = size} {n} before after m one =
     let s = one.is.slice in
-    let own : IsRowMember c (part_of target) i one.found.t =
-    record { row = one.row; is = one.is; begins = one.found.begins } in
-    let more : inside_of target (snoc m.have.values one.found.t)
-    ≡ inside_of target m.have.values ++ encoding_for (inner_of target) one.found.t =
-    encoded_more (inner_of target).endianness (inner_of target).form m.have.values one.found.t in
+    let next : i + 1 ≡ suc i = omega arith in
+    let own : RowHas (BeginsWithMember (part_of target)) c i one.has.t =
+    record { row = one.row; is = one.is; has = one.has.begins } in
     record {
-      have = have_more m.have own;
-      size_is =
-          omega (
-            arith,
-            m.size_is,
-            one.found.size_is,
-            ap length more,
-            length-append (inside_of target m.have.values) (encoding_for (inner_of target) one.found.t),
-          );
+      go_on = λ last are.
+          let w = m.go_on (member one.has.t last) (own, subst (λ k. AreRowMembers c (part_of target) k last) next are) in
+          let long =
+          length-append (encoding_for (inner_of target) one.has.t) (inside_of target last) in
+          record {
+            all = w.all;
+            are = w.are;
+            many = omega (arith, w.many);
+            size_is = omega (arith, w.size_is, one.has.size_is, long);
+          };
       fits =
           omega (
             arith,
             m.fits,
-            one.found.short,
+            one.has.short,
             before.least s.start s.after,
             after.enough i s.start s.end (omega arith) s.span,
             ap length s.row_is,
@@ -285,6 +254,11 @@ measured_more {c} {target} {i} {size = size} {n} before after m one =
           );
     }
 
+abbrev pub have_before : {c : Column} {target : CollectTarget} {i reach size : ℕ} → MeasuredBefore c target i reach size
+    → HaveMembers c (part_of target) i
+have_before m =
+    let w = m.go_on no_members tt in record { values = w.all; many = omega (arith, w.many); are = w.are }
+
 -- rows reach no further than the bytes
 pub reach_inside : {i reach : ℕ} (c : Column) → Reach c i reach → reach ≤ length c.bytes.now
 reach_inside c r = r.least (length c.bytes.now) (λ j s e below is. is.inside)
@@ -292,8 +266,13 @@ reach_inside c r = r.least (length c.bytes.now) (λ j s e below is. is.inside)
 pub all_measured : {c : Column} {target : CollectTarget} {i reach size rows : ℕ} → Reach c i reach
     → MeasuredBefore c target i reach size → i ≡ rows → AreMeasured c target rows size
 all_measured {c} {target} {size = size} r m all =
+    let w = m.go_on no_members tt in
     subst (λ n. AreMeasured c target n size) all
-    (record { have = m.have; size_is = m.size_is; short = omega (arith, m.fits, reach_inside c r) })
+    (record {
+      have = have_before m;
+      size_is = omega (arith, w.size_is);
+      short = omega (arith, m.fits, reach_inside c r);
+    })
 
 -- ---- the members that are still to be put
 
@@ -306,75 +285,52 @@ pub record MembersLeft (c : Column) (target : CollectTarget) (rows i at : ℕ) (
   pub ends : at + length (inside_of target left) ≡ end
   pub long : length out ≡ length before
 
--- the next one, and those behind it
-pub record NextMember (c : Column) (target : CollectTarget) (i : ℕ) (left : Values) : Type 0 where
-  pub t : Value
-  pub others : Values
-  pub left_is : left ≡ member t others
-  pub own : IsRowMember c (part_of target) i t
-  pub are : AreRowMembers c (part_of target) (suc i) others
-
-next_of : (c : Column) (target : CollectTarget) (rows i : ℕ) (left : Values) → AreRowMembers c (part_of target) i left
-    → i + count left ≡ rows → i < rows → NextMember c target i left
-next_of c target rows i no_members are many below = absurd (omega (arith, many, below))
-next_of c target rows i (member t ts) are many below =
-    record { t = t; others = ts; left_is = refl; own = are.0; are = are.1 }
+-- the row that the first of them is in: it is accepted as this member alone, which fits, and once it is put, those behind
+-- it are left
+pub record Turn (c : Column) (target : CollectTarget) (rows i at : ℕ) (out before whole : List ℕ) (end : ℕ)
+    (row : List ℕ) (o : WriteOptions) : Type 0 where
+  pub here : IsAccepted row
+  pub room : end ≤ length before → (a : IsAccepted row) → at + length (encoding_for o a.t) ≤ length out
+  pub next : (to : ℕ) (new : List ℕ) → ((a : IsAccepted row) → IsPut out new at to (encoding_for o a.t))
+      → MembersLeft c target rows (i + 1) to new before whole end
 
 module _ {c : Column} {target : CollectTarget} {rows i at : ℕ} {out before whole : List ℕ} {end : ℕ}
     (l : MembersLeft c target rows i at out before whole end) where
-  pub next_member : i < rows → NextMember c target i l.left
-  next_member below = next_of c target rows i l.left l.are l.many below
+  pub never_without : {status : ℕ} → i < rows → LacksRow c i status → ⊥
+  never_without below none = by l.left l.are l.many where
+    by : (left : Values) → AreRowMembers c (part_of target) i left → i + count left ≡ rows → ⊥
+    by no_members are many = omega (arith, many, below)
+    by (member t ts) are many = never_lacks are.0.is none
 
-  module _ (below : i < rows) where
-    abbrev next : NextMember c target i l.left
-    next = next_member below
-
-    abbrev own_bytes : List ℕ
-    own_bytes = encoding_for (inner_of target) next.t
-
-    abbrev other_bytes : List ℕ
-    other_bytes = inside_of target next.others
-
-    bytes_are : inside_of target l.left ≡ own_bytes ++ other_bytes
-    bytes_are = ap (inside_of target) next.left_is
-
-    pub own_room : end ≤ length before → at + length own_bytes ≤ length out
-    own_room fit =
-        omega (arith, fit, l.ends, l.long, ap length bytes_are, length-append own_bytes other_bytes)
-
-    pub member_put : (to : ℕ) (new : List ℕ) → IsPut out new at to own_bytes
-        → MembersLeft c target rows (i + 1) to new before whole end
-    member_put to new p = record {
-      left = next.others;
-      are = let more : suc i ≡ i + 1 = omega arith in
-          subst (λ n. AreRowMembers c (part_of target) n next.others) more next.are;
-      many = omega (arith, l.many, ap count next.left_is);
-      put =
-          ap (λ z. sets z to other_bytes) p.put ∙ sets_after out at to own_bytes other_bytes p.end_is
-          ∙ ap (sets out at) (sym bytes_are) ∙ l.put;
-      ends = omega (arith, l.ends, p.end_is, ap length bytes_are, length-append own_bytes other_bytes);
-      long = ap length p.put ∙ length-sets out at own_bytes ∙ l.long;
-    }
-
-    -- whatever geometry the row begins with, it is this one
-    module _ (row : List ℕ) (is : IsRow c i row) where
-      own_begins : BeginsWithMember (part_of target) row next.t
-      own_begins =
-          subst (λ z. BeginsWithMember (part_of target) z next.t) (one_row next.own.is is) next.own.begins
-
-      pub row_there : IsAccepted row
-      row_there = there own_begins
-
-      module _ {o : WriteOptions} (o_is : o ≡ inner_of target) where
-        encoded_so : (a : IsAccepted row) → encoding_for o a.t ≡ own_bytes
-        encoded_so a = λ i. encoding_for (o_is i) (one_value own_begins a i)
-
-        pub row_room : end ≤ length before → (a : IsAccepted row) → at + length (encoding_for o a.t) ≤ length out
-        row_room fit a = omega (arith, own_room fit, ap length (encoded_so a))
-
-        pub row_put : (to : ℕ) (new : List ℕ) → ((a : IsAccepted row) → IsPut out new at to (encoding_for o a.t))
-            → MembersLeft c target rows (i + 1) to new before whole end
-        row_put to new p = member_put to new (subst (IsPut out new at to) (encoded_so row_there) (p row_there))
+  pub turn : {o : WriteOptions} (row : List ℕ) → o ≡ inner_of target → i < rows → IsRow c i row
+      → Turn c target rows i at out before whole end row o
+  turn {o} row o_is below is = by l.left l.are l.many l.put l.ends where
+    by : (left : Values) → AreRowMembers c (part_of target) i left → i + count left ≡ rows
+        → sets out at (inside_of target left) ≡ whole → at + length (inside_of target left) ≡ end
+        → Turn c target rows i at out before whole end row o
+    by no_members are many put ends = absurd (omega (arith, many, below))
+    by (member t ts) are many put ends =
+        let begins : BeginsWithMember (part_of target) row t =
+        subst (λ z. BeginsWithMember (part_of target) z t) (one_row are.0.is is) are.0.has in
+        let own = encoding_for (inner_of target) t in
+        let others = inside_of target ts in
+        let so : (a : IsAccepted row) → encoding_for o a.t ≡ own =
+        λ (a : IsAccepted row) j. encoding_for (o_is j) (one_value begins a j) in
+        let behind : suc i ≡ i + 1 = omega arith in
+        record {
+          here = there begins;
+          room = λ fit a. omega (arith, fit, ends, l.long, length-append own others, ap length (so a));
+          next = λ to new p.
+              let q : IsPut out new at to own = subst (IsPut out new at to) (so (there begins)) (p (there begins)) in
+              record {
+                left = ts;
+                are = subst (λ n. AreRowMembers c (part_of target) n ts) behind are.1;
+                many = omega (arith, many);
+                put = ap (λ z. sets z to others) q.put ∙ sets_after out at to own others q.end_is ∙ put;
+                ends = omega (arith, ends, q.end_is, length-append own others);
+                long = ap length q.put ∙ length-sets out at own ∙ l.long;
+              };
+        }
 
 pub none_left : {c : Column} {target : CollectTarget} {rows i at : ℕ} {out before whole : List ℕ} {end : ℕ}
     → (l : MembersLeft c target rows i at out before whole end) → rows ≤ i → out ≡ whole

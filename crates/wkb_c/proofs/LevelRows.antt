@@ -1,5 +1,5 @@
 -- What becomes of a row in levels.
-use Rattle.wkb_columns.proofs.Common.{◌≡◌, ℕ, ◌+◌, ◌<◌, List, length, Option, Some, None, ap, arith, subst}
+use Rattle.wkb_abi.proofs.Common.{◌≡◌, ℕ, ◌+◌, ◌<◌, List, length, Option, Some, None, ap, arith, subst}
 use Rattle.std.specs.Prelude.{false}
 use Rattle.wkb_geom.specs.declared.common.Dimensions.{Dimensions}
 use Rattle.wkb_levels.specs.declared.levels.Levels.{Levels}
@@ -9,13 +9,13 @@ use Rattle.wkb_levels.specs.declared.write.Written.TheVariants.{Whole, LacksRoom
 use Rattle.wkb_levels.specs.Columns.{IsFloor}
 use Rattle.wkb_levels.specs.RowWrites.{IsRowWrite, HasRowEncoding}
 use Rattle.wkb_levels.specs.RowWrites as row_writes
-use Rattle.wkb_columns.specs.Columns.{is_unset_bit}
-use Rattle.wkb_columns.specs.LevelRows.{HasLevelEncoding, LacksLevels, unfit}
-use Rattle.wkb_columns.specs.LevelTargets.{levels_in, Ready}
-use Rattle.wkb_columns.specs.RowItems.{IsRowStep}
-use Rattle.wkb_columns.specs.declared.level_column.LevelColumn.{LevelColumn}
-use Rattle.wkb_columns.specs.declared.level_column.LevelTarget.{LevelTarget}
-use Rattle.wkb_columns.specs.declared.status.TheConstants.{OK, NO_ROOM, BAD_LEVELS}
+use Rattle.wkb_abi.specs.Columns.{is_unset_bit}
+use Rattle.wkb_abi.specs.LevelRows.{HasLevelEncoding, LacksLevels, unfit}
+use Rattle.wkb_abi.specs.LevelTargets.{levels_in, Ready}
+use Rattle.wkb_abi.specs.RowItems.{IsRowStep}
+use Rattle.wkb_abi.specs.declared.level_column.LevelColumn.{LevelColumn}
+use Rattle.wkb_abi.specs.declared.level_column.LevelTarget.{LevelTarget}
+use Rattle.wkb_abi.specs.declared.status.TheConstants.{OK, NO_ROOM, BAD_LEVELS}
 use Rattle.wkb_c.proofs.Encodings.{some_encoding}
 use Rattle.wkb_c.proofs.RowItems.{IsLent, put_step, lacks_step, no_step}
 

@@ -1,10 +1,8 @@
 mod Words
-mod FoundRows
 mod RowItems
 mod Called
 mod Encodings
 mod LevelRows
-mod LastEnds
 mod InTurn
 mod Collecting
 mod Gathering

@@ -1,21 +1,24 @@
 -- Rows that write their items one after another.
-use Rattle.wkb_columns.proofs.Common.{◌≡◌, ◌≢◌, ℕ, zero, suc, ◌+◌, ◌≤◌, ◌<◌, ◌^◌, ◌⊎◌, inl, inr, List, [], ◌++◌}
-use Rattle.wkb_columns.proofs.Common.{length, drop, slice_index, refl, ap, sym, ◌∙◌, arith, append_assoc, append-nil}
-use Rattle.wkb_columns.proofs.Common.{length-append, drop-drop}
+use Rattle.wkb_abi.proofs.Common.{◌≡◌, ◌≢◌, ℕ, zero, suc, ◌+◌, ◌≤◌, ◌<◌, ◌^◌, ◌⊎◌, inl, inr, List, [], ◌++◌}
+use Rattle.wkb_abi.proofs.Common.{length, drop, slice_index, refl, ap, sym, subst, ◌∙◌, arith, append_assoc, append-nil}
+use Rattle.wkb_abi.proofs.Common.{length-append, drop-drop}
 use Rattle.std.specs.Prelude.{take, ◌-◌, min, slice_range}
 use Rattle.std.proofs.Common.{set, length-drop}
-use Rattle.std.proofs.Math.Seq.{drop-append_seam, take-append_seam}
+use Rattle.std.proofs.Math.Seq.{take-append_seam}
 use Rattle.std.proofs.lemmas.List.{take-append-drop, take-append-le, drop-append-le, length-take-le, drop-set-lt}
-use Rattle.std.proofs.lemmas.List.{nil_from_length}
+use Rattle.std.proofs.lemmas.List.{nil_from_length, drop_at}
 use Rattle.std.proofs.lemmas.Slice.{drop-append-drop, between_to_end}
 use lib.ListN.{length-set}
 use lib.Seq.{get_or-set_same, get_or-set_other, sets-eq, length-sets}
-use Rattle.wkb_columns.specs.declared.status.TheConstants.{OK, NO_ROOM}
-use Rattle.wkb_columns.specs.Room.{IsHeld, Exceeds}
+use Rattle.wkb_abi.specs.declared.status.TheConstants.{OK, NO_ROOM}
+use Rattle.wkb_abi.specs.Room.{IsHeld, Exceeds, IsWritten, FindsNoRoom}
 use Rattle.wkb_levels.specs.Cuts.{start_at}
-use Rattle.wkb_columns.specs.RowItems.{rows_of, end_of, IsRowAnswer, handed, no_room, failed, AreRowAnswers, KeepsAfter}
-use Rattle.wkb_columns.specs.RowItems.{KeepsFrom, IsRowStep, put, lacks, nothing}
-use Rattle.wkb_columns.proofs.Rows.{below_more}
+use Rattle.wkb_abi.specs.RowItems.{rows_of, end_of, IsRowAnswer, handed, no_room, failed, AreRowAnswers, KeepsAfter}
+use Rattle.wkb_abi.specs.RowItems.{KeepsFrom, IsRowStep, put, lacks, nothing, NoneLacksRoom, LastEndSuffices}
+use Rattle.wkb_abi.specs.Columns.{RowShows, RowsShow}
+use Rattle.wkb_abi.specs.declared.column.Column.{Column}
+use Rattle.wkb_abi.proofs.Reasons.{TellsOther}
+use Rattle.wkb_abi.proofs.Rows.{below_more, statuses_more, shown_more}
 
 -- ---- lists
 
@@ -35,12 +38,9 @@ range_before xs ys n start end rise below there =
 range_put : {A : Type 0} (xs items rest : List A) (start : ℕ) → start ≤ length xs
     → slice_range (take start xs ++ (items ++ rest)) start (start + length items) ≡ items
 range_put xs items rest start there =
-    let behind : drop start (take start xs ++ (items ++ rest)) ≡ items ++ rest =
-    ap (λ n. drop n (take start xs ++ (items ++ rest))) (sym (length-take-le start xs there))
-    ∙ drop-append_seam (take start xs) (items ++ rest) in
+    let behind = drop_at (take start xs) (items ++ rest) start (length-take-le start xs there) in
     let many : start + length items - start ≡ length items = omega arith in
-    ap (λ z. take (start + length items - start) z) behind ∙ ap (λ n. take n (items ++ rest)) many
-    ∙ take-append_seam items rest
+    (λ i. take (many i) (behind i)) ∙ take-append_seam items rest
 
 drop_behind : {A : Type 0} (xs items : List A) (start k : ℕ) → start + length items ≤ length xs
     → start + length items ≤ k
@@ -110,6 +110,14 @@ module _ {A : Type 0} {Has : ℕ → List A → Type 0} {Fails : ℕ → ℕ →
     step_answer {status = status} {count = count} {start = start} (nothing why none same) small fits =
         failed why (omega (arith, none, fits))
 
+    -- with room up to its end it doesn't lack room
+    step_room : {i status count start : ℕ} {before after : List A}
+        → IsRowStep Has Fails i status count start before after → TellsOther Fails → length before < 2 ^ 63
+        → end_of start count ≤ length before → status ≡ NO_ROOM → ⊥
+    step_room (put items has ok many there put_is) other small room told = omega (arith, ok, told)
+    step_room (lacks items has is many short same) other small room told = omega (arith, short, small, room)
+    step_room {i = i} (nothing why none same) other small room told = other i (subst (Fails i) told why)
+
     -- what is put after a row doesn't change its answer
     kept_answer : {i status start end : ℕ} {out new : List A} (at : ℕ)
         → IsRowAnswer Has Fails i status start end out
@@ -124,27 +132,6 @@ module _ {A : Type 0} {Has : ℕ → List A → Type 0} {Fails : ℕ → ℕ →
     kept_answer at (failed why end_is) below same before = failed why end_is
 
 -- ---- all rows
-
--- the rows below this number are done, and their items end here
-pub record RowsDone {A : Type 0} (Has : ℕ → List A → Type 0) (Fails : ℕ → ℕ → Type 0) (i at : ℕ)
-    (statuses ends : List ℕ) (before out : List A) : Type 0 where
-  pub at_is : at ≡ start_at 0 ends i
-  pub fits : at < 2 ^ 64
-  pub long : length out ≡ length before
-  pub each : AreRowAnswers Has Fails i statuses ends out
-  pub below : (j : ℕ) → j < i → slice_index statuses j ≡ OK → slice_index ends j ≤ at
-  pub kept : KeepsAfter i statuses ends before out
-
-pub rows_first : {A : Type 0} {Has : ℕ → List A → Type 0} {Fails : ℕ → ℕ → Type 0} {statuses ends : List ℕ}
-    {out : List A} → RowsDone Has Fails 0 0 statuses ends out out
-rows_first = record {
-  at_is = refl;
-  fits = omega arith;
-  long = refl;
-  each = λ j above. absurd (omega (arith, above));
-  below = λ j above ok. absurd (omega (arith, above));
-  kept = λ k far. refl;
-}
 
 -- lists in which the rows below this number are set, one after another
 pub record AreSet {A : Type 0} (rows : ℕ) (before statuses : List ℕ) (before' others : List A) : Type 0 where
@@ -167,25 +154,66 @@ set_more {rows = rows} {statuses = statuses} {others = others} are i status x be
   others_kept = drop-set-lt rows others i x below ∙ are.others_kept;
 }
 
+-- the rows below this number show their items, and nothing else has changed
+pub record AreShown {A : Type 0} (Shows : List ℕ → A → Type 0) (none : A) (c : Column) (rows i : ℕ)
+    (before statuses : List ℕ) (before' items : List A) : Type 0 where
+  pub lists : AreSet rows before statuses before' items
+  pub done : RowsShow Shows none c i statuses items
+
+pub row_shown : {A : Type 0} {Shows : List ℕ → A → Type 0} {none : A} {c : Column} {rows i status : ℕ} {item : A}
+    {before statuses : List ℕ} {before' items : List A} → AreShown Shows none c rows i before statuses before' items
+    → RowShows Shows none c i status item → i < rows → rows ≤ rows_of before before'
+    → AreShown Shows none c rows (i + 1) before (set statuses i status) before' (set items i item)
+row_shown {i = i} {status} {item} shown row below few = record {
+  lists = set_more shown.lists i status item below;
+  done =
+      shown_more i status item (omega (arith, below, few, shown.lists.as_many))
+      (omega (arith, below, few, shown.lists.as_many_others)) shown.done row;
+}
+
+-- the rows below this number are done, and their items end here
+pub record RowsDone {A : Type 0} (Has : ℕ → List A → Type 0) (Fails : ℕ → ℕ → Type 0) (rows i at : ℕ)
+    (before_statuses statuses before_ends ends : List ℕ) (before out : List A) : Type 0 where
+  pub lists : AreSet rows before_statuses statuses before_ends ends
+  pub at_is : at ≡ start_at 0 ends i
+  pub fits : at < 2 ^ 64
+  pub long : length out ≡ length before
+  pub each : AreRowAnswers Has Fails i statuses ends out
+  pub below : (j : ℕ) → j < i → slice_index statuses j ≡ OK → slice_index ends j ≤ at
+  pub kept : KeepsAfter i statuses ends before out
+  pub room : NoneLacksRoom (at ≤ length before) i statuses
+
+pub rows_first : {A : Type 0} {Has : ℕ → List A → Type 0} {Fails : ℕ → ℕ → Type 0} {rows : ℕ} {statuses ends : List ℕ}
+    {out : List A} → RowsDone Has Fails rows 0 0 statuses statuses ends ends out out
+rows_first = record {
+  lists = set_first;
+  at_is = refl;
+  fits = omega arith;
+  long = refl;
+  each = λ j above. absurd (omega (arith, above));
+  below = λ j above ok. absurd (omega (arith, above));
+  kept = λ k far. refl;
+  room = λ fit j above told. absurd (omega (arith, above));
+}
+
 start_kept : (ends : List ℕ) (i e j : ℕ) → j ≤ i → start_at 0 (set ends i e) j ≡ start_at 0 ends j
 start_kept ends i e zero h = refl
 start_kept ends i e (suc j) h = get_or-set_other ends i j e 0 (λ same. omega (arith, same, h))
 
 module _ {A : Type 0} {Has : ℕ → List A → Type 0} {Fails : ℕ → ℕ → Type 0} {i at : ℕ} {statuses ends : List ℕ}
     {before out new : List A} {status count end rows : ℕ} {before_statuses before_ends : List ℕ}
-    (done : RowsDone Has Fails i at statuses ends before out)
-    (lists : AreSet rows before_statuses statuses before_ends ends)
+    (done : RowsDone Has Fails rows i at before_statuses statuses before_ends ends before out)
     (step : IsRowStep Has Fails i status count at out new)
-    (end_is : end ≡ end_of at count) (small : length before < 2 ^ 64) (below : i < rows)
+    (end_is : end ≡ end_of at count) (other : TellsOther Fails) (small : length before < 2 ^ 63) (below : i < rows)
     (few : rows ≤ rows_of before_statuses before_ends) where
-  small_out : length out < 2 ^ 64
+  small_out : length out < 2 ^ 63
   small_out = omega (arith, small, done.long)
 
   status_here : slice_index (set statuses i status) i ≡ status
-  status_here = get_or-set_same statuses i status 0 (omega (arith, below, few, lists.as_many))
+  status_here = get_or-set_same statuses i status 0 (omega (arith, below, few, done.lists.as_many))
 
   end_here : slice_index (set ends i end) i ≡ end_of at count
-  end_here = get_or-set_same ends i end 0 (omega (arith, below, few, lists.as_many_others)) ∙ end_is
+  end_here = get_or-set_same ends i end 0 (omega (arith, below, few, done.lists.as_many_others)) ∙ end_is
 
   status_above : (j : ℕ) → j < i → slice_index (set statuses i status) j ≡ slice_index statuses j
   status_above j above = get_or-set_other statuses i j status 0 (λ same. omega (arith, same, above))
@@ -193,8 +221,10 @@ module _ {A : Type 0} {Has : ℕ → List A → Type 0} {Fails : ℕ → ℕ →
   end_above : (j : ℕ) → j < i → slice_index (set ends i end) j ≡ slice_index ends j
   end_above j above = get_or-set_other ends i j end 0 (λ same. omega (arith, same, above))
 
-  pub row_done : RowsDone Has Fails (i + 1) end (set statuses i status) (set ends i end) before new
+  pub row_done : RowsDone Has Fails rows (i + 1) end before_statuses (set statuses i status) before_ends (set ends i end)
+      before new
   row_done = record {
+    lists = set_more done.lists i status end below;
     at_is =
         let next : suc i ≡ i + 1 = omega arith in end_is ∙ sym end_here ∙ ap (start_at 0 (set ends i end)) next;
     fits = omega (arith, end_is);
@@ -205,7 +235,7 @@ module _ {A : Type 0} {Has : ℕ → List A → Type 0} {Fails : ℕ → ℕ →
         (λ j above. rw (status_above j above, end_above j above, start_kept ends i end j (omega (arith, above)))
         (kept_answer at (done.each j above) (done.below j above) (step_length step) (step_before step)))
         (rw (status_here, end_here, start_kept ends i end i (omega arith), sym done.at_is)
-        (step_answer step small_out done.fits));
+        (step_answer step (omega (arith, small_out)) done.fits));
     below =
         below_more (λ j. slice_index (set statuses i status) j ≡ OK → slice_index (set ends i end) j ≤ end) i
         (λ j above ok. omega (
@@ -217,12 +247,34 @@ module _ {A : Type 0} {Has : ℕ → List A → Type 0} {Fails : ℕ → ℕ →
         ))
         (λ ok. omega (arith, end_here, end_is));
     kept = λ k far.
-        step_behind step small_out k (λ ok. omega (arith, far i (omega arith) (status_here ∙ ok), end_here))
+        step_behind step (omega (arith, small_out)) k
+        (λ ok. omega (arith, far i (omega arith) (status_here ∙ ok), end_here))
         ∙ done.kept k
         (λ j above ok. omega (arith, far j (omega (arith, above)) (status_above j above ∙ ok), end_above j above));
+    room = λ fit.
+        statuses_more (λ j told. told ≡ NO_ROOM → ⊥) statuses i status (omega (arith, below, few, done.lists.as_many))
+        (done.room (omega (arith, fit, end_is, done.fits)))
+        (step_room step other small_out (omega (arith, fit, end_is, done.long)));
   }
 
+-- with room up to the last end no row lacks room
+pub last_end_suffices : {A : Type 0} {Has : ℕ → List A → Type 0} {Fails : ℕ → ℕ → Type 0} {end i at rows : ℕ}
+    {statuses' statuses ends' ends : List ℕ} {before out : List A}
+    → RowsDone Has Fails end i at statuses' statuses ends' ends before out → i ≡ rows
+    → LastEndSuffices rows statuses ends before
+last_end_suffices {statuses = statuses} {ends = ends} {before = before} done all =
+    subst (λ n. LastEndSuffices n statuses ends before) all (λ room. done.room (omega (arith, room, done.at_is)))
+
 -- ---- a call for one row
+
+-- what is written as one thing is written as another that it also is
+pub written_as : {A : Type 0} {Is Other : List A → Type 0} {before after : List A} {count : ℕ}
+    → ((items : List A) → Is items → Other items) → IsWritten Is before after count → IsWritten Other before after count
+written_as also w = record { items = w.items; is = also w.items w.is; held = w.held }
+
+pub no_room_as : {A : Type 0} {Is Other : List A → Type 0} {before : List A} {count : ℕ}
+    → ((items : List A) → Is items → Other items) → FindsNoRoom Is before count → FindsNoRoom Other before count
+no_room_as also w = record { items = w.items; is = also w.items w.is; lacks = w.lacks }
 
 -- a call is lent what is at `start` or after it, and makes `sub` of it
 pub record IsLent {A : Type 0} (start : ℕ) (before lent sub after : List A) : Type 0 where
@@ -286,10 +338,10 @@ module _ {A : Type 0} {Has : ℕ → List A → Type 0} {Fails : ℕ → ℕ →
   no_step why none same = nothing why none (unchanged l same)
 
   -- its items were put, or they have no room, as the status says
-  pub called_step : (status ≡ OK
-      → (items : List A) × (Has i items × ((0 < length items) × IsHeld items lent sub count)))
-      → (status ≡ NO_ROOM → (items : List A) × (Has i items × Exceeds items lent count)) → (status ≢ OK → sub ≡ lent)
-      → (status ≡ OK) ⊎ (status ≡ NO_ROOM) → IsRowStep Has Fails i status count start before after
-  called_step puts short kept (inl ok) = let h = puts ok in put_step h.0 h.1.0 ok h.1.1.0 h.1.1.1
-  called_step puts short kept (inr told) =
-      let h = short told in lacks_step h.0 h.1.0 told h.1.1 (kept (λ ok. omega (arith, ok, told)))
+  pub called_step : ((items : List A) → Has i items → 0 < length items)
+      → (status ≡ OK → IsWritten (Has i) lent sub count) → (status ≡ NO_ROOM → FindsNoRoom (Has i) lent count)
+      → (status ≢ OK → sub ≡ lent) → (status ≡ OK) ⊎ (status ≡ NO_ROOM)
+      → IsRowStep Has Fails i status count start before after
+  called_step some puts short kept (inl ok) = let h = puts ok in put_step h.items h.is ok (some h.items h.is) h.held
+  called_step some puts short kept (inr told) =
+      let h = short told in lacks_step h.items h.is told h.lacks (kept (λ ok. omega (arith, ok, told)))

@@ -1,25 +1,24 @@
 -- Where the parts of a geometry are in its bytes, and what is there.
-use Rattle.wkb_columns.proofs.Common.{◌≡◌, ℕ, suc, ◌+◌, ◌*◌, List, [], ◌∷◌, length, drop, Some, refl, sym, ap, subst, ◌∙◌}
-use Rattle.wkb_columns.proofs.Common.{arith, drop-drop, slice_get, is_some, Dimension, width, number, srid_size, Spelling}
-use Rattle.wkb_columns.proofs.Common.{node}
-use Rattle.wkb_columns.proofs.Common.{Spellings, no_spellings, spelling, Spells, Wanted, SpellsEach, Coordinate, Value}
-use Rattle.wkb_columns.proofs.Common.{Values}
-use Rattle.wkb_columns.proofs.Common.{point, line_string, polygon, no_members, member, members, member_count}
-use Rattle.wkb_columns.proofs.Common.{member_count_each}
+use Rattle.wkb_abi.proofs.Common.{◌≡◌, ℕ, suc, ◌+◌, ◌*◌, List, [], ◌∷◌, length, drop, Some, refl, sym, ap, ◌∙◌}
+use Rattle.wkb_abi.proofs.Common.{arith, drop-drop, slice_get, is_some, Dimension, width, number, srid_size, Spelling}
+use Rattle.wkb_abi.proofs.Common.{node}
+use Rattle.wkb_abi.proofs.Common.{Spellings, no_spellings, spelling, Spells, Wanted, SpellsEach, Coordinate, Value}
+use Rattle.wkb_abi.proofs.Common.{Values}
+use Rattle.wkb_abi.proofs.Common.{point, line_string, polygon, no_members, member, members, member_count}
+use Rattle.wkb_abi.proofs.Common.{member_count_each, length-append, dimension}
 use Rattle.wkb_geom.specs.declared.common.Endianness.{Endianness}
 use Rattle.wkb_geom.specs.Grammar.{Begins}
 use Rattle.wkb_geom.specs.Reading.{coordinate, coordinates}
 use Rattle.wkb_laws.proofs.Bounds.{ring_count, member_count-members}
 use Rattle.wkb_laws.proofs.Lengths.{coordinates_length}
 use Rattle.wkb_laws.proofs.Parts.{item_at}
-use Rattle.wkb_check.specs.declared.parts.Part.{Part}
-use Rattle.wkb_check.specs.declared.pieces.Piece.{Piece}
-use Rattle.wkb_check.specs.Pieces.{rings_of, pieces_of}
-use Rattle.wkb_check.specs.Subjects.{Subject, whole, ring, order_in, subject_coordinates, SpellsSubject, subjects}
-use Rattle.wkb_check.specs.Tables.{entry_count, entry_counts, geometry_entries}
-use Rattle.wkb_check.proofs.Placing.{spelled_size, entries_are}
-use Rattle.wkb_check.proofs.Subjects.{Stands, entry_at, piece_at, ArePlaced, all_placed, IsPieceOf, says}
-use Rattle.wkb_columns.specs.Subjects.{HoldsWords, HoldsSubject, HoldEach}
+use Rattle.wkb_check.specs.Pieces.{own_end, piece_at}
+use Rattle.wkb_check.specs.Subjects.{Subject, whole, ring, order_in, subject_coordinates, SpellsSubject, rings_of}
+use Rattle.wkb_check.specs.Subjects.{subjects, subjects_of_rings, subjects_of_each}
+use Rattle.wkb_check.specs.Tables.{entry_at, entries_from, geometry_entries}
+use Rattle.wkb_check.proofs.Placing.{spelled_end, rings_many, as_many_entries}
+use Rattle.wkb_check.proofs.Subjects.{Stands, ArePlaced, all_placed, IsPieceOf, says}
+use Rattle.wkb_abi.specs.Subjects.{HoldsWords, HoldsSubject, HoldEach}
 
 -- ---- words
 
@@ -55,7 +54,7 @@ placed_holds {input} {at} {bytes} {rest} index (whole (node h words ss) t) stand
   bytes = bytes;
   rest = rest;
   stand = stands.is;
-  end_is = omega (arith, spelled_size (node h words ss) t bytes sp);
+  end_is = spelled_end at (node h words ss) t bytes sp;
   spell = sp;
   words = entry_words input index at (whole (node h words ss) t) (says (whole (node h words ss) t) stands sp);
 }
@@ -68,19 +67,16 @@ placed_holds {input} {at} {bytes} {rest} index (ring order d cs) stands sp = rec
   words = entry_words input index at (ring order d cs) (says (ring order d cs) stands sp);
 }
 
-each_holds : (input : List ℕ) (es : List Part) (ps : List Piece) (xs : List Subject) → ArePlaced input es ps xs
-    → HoldEach input es xs
-each_holds input [] [] [] f = tt
-each_holds input (e ∷ es) (p ∷ ps) (x ∷ xs) f = (
-  subst (λ e. HoldsSubject input e x) (sym f.0.entry_is) (placed_holds f.0.index x f.0.stands f.0.spell),
-  each_holds input es ps xs f.1,
-)
-each_holds input _ _ _ f = absurd f
+each_holds : (input : List ℕ) (index at : ℕ) (xs : List Subject) → ArePlaced input at xs
+    → HoldEach input (entries_from index at xs) xs
+each_holds input index at [] f = tt
+each_holds input index at (x ∷ xs) f =
+    (placed_holds index x f.0.stands f.0.spell, each_holds input (index + 1) (own_end (piece_at at x)) xs f.1)
 
 -- the entries of the geometry at the start of an input
 pub holds : {input : List ℕ} (s : Spelling) (t : Value) {rest : List ℕ} → Begins (Spells s t) input rest
     → HoldEach input (geometry_entries 0 0 s t) (subjects s t)
-holds {input} s t g = each_holds input _ (pieces_of 0 s t) _ (all_placed input 0 s t g)
+holds {input} s t g = each_holds input 0 0 (subjects s t) (all_placed input 0 s t g)
 
 -- ---- how many parts there are
 
@@ -89,23 +85,31 @@ rings_counted (polygon d rings) = refl
 rings_counted _ = refl
 
 mutual
-  pub counted : (s : Spelling) (t : Value) (bytes : List ℕ) → Spells s t bytes → entry_count s t ≡ suc (member_count t)
+  pub counted : (s : Spelling) (t : Value) (bytes : List ℕ) → Spells s t bytes
+      → length (subjects s t) ≡ suc (member_count t)
   counted (node h words ss) t bytes sp =
       omega (
         arith,
         members_counted _ ss (members t) sp.second.rest sp.second.second,
         member_count-members t,
         rings_counted t,
+        length-append (subjects_of_rings h.order (dimension t) (rings_of t)) (subjects_of_each ss (members t)),
+        rings_many h.order (dimension t) (rings_of t),
       )
 
   members_counted : (w : Wanted) (ss : Spellings) (ts : Values) (bytes : List ℕ) → SpellsEach w ss ts bytes
-      → entry_counts ss ts ≡ member_count_each ts
+      → length (subjects_of_each ss ts) ≡ member_count_each ts
   members_counted w no_spellings no_members bytes sp = refl
   members_counted w no_spellings (member t ts) bytes sp = absurd sp
   members_counted w (spelling s ss) no_members bytes sp = absurd sp
   members_counted w (spelling s ss) (member t ts) bytes sp =
-      omega (arith, counted s t sp.front sp.first.0, members_counted w ss ts sp.rest sp.second)
+      omega (
+        arith,
+        length-append (subjects s t) (subjects_of_each ss ts),
+        counted s t sp.front sp.first.0,
+        members_counted w ss ts sp.rest sp.second,
+      )
 
 pub entries_many : (s : Spelling) (t : Value) (bytes : List ℕ) → Spells s t bytes
     → length (geometry_entries 0 0 s t) ≡ suc (member_count t)
-entries_many s t bytes sp = entries_are 0 0 s t ∙ counted s t bytes sp
+entries_many s t bytes sp = as_many_entries 0 0 (subjects s t) ∙ counted s t bytes sp

@@ -15,18 +15,18 @@ use Rattle.wkb_check.specs.Public.{member_room}
 use Rattle.wkb_rewrite.specs.Targets.{encoding_for}
 use Rattle.wkb_sink.specs.Options.{inner_options, counted_header}
 use Rattle.wkb_sink.specs.declared.options.WriteOptions.{WriteOptions}
-use Rattle.wkb_columns.specs.Classes.{IsRowStatus}
-use Rattle.wkb_columns.specs.Columns.{IsRow, LacksRow}
+use Rattle.wkb_abi.specs.Classes.{IsRowStatus}
+use Rattle.wkb_abi.specs.Columns.{IsRow, LacksRow}
 use Rattle.wkb_geom.specs.Codes.{dimension_of_thousands}
-use Rattle.wkb_columns.specs.Requests.{request_of, options_for}
-use Rattle.wkb_columns.specs.Room.{IsHeld, Exceeds}
-use Rattle.wkb_columns.specs.Statuses.{IsFaultWithin, IsStatusOfWriting, plain_fault}
+use Rattle.wkb_abi.specs.Requests.{request_of, options_for}
+use Rattle.wkb_abi.specs.RowItems.{RowHas}
+use Rattle.wkb_abi.specs.Statuses.{IsFaultWithin, IsStatusOfWriting, plain_fault}
 use Rattle.wkb_c.specs.declared.collect.CollectTarget.{CollectTarget}
-use Rattle.wkb_columns.specs.declared.column.Column.{Column}
-use Rattle.wkb_columns.specs.declared.fault.WkbFault.{WkbFault}
-use Rattle.wkb_columns.specs.declared.options.Options.{Options}
-use Rattle.wkb_columns.specs.declared.options.Request.{Request}
-use Rattle.wkb_columns.specs.declared.status.TheConstants.{INCORRECT_TYPE, TOO_MANY_ROWS}
+use Rattle.wkb_abi.specs.declared.column.Column.{Column}
+use Rattle.wkb_abi.specs.declared.fault.WkbFault.{WkbFault}
+use Rattle.wkb_abi.specs.declared.options.Options.{Options}
+use Rattle.wkb_abi.specs.declared.options.Request.{Request}
+use Rattle.wkb_abi.specs.declared.status.TheConstants.{INCORRECT_TYPE, TOO_MANY_ROWS}
 
 -- what a kind, a dimension and a request ask for together; no row's own SRID is written
 abbrev pub collect_with : ℕ → Option Dimension → Option Request → Option CollectTarget
@@ -41,6 +41,16 @@ collect_asked kind dimension o =
     if nat_lt kind MULTI_POINT || nat_lt GEOMETRY_COLLECTION kind then None
     else collect_with kind (dimension_of_thousands dimension) (request_of o)
 
+-- these numbers ask for this
+pub record IsAsked (k n : ℕ) (o : Options) (target : CollectTarget) : Type 0 where
+  pub low : MULTI_POINT ≤ k
+  pub high : k ≤ GEOMETRY_COLLECTION
+  pub kind_is : target.kind ≡ k
+  pub named : dimension_of_thousands n ≡ Some target.dimension
+  pub request : Request
+  pub asked : request_of o ≡ Some request
+  pub options_are : target.options ≡ options_for request None
+
 -- the numbers mean something, and ask for more members than a count holds
 abbrev pub AsksForTooMany : ℕ → ℕ → Options → ℕ → Type 0
 AsksForTooMany kind dimension o rows = (collect_asked kind dimension o ≢ None) × (2 ^ 32 ≤ rows)
@@ -54,16 +64,10 @@ pub record BeginsWithMember (w : Wanted) (row : List ℕ) (t : Value) : Type 0 w
   pub front : FrontWithin member_room row s t rest
   pub wanted : IsPart w (kind t) (dimension t) false
 
--- row i has bytes, and begins with this member
-pub record IsRowMember (c : Column) (w : Wanted) (i : ℕ) (t : Value) : Type 0 where
-  pub row : List ℕ
-  pub is : IsRow c i row
-  pub begins : BeginsWithMember w row t
-
 -- the rows from row i on begin with these members, one a row and in order
 abbrev pub AreRowMembers : Column → Wanted → ℕ → Values → Type 0
 AreRowMembers c w i no_members = Unit {0}
-AreRowMembers c w i (member t ts) = IsRowMember c w i t × AreRowMembers c w (suc i) ts
+AreRowMembers c w i (member t ts) = RowHas (BeginsWithMember w) c i t × AreRowMembers c w (suc i) ts
 
 -- each of the rows below this number begins with a member
 pub record HaveMembers (c : Column) (w : Wanted) (rows : ℕ) : Type 0 where
@@ -85,19 +89,6 @@ pub record IsCollected (c : Column) (rows k d : ℕ) (o : Options) (encoding : L
   pub request : Request
   pub asked : request_of o ≡ Some request
   pub written : encoding ≡ encoding_for (options_for request None) value
-
--- the encoding of the collected rows was written
-pub record WritesCollected (c : Column) (rows k d : ℕ) (o : Options) (before after : List ℕ) (size : ℕ)
-    : Type 0 where
-  pub encoding : List ℕ
-  pub is : IsCollected c rows k d o encoding
-  pub held : IsHeld encoding before after size
-
--- the encoding of the collected rows doesn't fit its room
-pub record CollectedExceeds (c : Column) (rows k d : ℕ) (o : Options) (before : List ℕ) (size : ℕ) : Type 0 where
-  pub encoding : List ℕ
-  pub is : IsCollected c rows k d o encoding
-  pub lacks : Exceeds encoding before size
 
 -- ---- what is rejected
 
@@ -164,12 +155,6 @@ pub record IsMeasuredFound (target : CollectTarget) (row : List ℕ) (size : ℕ
   pub size_is : size ≡ length (encoding_for (inner_of target) t)
   pub short : size ≤ length row
 
--- row i begins with a member, whose encoding is this long
-pub record RowIsMeasured (c : Column) (target : CollectTarget) (i size : ℕ) : Type 0 where
-  pub row : List ℕ
-  pub is : IsRow c i row
-  pub found : IsMeasuredFound target row size
-
 -- there is room from this index on for the encodings of the members that these rows begin with
 abbrev pub MembersFit : Column → CollectTarget → ℕ → ℕ → List ℕ → Type 0
 MembersFit c target rows start out =
@@ -186,13 +171,7 @@ pub record AreMeasured (c : Column) (target : CollectTarget) (rows size : ℕ) :
   pub size_is : size ≡ length (inside_of target have.values)
   pub short : size ≤ length c.bytes.now
 
--- the front of the whole and the encodings of its members were put, and are together this long
-pub record PutsCollected (c : Column) (target : CollectTarget) (rows : ℕ) (before after : List ℕ) (size : ℕ)
-    : Type 0 where
+-- this is the front of the whole, and behind it the encodings of the members that these rows begin with
+pub record IsWhole (c : Column) (target : CollectTarget) (rows : ℕ) (encoding : List ℕ) : Type 0 where
   pub have : HaveMembers c (part_of target) rows
-  pub held : IsHeld (front_of target rows ++ inside_of target have.values) before after size
-
--- the front of the whole and the encodings of its members don't fit their room
-pub record WholeExceeds (c : Column) (target : CollectTarget) (rows : ℕ) (before : List ℕ) (size : ℕ) : Type 0 where
-  pub have : HaveMembers c (part_of target) rows
-  pub lacks : Exceeds (front_of target rows ++ inside_of target have.values) before size
+  pub encoding_is : encoding ≡ front_of target rows ++ inside_of target have.values

@@ -1,3 +1,1 @@
-pub mod Boxes
 pub mod Collections
-pub mod FoundRows

@@ -2,12 +2,12 @@
 
 ghost use Rattle.std.specs.Prelude.{◌≡◌, ◌≢◌};
 ghost use Rattle.wkb_bounds.specs.Bounded.{BoundsFront};
-ghost use Rattle.wkb_columns.specs.Checks.{TellsBounds};
-ghost use Rattle.wkb_columns.specs.Statuses.{IsFault};
+ghost use Rattle.wkb_abi.specs.Checks.{TellsBounds};
+ghost use Rattle.wkb_abi.specs.Statuses.{IsFault};
 
+use wkb_abi::fault::{WkbFault, report_refusal};
+use wkb_abi::status::{NO_MEMORY, OK};
 use wkb_bounds::{Bounds, put_any_bounds, put_plain_bounds};
-use wkb_columns::fault::{WkbFault, report_refusal};
-use wkb_columns::status::{NO_MEMORY, OK};
 
 /// The bounds of the geometry at the start of the bytes.
 ///

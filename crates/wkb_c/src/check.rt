@@ -2,14 +2,14 @@
 
 ghost use Rattle.std.specs.Prelude.{◌≡◌, ◌≢◌, None, IfOk, IfErr};
 ghost use Rattle.wkb_check.specs.Public.{DescribesFront};
-ghost use Rattle.wkb_columns.specs.Checks.{IsFound, TellsFound};
-ghost use Rattle.wkb_columns.specs.Classes.{IsRefusalStatus, FitsByte};
-ghost use Rattle.wkb_columns.specs.Statuses.{IsFault};
+ghost use Rattle.wkb_abi.specs.Checks.{IsFound, TellsFound};
+ghost use Rattle.wkb_abi.specs.Classes.{IsRefusalStatus, FitsByte};
+ghost use Rattle.wkb_abi.specs.Statuses.{IsFault};
 
+use wkb_abi::fault::{WkbFault, report_refusal};
+use wkb_abi::found::{Found, found_of};
+use wkb_abi::status::{NO_MEMORY, OK};
 use wkb_check::{Summary, check, check_plain};
-use wkb_columns::fault::{WkbFault, report_refusal};
-use wkb_columns::found::{Found, found_of};
-use wkb_columns::status::{NO_MEMORY, OK};
 
 /// Whether a geometry is at the start of the bytes.
 ///

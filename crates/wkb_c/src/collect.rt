@@ -1,26 +1,28 @@
 //! One geometry whose members are the geometries that the rows of a column begin with.
 
-ghost use Rattle.std.specs.Prelude.{◌≡◌, ◌≢◌, ◌⊎◌, ◌↔◌, ◌+◌, ◌<◌, ◌≤◌, ◌^◌, length, true, false, None, IfOk, IfErr};
+ghost use Rattle.std.specs.Prelude.{◌≡◌, ◌≢◌, ◌⊎◌, ◌↔◌, ◌+◌, ◌<◌, ◌≤◌, ◌^◌, length, true, false, None};
+ghost use Rattle.std.specs.Prelude.{IfSome, IfOk, IfErr};
 ghost use Rattle.wkb_check.specs.Public.{DescribesFrontWithin, member_room};
 ghost use Rattle.wkb_rewrite.specs.Inputs.{IsAccepted};
 ghost use Rattle.wkb_rewrite.specs.Shares.{IsPut};
 ghost use Rattle.wkb_rewrite.specs.Targets.{encoding_for};
 ghost use Rattle.wkb_sink.specs.Blocks.{LaysAt};
-ghost use Rattle.wkb_columns.specs.Classes.{IsRefusalStatus, IsNoRefusal, TellsOfRow};
-ghost use Rattle.wkb_c.specs.Collections.{collect_asked, AsksForTooMany, part_of, TakesMember, front_of};
+ghost use Rattle.wkb_abi.specs.Classes.{IsRefusalStatus, IsNoRefusal, TellsOfRow};
+ghost use Rattle.wkb_c.specs.Collections.{collect_asked, IsAsked, AsksForTooMany, part_of, TakesMember, front_of};
 ghost use Rattle.wkb_c.specs.Collections.{MembersFit, PutsMembers};
 ghost use Rattle.wkb_c.specs.Collections.{HaveMembers, IsUnwanted, IsUnfit, IsFirstUnfit, IsFirstUnfitFor};
-ghost use Rattle.wkb_c.specs.Collections.{IsMeasuredFound, RowIsMeasured, AreMeasured, PutsCollected, WholeExceeds};
-ghost use Rattle.wkb_c.specs.Collections.{WritesCollected, CollectedExceeds, IsStatusOfCollecting};
-ghost use Rattle.wkb_columns.specs.Columns.{Reach};
-ghost use Rattle.wkb_columns.specs.Statuses.{IsFaultWithin};
+ghost use Rattle.wkb_c.specs.Collections.{IsMeasuredFound, AreMeasured, IsWhole, IsCollected, IsStatusOfCollecting};
+ghost use Rattle.wkb_abi.specs.Columns.{Reach};
+ghost use Rattle.wkb_abi.specs.Room.{IsWritten, FindsNoRoom};
+ghost use Rattle.wkb_abi.specs.RowItems.{RowHas};
+ghost use Rattle.wkb_abi.specs.Statuses.{IsFaultWithin};
 
 use crate::write::{options_for, write_requested};
+use wkb_abi::column::{Column, found_in};
+use wkb_abi::fault::{NO_FAULT, WkbFault, report_refusal};
+use wkb_abi::options::{Options, Request, request_of};
+use wkb_abi::status::{INCORRECT_TYPE, NO_ROOM, OK, TOO_MANY_ROWS, UNKNOWN_OPTION};
 use wkb_check::{Summary, check_member, check_plain};
-use wkb_columns::column::{Column, found_in};
-use wkb_columns::fault::{NO_FAULT, WkbFault, report_refusal};
-use wkb_columns::options::{Options, Request, request_of};
-use wkb_columns::status::{INCORRECT_TYPE, NO_ROOM, OK, TOO_MANY_ROWS, UNKNOWN_OPTION};
 use wkb_geom::Dimension;
 use wkb_geom::code::{GEOMETRY_COLLECTION, MULTI_POINT, WkbType, of_kind};
 use wkb_geom::header::MAX_HEADER_SIZE;
@@ -41,7 +43,8 @@ pub struct CollectTarget {
 
 /// What the numbers ask for, if they mean something.
 fn collect_target_of(kind: u32, dimension: u32, options: &Options) -> Option<CollectTarget>
-    ensures { result ≡ collect_asked kind dimension options.now }
+    ensures means { result ≡ collect_asked kind dimension options.now }
+    ensures asked { IfSome result (IsAsked kind dimension options.now) }
 {
     if kind < MULTI_POINT || GEOMETRY_COLLECTION < kind {
         return None;
@@ -131,7 +134,7 @@ fn measure_row(
     requires small { i < 2 ^ 63 }
     requires before { Reach column.now i reach.old }
     ensures reach { Reach column.now (i + 1) reach.new }
-    ensures measured { IfOk result (λ size. RowIsMeasured column.now target.now i size) }
+    ensures measured { IfOk result (RowHas (IsMeasuredFound target.now) column.now i) }
     ensures unfit { IfErr result (λ status. IsUnfit column.now (part_of target.now) i status fault.new) }
     ensures known { IfErr result TellsOfRow }
     ensures kept { IfOk result (λ _. fault.new ≡ fault.old) }
@@ -246,8 +249,10 @@ fn write_collected(
 ) -> u32
     requires few { rows < 2 ^ 32 }
     requires measured { AreMeasured column.now target.now rows inside }
-    ensures written { result ≡ OK → PutsCollected column.now target.now rows out.old out.new size.new }
-    ensures no_room { result ≡ NO_ROOM → WholeExceeds column.now target.now rows out.old size.new }
+    ensures written { result ≡ OK → IsWritten (IsWhole column.now target.now rows)
+        out.old out.new size.new }
+    ensures no_room { result ≡ NO_ROOM → FindsNoRoom (IsWhole column.now target.now rows)
+        out.old size.new }
     ensures bound { size.new ≤ length column.now.bytes.now + 13 }
     ensures known { (result ≡ OK) ⊎ (result ≡ NO_ROOM) }
     ensures out_kept { result ≢ OK → out.new ≡ out.old }
@@ -283,10 +288,10 @@ pub extern "C" fn wkb_raw_collect(
     fault: &mut WkbFault,
     row: &mut u64,
 ) -> u32
-    ensures written { result ≡ OK → WritesCollected column.now rows kind dimension options.now
-        out.old out.new size.new }
-    ensures no_room { result ≡ NO_ROOM → CollectedExceeds column.now rows kind dimension options.now
-        out.old size.new }
+    ensures written { result ≡ OK → IsWritten
+        (IsCollected column.now rows kind dimension options.now) out.old out.new size.new }
+    ensures no_room { result ≡ NO_ROOM → FindsNoRoom
+        (IsCollected column.now rows kind dimension options.now) out.old size.new }
     ensures unknown { (result ≡ UNKNOWN_OPTION) ↔ (collect_asked kind dimension options.now ≡ None) }
     ensures too_many { (result ≡ TOO_MANY_ROWS) ↔ AsksForTooMany kind dimension options.now rows }
     ensures refused { TellsOfRow result → IsFirstUnfitFor kind dimension column.now rows row.new

@@ -1,23 +1,22 @@
 //! The bounds of a column's rows.
 
 ghost use Rattle.std.specs.Prelude.{◌≡◌, ◌+◌, ◌<◌, ◌^◌, length, IfOk, IfErr};
-ghost use Rattle.wkb_bounds.specs.Bounded.{BoundsFront};
-ghost use Rattle.wkb_c.specs.Boxes.{IsRowBox, AreRowBoxes};
-ghost use Rattle.wkb_columns.specs.Classes.{FitsByte};
-ghost use Rattle.wkb_columns.specs.Columns.{Reach, IsRefusedWith};
-ghost use Rattle.wkb_columns.specs.RowItems.{KeepsFrom, rows_of};
+ghost use Rattle.wkb_bounds.specs.Bounded.{BoundsFront, nothing};
+ghost use Rattle.wkb_abi.specs.Classes.{FitsByte};
+ghost use Rattle.wkb_abi.specs.Columns.{Reach, RowShows, RowsShow, IsRefusedWith};
+ghost use Rattle.wkb_abi.specs.RowItems.{KeepsFrom, rows_of};
 
+use wkb_abi::column::Column;
+use wkb_abi::fault::status_of_cause;
+use wkb_abi::status::OK;
 use wkb_bounds::{Bounds, put_any_bounds, put_plain_bounds};
-use wkb_columns::column::Column;
-use wkb_columns::fault::status_of_cause;
-use wkb_columns::status::OK;
 
 /// Puts the bounds of row i, and returns its status.
 fn bound_row(column: &Column, i: usize, reach: &mut u64, found: &mut Bounds) -> u32
     requires small { i < 2 ^ 63 }
     requires before { Reach column.now i reach.old }
     ensures reach { Reach column.now (i + 1) reach.new }
-    ensures row { IsRowBox column.now i result found.new }
+    ensures row { RowShows BoundsFront nothing column.now i result found.new }
     ensures known { FitsByte result }
 {
     *found = Bounds::empty();
@@ -59,7 +58,8 @@ pub extern "C" fn wkb_raw_column_bounds(
     boxes: &mut [Bounds],
     statuses: &mut [u8],
 )
-    ensures each { AreRowBoxes column.now (rows_of statuses.old boxes.old) statuses.new boxes.new }
+    ensures each { RowsShow BoundsFront nothing column.now (rows_of statuses.old boxes.old)
+        statuses.new boxes.new }
     ensures statuses_kept { KeepsFrom (rows_of statuses.old boxes.old) statuses.old statuses.new }
     ensures boxes_kept { KeepsFrom (rows_of statuses.old boxes.old) boxes.old boxes.new }
     ensures as_many { length statuses.new ≡ length statuses.old }

@@ -1,11 +1,11 @@
 //! The statuses of a column's rows.
 
 ghost use Rattle.std.specs.Prelude.{◌≡◌, ◌+◌, ◌<◌, ◌^◌, length};
-ghost use Rattle.wkb_columns.specs.Classes.{FitsByte};
-ghost use Rattle.wkb_columns.specs.Columns.{Reach, IsStatusOf, IsStatusOfRow, AreStatuses};
+ghost use Rattle.wkb_abi.specs.Classes.{FitsByte};
+ghost use Rattle.wkb_abi.specs.Columns.{Reach, BytesShow, ShowsNothing, IsStatusOfRow, AreStatuses};
 
-use wkb_columns::column::{Column, found_in};
-use wkb_columns::status::OK;
+use wkb_abi::column::{Column, found_in};
+use wkb_abi::status::OK;
 
 /// Whether a geometry is at the start of each row of a column: a status a row.
 ///
@@ -37,9 +37,8 @@ fn status_of_row(column: &Column, i: usize, reach: &mut u64) -> u32
 }
 
 /// The status of some bytes.
-#[tactic(auto, using(wkb_columns::proofs::Telling::found_is_accepted))]
 fn status_of_bytes(row: &[u8]) -> u32
-    ensures status { IsStatusOf row.now result }
+    ensures status { BytesShow ShowsNothing tt row.now result tt }
     ensures known { FitsByte result }
 {
     match found_in(row) {

@@ -1,19 +1,19 @@
 //! The coordinates of a column's rows, in levels: a row has singles, a single has rings, a ring has coordinates.
 
 ghost use Rattle.std.specs.Prelude.{◌≡◌, ◌+◌, ◌<◌, ◌^◌, length};
-ghost use Rattle.wkb_columns.specs.Classes.{FitsByte};
-ghost use Rattle.wkb_columns.specs.Columns.{Reach};
+ghost use Rattle.wkb_abi.specs.Classes.{FitsByte};
+ghost use Rattle.wkb_abi.specs.Columns.{Reach};
 ghost use Rattle.wkb_geom.specs.Reading.{type_kind};
 ghost use Rattle.wkb_geom.specs.declared.code.TheConstants.{POLYGON};
 ghost use Rattle.wkb_check.specs.Public.{DescribesFront};
-ghost use Rattle.wkb_columns.specs.LevelLists.{PutsFound, PutsAny, PutsRow, AreLevels, TotalsSuffice, AreSameSlices};
-ghost use Rattle.wkb_columns.specs.RowItems.{KeepsFrom, rows_of};
+ghost use Rattle.wkb_abi.specs.LevelLists.{PutsFound, PutsAny, PutsRow, AreLevels, TotalsSuffice, AreSameSlices};
+ghost use Rattle.wkb_abi.specs.RowItems.{KeepsFrom, rows_of};
 
+use wkb_abi::column::{Column, check_row};
+use wkb_abi::level_slices::{LevelSlices, has_room, put_levels, put_rings};
+use wkb_abi::status::{NO_ROOM, OK, UNKNOWN_OPTION};
+use wkb_abi::totals::Totals;
 use wkb_check::{Piece, Summary, check_plain};
-use wkb_columns::column::{Column, check_row};
-use wkb_columns::level_slices::{LevelSlices, has_room, put_levels, put_rings};
-use wkb_columns::status::{NO_ROOM, OK, UNKNOWN_OPTION};
-use wkb_columns::totals::Totals;
 use wkb_geom::Dimension;
 use wkb_geom::code::WkbType;
 

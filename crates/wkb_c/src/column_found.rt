@@ -1,22 +1,22 @@
 //! What the check finds in a column's rows.
 
 ghost use Rattle.std.specs.Prelude.{◌≡◌, ◌+◌, ◌<◌, ◌^◌, length};
-ghost use Rattle.wkb_columns.specs.Classes.{FitsByte};
-ghost use Rattle.wkb_columns.specs.Columns.{Reach, AreStatuses};
-ghost use Rattle.wkb_c.specs.FoundRows.{IsFoundIn, IsFoundInRow, AreFoundRows};
-ghost use Rattle.wkb_columns.specs.RowItems.{KeepsFrom, rows_of};
+ghost use Rattle.wkb_abi.specs.Classes.{FitsByte};
+ghost use Rattle.wkb_abi.specs.Checks.{IsFound, all_zeros};
+ghost use Rattle.wkb_abi.specs.Columns.{Reach, BytesShow, RowShows, RowsShow, AreStatuses};
+ghost use Rattle.wkb_abi.specs.RowItems.{KeepsFrom, rows_of};
 
+use wkb_abi::column::{Column, check_row};
+use wkb_abi::found::{Found, NOTHING_FOUND, found_of};
+use wkb_abi::status::OK;
 use wkb_check::check_plain;
-use wkb_columns::column::{Column, check_row};
-use wkb_columns::found::{Found, NOTHING_FOUND, found_of};
-use wkb_columns::status::OK;
 
 /// Puts what the check finds of some bytes by the long way, and returns their status.
 ///
 /// It isn't inlined, so that rows that take the short way don't pay for its frame.
 #[inline(never)]
 fn find_any(row: &[u8], found: &mut Found) -> u32
-    ensures found { IsFoundIn row.now result found.new }
+    ensures found { BytesShow IsFound all_zeros row.now result found.new }
     ensures known { FitsByte result }
 {
     match check_row(row) {
@@ -36,7 +36,7 @@ fn find_row(column: &Column, i: usize, reach: &mut u64, found: &mut Found) -> u3
     requires small { i < 2 ^ 63 }
     requires before { Reach column.now i reach.old }
     ensures reach { Reach column.now (i + 1) reach.new }
-    ensures found { IsFoundInRow column.now i result found.new }
+    ensures found { RowShows IsFound all_zeros column.now i result found.new }
     ensures known { FitsByte result }
 {
     let row = match column.row(i, reach) {
@@ -64,7 +64,8 @@ pub extern "C" fn wkb_raw_column_found(
     found: &mut [Found],
     statuses: &mut [u8],
 )
-    ensures each { AreFoundRows column.now (rows_of statuses.old found.old) statuses.new found.new }
+    ensures each { RowsShow IsFound all_zeros column.now (rows_of statuses.old found.old)
+        statuses.new found.new }
     ensures checked { AreStatuses column.now (rows_of statuses.old found.old) statuses.new }
     ensures statuses_kept { KeepsFrom (rows_of statuses.old found.old) statuses.old statuses.new }
     ensures found_kept { KeepsFrom (rows_of statuses.old found.old) found.old found.new }

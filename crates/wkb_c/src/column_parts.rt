@@ -1,13 +1,13 @@
 //! The tables of parts of a column's rows, one after another.
 
 ghost use Rattle.std.specs.Prelude.{◌≡◌, ◌+◌, ◌<◌, ◌^◌, length};
-ghost use Rattle.wkb_columns.specs.Classes.{FitsByte};
-ghost use Rattle.wkb_columns.specs.Columns.{Reach};
-ghost use Rattle.wkb_columns.specs.RowItems.{rows_of, AreTables, IsTableStep, KeepsRest, KeepsFrom, LastEndSuffices};
+ghost use Rattle.wkb_abi.specs.Classes.{FitsByte};
+ghost use Rattle.wkb_abi.specs.Columns.{Reach};
+ghost use Rattle.wkb_abi.specs.RowItems.{rows_of, AreTables, IsTableStep, KeepsRest, KeepsFrom, LastEndSuffices};
 
 use crate::parts::list_parts;
+use wkb_abi::column::{Column, check_row};
 use wkb_check::{Part, check_plain};
-use wkb_columns::column::{Column, check_row};
 
 /// Lists the parts of each row of a column after those of the rows before it, as far as there is room: a status a row,
 /// and where its parts end.

@@ -1,16 +1,16 @@
 //! The encodings of a column's rows, one after another.
 
 ghost use Rattle.std.specs.Prelude.{◌≡◌, ◌+◌, ◌<◌, ◌^◌, length};
-ghost use Rattle.wkb_columns.specs.Classes.{FitsByte};
-ghost use Rattle.wkb_columns.specs.Columns.{Reach};
-ghost use Rattle.wkb_columns.specs.RowItems.{rows_of, AreEncodings, IsEncodingStep, KeepsRest, KeepsFrom, LastEndSuffices};
-ghost use Rattle.wkb_columns.specs.Writings.{WritesAny};
+ghost use Rattle.wkb_abi.specs.Classes.{FitsByte};
+ghost use Rattle.wkb_abi.specs.Columns.{Reach};
+ghost use Rattle.wkb_abi.specs.RowItems.{rows_of, AreEncodings, IsEncodingStep, KeepsRest, KeepsFrom, LastEndSuffices};
+ghost use Rattle.wkb_abi.specs.Writings.{WritesAny};
 
 use crate::write::{write_others, write_plain};
+use wkb_abi::column::{Column, check_row};
+use wkb_abi::options::{Options, request_of};
+use wkb_abi::status::UNKNOWN_OPTION;
 use wkb_check::check_plain;
-use wkb_columns::column::{Column, check_row};
-use wkb_columns::options::{Options, request_of};
-use wkb_columns::status::UNKNOWN_OPTION;
 
 /// Writes the encoding of each row of a column after those of the rows before it, as far as there is room: a status a
 /// row, and where its encoding ends.

@@ -1,19 +1,19 @@
 //! The encodings of rows that are given in levels.
 
 ghost use Rattle.std.specs.Prelude.{◌≡◌, ◌+◌, ◌<◌, ◌==◌, length, Some, None, if◌then◌else◌};
-ghost use Rattle.wkb_columns.specs.Classes.{FitsByte};
-ghost use Rattle.wkb_columns.specs.LevelRows.{EncodeLevels, IsLevelStep, level_rows};
-ghost use Rattle.wkb_columns.specs.LevelRows.{LastLevelEndSuffices, KeepsLevelRest};
-ghost use Rattle.wkb_columns.specs.LevelTargets.{kind_named, levels_in, target_asked, Ready};
-ghost use Rattle.wkb_columns.specs.RowItems.{KeepsFrom};
+ghost use Rattle.wkb_abi.specs.Classes.{FitsByte};
+ghost use Rattle.wkb_abi.specs.LevelRows.{EncodeLevels, IsLevelStep, level_rows};
+ghost use Rattle.wkb_abi.specs.LevelRows.{LastLevelEndSuffices, KeepsLevelRest};
+ghost use Rattle.wkb_abi.specs.LevelTargets.{kind_named, levels_in, target_asked, Ready};
+ghost use Rattle.wkb_abi.specs.RowItems.{KeepsFrom};
 ghost use Rattle.wkb_levels.specs.declared.ends.Ends.TheVariants.{Each, At};
 ghost use Rattle.wkb_levels.specs.EndLists.{ends_of};
 
 use crate::write::options_for;
-use wkb_columns::column::is_unset;
-use wkb_columns::level_column::{LevelColumn, LevelTarget};
-use wkb_columns::options::{Options, request_of};
-use wkb_columns::status::{BAD_LEVELS, NO_ROOM, NULL_ROW, OK, UNKNOWN_OPTION};
+use wkb_abi::column::is_unset;
+use wkb_abi::level_column::{LevelColumn, LevelTarget};
+use wkb_abi::options::{Options, request_of};
+use wkb_abi::status::{BAD_LEVELS, NO_ROOM, NULL_ROW, OK, UNKNOWN_OPTION};
 use wkb_geom::code::{LINE_STRING, MULTI_LINE_STRING, MULTI_POINT, MULTI_POLYGON, POINT, POLYGON};
 use wkb_geom::{Dimension, Dimensions};
 use wkb_levels::{Ends, Kind, Levels, Place, Written};

@@ -2,14 +2,14 @@
 
 ghost use Rattle.std.specs.Prelude.{◌≡◌, ◌≢◌, ◌⊎◌, length};
 ghost use Rattle.wkb_check.specs.Public.{DescribesFront};
-ghost use Rattle.wkb_columns.specs.Classes.{IsRefusalStatus, IsNoRefusal};
-ghost use Rattle.wkb_columns.specs.Statuses.{IsFault, IsStatusOfListing};
-ghost use Rattle.wkb_columns.specs.Subjects.{IsTable, LacksEntries};
+ghost use Rattle.wkb_abi.specs.Classes.{IsRefusalStatus, IsNoRefusal};
+ghost use Rattle.wkb_abi.specs.Statuses.{IsFault, IsStatusOfListing};
+ghost use Rattle.wkb_abi.specs.Subjects.{IsTable, LacksEntries};
 
 use crate::check::check_input;
+use wkb_abi::fault::WkbFault;
+use wkb_abi::status::{NO_ROOM, OK};
 use wkb_check::{Part, PartPlace, Piece, Summary, check_plain, put_geometries};
-use wkb_columns::fault::WkbFault;
-use wkb_columns::status::{NO_ROOM, OK};
 
 /// Lists the parts of the geometry at the start of the bytes in preorder, and writes their number.
 ///
@@ -49,12 +49,13 @@ pub fn list_parts(buf: &[u8], found: &Summary, parts: &mut [Part], count: &mut u
     ensures long { length parts.new ≡ length parts.old }
     ensures parts_kept { result ≢ OK → parts.new ≡ parts.old }
 {
+    let entry = Part::of(&Piece::outermost(buf, found), found.bytes, 1);
     *count = found.parts as u64;
     if parts.len() < found.parts {
         return NO_ROOM;
     }
     if found.parts == 1 {
-        parts[0] = Part::of(&Piece::outermost(buf, found), found.bytes, 1);
+        parts[0] = entry;
         return OK;
     }
     put_geometries(buf, 1, parts, PartPlace { index: 0, byte: 0 });

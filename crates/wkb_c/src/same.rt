@@ -2,13 +2,13 @@
 
 ghost use Rattle.std.specs.Prelude.{◌≡◌, ◌≢◌, None, IfSome};
 ghost use Rattle.wkb_rewrite.specs.Inputs.{IsAccepted};
-ghost use Rattle.wkb_columns.specs.Statuses.{IsComparison, IsFault, IsRefusedInTurn};
+ghost use Rattle.wkb_abi.specs.Statuses.{IsComparison, IsFault, IsRefusedInTurn};
 
 use crate::check::check_input;
+use wkb_abi::fault::WkbFault;
+use wkb_abi::numbers::{DIFFERENT, EQUAL, FIRST, SECOND};
+use wkb_abi::status::{NO_MEMORY, OK};
 use wkb_check::check_plain;
-use wkb_columns::fault::WkbFault;
-use wkb_columns::numbers::{DIFFERENT, EQUAL, FIRST, SECOND};
-use wkb_columns::status::{NO_MEMORY, OK};
 use wkb_rewrite::have_one_value;
 
 /// Whether two inputs begin with geometries of one value, SRIDs and byte orders aside.
@@ -43,7 +43,7 @@ pub extern "C" fn wkb_raw_same(
 
 /// The status of the one refusal of some bytes, and its numbers; none if a geometry is at their start. The short way
 /// comes first, and it counts in registers.
-#[tactic(auto, using(wkb_columns::proofs::Telling::found_is_accepted))]
+#[tactic(auto, using(wkb_abi::proofs::Telling::found_is_accepted))]
 #[inline(always)]
 pub fn status_of_refusal(buf: &[u8], fault: &mut WkbFault) -> Option<u32>
     ensures none { result ≡ None → IsAccepted buf.now }

@@ -4,16 +4,17 @@ ghost use Rattle.std.specs.Prelude.{◌≡◌, ◌≢◌, ◌≤◌, ◌+◌, �
 ghost use Rattle.wkb_geom.specs.Reading.{type_kind};
 ghost use Rattle.wkb_geom.specs.declared.code.TheConstants.{POLYGON};
 ghost use Rattle.wkb_check.specs.Public.{DescribesFront};
-ghost use Rattle.wkb_columns.specs.Classes.{IsRefusalStatus, IsNoRefusal};
-ghost use Rattle.wkb_columns.specs.Requests.{request_of, options_for};
-ghost use Rattle.wkb_columns.specs.Statuses.{IsFault, IsStatusOfWriting};
-ghost use Rattle.wkb_columns.specs.Writings.{WritesEncoding, WantsRoom, Encodes, WritesRequested, WritesAsked};
+ghost use Rattle.wkb_abi.specs.Classes.{IsRefusalStatus, IsNoRefusal};
+ghost use Rattle.wkb_abi.specs.Requests.{request_of, options_for};
+ghost use Rattle.wkb_abi.specs.Statuses.{IsFault, IsStatusOfWriting};
+ghost use Rattle.wkb_abi.specs.Writings.{HasEncoding, Encodes, WritesRequested, WritesAsked};
+ghost use Rattle.wkb_abi.specs.Room.{IsWritten, FindsNoRoom};
 
 use crate::check::check_input;
+use wkb_abi::fault::WkbFault;
+use wkb_abi::options::{Options, Request, request_of};
+use wkb_abi::status::{NO_ROOM, OK, UNKNOWN_OPTION};
 use wkb_check::{Summary, check_plain};
-use wkb_columns::fault::WkbFault;
-use wkb_columns::options::{Options, Request, request_of};
-use wkb_columns::status::{NO_ROOM, OK, UNKNOWN_OPTION};
 use wkb_geom::Form;
 use wkb_geom::code::WkbType;
 use wkb_geom::header::SRID_SIZE;
@@ -32,8 +33,10 @@ pub extern "C" fn wkb_raw_write(
     size: &mut u64,
     fault: &mut WkbFault,
 ) -> u32
-    ensures written { result ≡ OK → WritesEncoding options.now buf.now out.old out.new size.new }
-    ensures no_room { result ≡ NO_ROOM → WantsRoom options.now buf.now out.old size.new }
+    ensures written { result ≡ OK → IsWritten (HasEncoding options.now buf.now)
+        out.old out.new size.new }
+    ensures no_room { result ≡ NO_ROOM → FindsNoRoom (HasEncoding options.now buf.now)
+        out.old size.new }
     ensures unknown { (result ≡ UNKNOWN_OPTION) ↔ (request_of options.now ≡ None) }
     ensures bound { (result ≡ OK) ⊎ (result ≡ NO_ROOM) → size.new ≤ length buf.now + 4 }
     ensures refused { IsRefusalStatus result → IsFault buf.now result fault.new }
@@ -148,6 +151,7 @@ fn write_polygon(
 }
 
 /// As `write_one_piece`, for any geometry.
+#[tactic(auto, using(crate::proofs::Encodings::meant))]
 #[inline(never)]
 pub fn write_others(
     buf: &[u8],

@@ -8,6 +8,7 @@ pub use Rattle.wkb.specs.Checks.{BoundsOnlyFront, FindsBounds, nothing, Axis, x_
 pub use Rattle.wkb.specs.Checks.{axis_place, words_in, words_on, words_of_each, words_on_each, rank, lower, higher}
 pub use Rattle.wkb.specs.Checks.{no_numbers, with_number, with_word, widened, range_of, Range, Bounds, type_kind}
 pub use Rattle.wkb.specs.Checks.{type_dimension, type_of}
+pub use Rattle.wkb.specs.Coordinates.{of_point, of_parts, coordinates_of, coordinates_of_each, Visits}
 pub use Rattle.wkb.specs.Prelude.{Endianness, BigEndian, LittleEndian, Form, Iso, Ewkb, Dimension, Xy, Xyz, Xym, Xyzm}
 pub use Rattle.wkb.specs.Prelude.errors as errors
 pub use Rattle.wkb.specs.Prelude.causes as causes
@@ -88,18 +89,17 @@ pub use Rattle.wkb.specs.Reads.{Item, spellings, values, point_of, line_string_o
 pub use Rattle.wkb.specs.Reads.{ring_in, geometry_told, geometry_at, Listed, whole_of, value_code, rings_code}
 pub use Rattle.wkb.specs.Reads.{polygons_code, item_code, listed_code, HasNoFront, IsFront, IsOnlyFront, IsRefusal}
 pub use Rattle.wkb.specs.Reads.{TellsEach, IfRefused, IfMemory, CountsValue, CountsRefusal, CountsAtMost, CanBeWritten}
-pub use Rattle.wkb.specs.Reads.{AsksForNone, BeginsNone, KindTakesNone, TakesNoMemory, IsRead, Reads, Costs}
+pub use Rattle.wkb.specs.Reads.{AsksForNone, BeginsNone, KindTakesNone, TakesNoMemory, IsRead, Lends, Reads, Costs}
 pub use Rattle.wkb.specs.Reads.{geometry_seen, members_seen, geometry_lawful, members_lawful, one_dimension_seen}
-pub use Rattle.wkb.specs.Reads.{seen_as_it_is, members_as_they_are, IsCollectionOf, IsViewOf, collection_seen}
-pub use Rattle.wkb.specs.Reads.{joined_encodings, HoldsMembers, IsCollectionIn, AreMembers, IsMemberAt, words_seen}
-pub use Rattle.wkb.specs.Reads.{ring_seen, coordinate_encoding, coord_order, coord_dimension, coord_encoding}
-pub use Rattle.wkb.specs.Reads.{ring_order, ring_dimension, ring_encoding, ring_offset, ring_coord_bytes}
-pub use Rattle.wkb.specs.Reads.{CoordBytesSpell, RingBytesSpell, LendsCoordinates, point_seen, line_string_seen}
-pub use Rattle.wkb.specs.Reads.{multi_point_seen, point_layout, line_string_layout, multi_point_layout, point_dimension}
-pub use Rattle.wkb.specs.Reads.{line_string_dimension, multi_point_dimension, point_order, point_spelling}
-pub use Rattle.wkb.specs.Reads.{line_string_order, line_string_spelling, seen_coordinates, coordinate_in}
-pub use Rattle.wkb.specs.Reads.{line_string_offset, multi_point_offset, seen_coordinate, seen_points, point_coord_bytes}
-pub use Rattle.wkb.specs.Reads.{point_words_bytes, line_string_coord_bytes, line_string_coords_bytes}
+pub use Rattle.wkb.specs.Reads.{IsCollectionOf, IsViewOf, collection_seen, joined_encodings, HoldsMembers}
+pub use Rattle.wkb.specs.Reads.{IsCollectionIn, AreMembers, IsMemberAt, words_seen, ring_seen, coordinate_encoding}
+pub use Rattle.wkb.specs.Reads.{coord_order, coord_dimension, coord_encoding, ring_order, ring_dimension, ring_encoding}
+pub use Rattle.wkb.specs.Reads.{ring_offset, ring_coord_bytes, CoordBytesSpell, RingBytesSpell, LendsCoordinates}
+pub use Rattle.wkb.specs.Reads.{point_seen, line_string_seen, multi_point_seen, point_layout, line_string_layout}
+pub use Rattle.wkb.specs.Reads.{multi_point_layout, point_dimension, line_string_dimension, multi_point_dimension}
+pub use Rattle.wkb.specs.Reads.{point_order, point_spelling, line_string_order, line_string_spelling, seen_coordinates}
+pub use Rattle.wkb.specs.Reads.{coordinate_in, line_string_offset, multi_point_offset, seen_coordinate, seen_points}
+pub use Rattle.wkb.specs.Reads.{point_coord_bytes, point_words_bytes, line_string_coord_bytes, line_string_coords_bytes}
 pub use Rattle.wkb.specs.Reads.{multi_point_member_bytes, multi_point_spelling, list_of_values, IsCollection, points_of}
 pub use Rattle.wkb.specs.Reads.{members_spelled, list_of_spellings, spelling_at, BytesSpell, srid_of, order_of}
 pub use Rattle.wkb.specs.Reads.{polygon_seen, multi_line_string_seen, multi_polygon_seen, stride, ArePoints}
@@ -142,7 +142,7 @@ pub use Rattle.wkb.specs.Known.{equal_encodings_with_own_srid, named_dimension, 
 pub use Rattle.wkb.specs.Known.{spelled_is_writable, equal_spelled, equal_spelled_with_srid, has_one_encoding}
 pub use Rattle.wkb.specs.Known.{have_one_encoding, coordinate_has_one_encoding, first_start, next_start}
 pub use Rattle.wkb.specs.Known.{first_ring_start, next_ring_start, members_stand, rings_stand, members_in_place}
-pub use Rattle.wkb.specs.Known.{rings_in_place, words_stand, line_string_words_stand}
+pub use Rattle.wkb.specs.Known.{rings_in_place, words_stand, line_string_words_stand, ranks_in_order}
 pub use Rattle.wkb.specs.Bridges.{memory_or, part_is_member, member_of, appended, encoding_alone, read_before}
 pub use Rattle.wkb.specs.Bridges.{read_again, front_stands, rest_stands, stands_within, begins_there, parts_counted}
 pub use Rattle.wkb.specs.Bridges.{members_counted, srid_of_options}
@@ -152,17 +152,16 @@ pub use Rattle.wkb.specs.Kept.{Keeps, none, kept, left, KeepsBefore, keeping_sta
 pub use Rattle.wkb.specs.Kept.{keeping_ends}
 pub use Rattle.wkb.specs.Lawful.{coord_view_lawful, ring_view_lawful, point_view_lawful, line_string_view_lawful}
 pub use Rattle.wkb.specs.Lawful.{multi_point_view_lawful, parts_view_lawful, members_view_lawful, word_is_there}
-pub use Rattle.wkb.specs.Lawful.{x_is_there, y_is_there}
-pub use Rattle.wkb.specs.Lent.{Lends, IsRingAt, lent_front, point_is_member, line_string_is_member, polygon_is_member}
-pub use Rattle.wkb.specs.Lent.{member_stands, next_member_stands, ring_stands, ring_coordinates_stand, ring_word_stands}
+pub use Rattle.wkb.specs.Lawful.{has_two, x_is_there, y_is_there}
+pub use Rattle.wkb.specs.Lent.{IsRingAt, point_is_member, line_string_is_member, polygon_is_member, member_stands}
+pub use Rattle.wkb.specs.Lent.{next_member_stands, ring_stands, ring_word_stands}
 pub use Rattle.wkb.specs.Members.{item_found, item_missing, no_member_listed, listed_value, member_listed, one_member}
-pub use Rattle.wkb.specs.Members.{items_lawful}
+pub use Rattle.wkb.specs.Members.{member_falls, items_lawful}
 pub use Rattle.wkb.specs.Offsets.{BeginsAt, begins_at, none_begins_at, value_there, spelling_there, no_word}
 pub use Rattle.wkb.specs.Offsets.{no_word_there}
-pub use Rattle.wkb.specs.Order.{RanksInOrder as RanksInOrder-Order, HasNumbers, IsBetween, stay_numbers}
-pub use Rattle.wkb.specs.Order.{range_has_numbers, between}
-pub use Rattle.wkb.specs.OwnBytes.{own_options, never_refused, memory_alone, read_the_same, only_front, no_longer}
-pub use Rattle.wkb.specs.OwnBytes.{no_refusal, not_refused, not_refused_under, always_compared, own_encoding}
+pub use Rattle.wkb.specs.Order.{is_number, not_nan, HasNumbers, IsBetween, stay_numbers, range_has_numbers, between}
+pub use Rattle.wkb.specs.OwnBytes.{own_options, never_refused, memory_alone, read_the_same, only_front, one_item}
+pub use Rattle.wkb.specs.OwnBytes.{no_longer, no_refusal, not_refused, not_refused_under, always_compared, own_encoding}
 pub use Rattle.wkb.specs.OwnBytes.{own_encoding_with_srid, values_compared}
 pub use Rattle.wkb.specs.Ranges.{IsWithin, BringsWithin, stays_within, within_range_of, number_within, item_within}
 pub use Rattle.wkb.specs.Ranges.{ordinate_within, member_within, drop_at, widened_next, counts_once, same_bounds}

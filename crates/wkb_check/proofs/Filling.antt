@@ -1,32 +1,36 @@
 -- The loop over geometries whose entries are put into a table.
-use Rattle.std.proofs.Common.{◌≡◌, ℕ, suc, ◌+◌, ◌-◌, ◌<◌, ◌≤◌, List, length, drop, refl, sym, ap, ◌∙◌, arith}
+use Rattle.std.proofs.Common.{◌≡◌, ℕ, suc, ◌+◌, ◌-◌, ◌<◌, ◌≤◌, List, length, drop, refl, sym, ap, ◌∙◌, arith, length-append}
 use lib.Seq.{sets, length-sets}
 use Rattle.wkb_laws.specs.Prelude.{Value, Spelling, node}
 use Rattle.wkb_check.specs.Known.{HasGeometry, HasGeometries}
-use Rattle.wkb_check.specs.Pieces.{sizes}
-use Rattle.wkb_check.specs.Tables.{geometry_entries, member_entries, entry_count, entry_counts}
+use Rattle.wkb_check.specs.Pieces.{last_end}
+use Rattle.wkb_check.specs.Subjects.{subjects, subjects_of_each}
+use Rattle.wkb_check.specs.Tables.{entries_from}
 use Rattle.wkb_check.specs.declared.parts.Part.{Part}
-use Rattle.wkb_check.proofs.Placing.{begun_at, behind_geometry, first_one, of_first, sets_after, entries_are, IsPut}
+use Rattle.wkb_check.proofs.Placing.{begun_at, behind_geometry, first_one, sets_after, IsPut, end_append}
+use Rattle.wkb_check.proofs.Placing.{end_onward, as_many_entries, entries_append}
 
 -- What is left of the geometries, at the next index and from the next byte on, makes of the table what all make of it.
 pub record Left (buf : List ℕ) (total start : ℕ) (more : List ℕ) (all : HasGeometries total (drop start buf) more)
     (first : ℕ) (before : List Part) (n index at : ℕ) (parts : List Part) : Type 0 where
   pub to_come : HasGeometries n (drop at buf) more
-  pub indices : index + entry_counts to_come.spelled to_come.values ≡ first + entry_counts all.spelled all.values
-  pub bytes : at + sizes to_come.spelled to_come.values ≡ start + sizes all.spelled all.values
-  pub put : sets parts index (member_entries index at to_come.spelled to_come.values)
-      ≡ sets before first (member_entries first start all.spelled all.values)
+  pub indices : index + length (subjects_of_each to_come.spelled to_come.values)
+      ≡ first + length (subjects_of_each all.spelled all.values)
+  pub bytes : last_end at (subjects_of_each to_come.spelled to_come.values)
+      ≡ last_end start (subjects_of_each all.spelled all.values)
+  pub put : sets parts index (entries_from index at (subjects_of_each to_come.spelled to_come.values))
+      ≡ sets before first (entries_from first start (subjects_of_each all.spelled all.values))
   pub long : length parts ≡ length before
   pub onward : start ≤ at
 
-some_entries : (s : Spelling) (t : Value) → 1 ≤ entry_count s t
+some_entries : (s : Spelling) (t : Value) → 1 ≤ length (subjects s t)
 some_entries (node h words ss) t = omega arith
 
 -- a geometry that is there, and its entries fit the table
 pub record Here (buf : List ℕ) (at index : ℕ) (parts : List Part) : Type 0 where
   pub geometry : HasGeometry (drop at buf)
-  pub room : index + entry_count geometry.spelled geometry.value ≤ length parts
-  pub some : 1 ≤ entry_count geometry.spelled geometry.value
+  pub room : index + length (subjects geometry.spelled geometry.value) ≤ length parts
+  pub some : 1 ≤ length (subjects geometry.spelled geometry.value)
 
 module _ {buf more : List ℕ} {total start : ℕ} {all : HasGeometries total (drop start buf) more} {first : ℕ}
     {before : List Part} where
@@ -42,24 +46,34 @@ module _ {buf more : List ℕ} {total start : ℕ} {all : HasGeometries total (d
         let f = first_one n m (drop at buf) more l.to_come e in
         let g = f.geometry in
         let i = item g in
+        let own = subjects g.spelled g.value in
+        let others = subjects_of_each f.others.spelled f.others.values in
         record {
           to_come = begun_at (behind_geometry buf at to g i.to_is).0 f.others;
-          indices = omega (arith, l.indices, of_first entry_counts f, i.next_is);
-          bytes = omega (arith, l.bytes, of_first sizes f, i.to_is);
+          indices = omega (arith, l.indices, ap length f.are, length-append own others, i.next_is);
+          bytes =
+              (λ j. last_end (i.to_is j) others) ∙ sym (end_append at own others)
+              ∙ ap (last_end at) (sym f.are) ∙ l.bytes;
           put =
-              (λ j. sets (i.put j) next (member_entries (i.next_is j) (i.to_is j) f.others.spelled f.others.values))
-              ∙ sets_after parts index next (geometry_entries index at g.spelled g.value) _
-              (omega (arith, i.next_is, entries_are index at g.spelled g.value))
-              ∙ ap (sets parts index) (sym (of_first (member_entries index at) f)) ∙ l.put;
-          long = ap length i.put ∙ length-sets parts index (geometry_entries index at g.spelled g.value) ∙ l.long;
-          onward = omega (arith, l.onward, i.to_is);
+              ap (λ ps. sets ps next (entries_from next to others)) i.put
+              ∙ sets_after parts index next (entries_from index at own) (entries_from next to others)
+              (omega (arith, i.next_is, as_many_entries index at own))
+              ∙ ap (sets parts index)
+              (entries_append index at next to own others i.next_is i.to_is
+              ∙ ap (entries_from index at) (sym f.are))
+              ∙ l.put;
+          long = ap length i.put ∙ length-sets parts index (entries_from index at own) ∙ l.long;
+          onward = omega (arith, l.onward, i.to_is, end_onward at own);
         }
 
-    pub here : 0 < n → first + entry_counts all.spelled all.values ≤ length before → Here buf at index parts
+    pub here : 0 < n → first + length (subjects_of_each all.spelled all.values) ≤ length before
+        → Here buf at index parts
     here some fit =
         let f = first_one n (n - 1) (drop at buf) more l.to_come (omega (arith, some)) in
+        let own = subjects f.geometry.spelled f.geometry.value in
+        let others = subjects_of_each f.others.spelled f.others.values in
         record {
           geometry = f.geometry;
-          room = omega (arith, fit, l.indices, of_first entry_counts f, l.long);
+          room = omega (arith, fit, l.indices, ap length f.are, length-append own others, l.long);
           some = some_entries f.geometry.spelled f.geometry.value;
         }

@@ -6,25 +6,24 @@ use Rattle.std.specs.Prelude.{Some, None}
 use Rattle.std.specs.Iterator.{MakesProgress, Yields, at_most}
 use Rattle.wkb_laws.specs.Prelude.{Endianness, Dimension, number}
 use Rattle.wkb_check.specs.Known.{HasGeometry, HasGeometries, decoded_rings}
-use Rattle.wkb_check.specs.Pieces.{Ahead, own_end, ring_piece, piece_of, pieces_of, pieces_of_rings, pieces_of_each}
-use Rattle.wkb_check.specs.Pieces.{size_of_rings, sizes, IsPieceAt, IsInside, IsAhead, HasAhead, Takes, Steps}
+use Rattle.wkb_check.specs.Subjects.{subjects, subjects_of_rings, subjects_of_each}
+use Rattle.wkb_check.specs.Pieces.{Ahead, own_end, ring_piece, piece_of, last_end, pieces_from, pieces_of, first_rings}
+use Rattle.wkb_check.specs.Pieces.{IsPieceAt, IsInside, IsAhead, HasAhead, Takes, Steps}
 use Rattle.wkb_check.specs.Pieces.{bytes_left, AreRings, IsRing}
 use Rattle.wkb_check.specs.declared.pieces.Piece.{Piece}
 use Rattle.wkb_check.specs.declared.pieces.Pieces.{Pieces}
-use Rattle.wkb_check.proofs.Placing.{First, alone, first_one, of_first, Inside, leaf_inside, rings_inside}
-use Rattle.wkb_check.proofs.Placing.{members_inside, own_piece, geometry_inside, onward, none_of}
+use Rattle.wkb_check.proofs.Placing.{First, alone, first_one, Inside, leaf_inside, rings_inside}
+use Rattle.wkb_check.proofs.Placing.{members_inside, inner, itself_first, geometry_inside, onward, none_of, begun_at}
 use Rattle.wkb_check.proofs.Rings.{NextRing, next_ring}
 use Rattle.wkb_check.proofs.Joining.{few_geometries, join_spellings, join_values, joined}
 
 pub ahead_first : (buf : List ℕ) (order : Endianness) (d : Dimension) (g : HasGeometry buf)
     → Ahead buf order d 0 1 0 (pieces_of 0 g.spelled g.value)
 ahead_first buf order d g = record {
-  after = 0;
   more = g.rest;
   whole = tt;
-  after_is = omega arith;
   all = alone g;
-  are = sym (append-nil (pieces_of 0 g.spelled g.value));
+  are = ap (pieces_from 0) (sym (append-nil (subjects g.spelled g.value)));
 }
 
 -- ---- a ring
@@ -52,17 +51,21 @@ module _ (w : Pieces) (ahead : HasAhead w) (some : 0 < w.rings) (p : Piece)
   ring_takes next ends = record {
     steps = λ xs a.
         let r = ring_after a next ends in
-        let others = pieces_of_each a.after a.all.spelled a.all.values in
+        let others = subjects_of_each a.all.spelled a.all.values in
         let rings = decoded_rings w.order w.dimension (w.rings - 1) (drop next w.bytes.now) in
+        let behind = subjects_of_rings w.order w.dimension rings ++ others in
+        let ends_same = (λ i. last_end (r.next_is i) (subjects_of_rings w.order w.dimension rings))
+        ∙ ap (λ rs. last_end w.at (subjects_of_rings w.order w.dimension rs)) (sym r.are) in
         record {
-          rest = pieces_of_rings w.order w.dimension next rings ++ others;
-          first = rw (a.are, r.are, ← r.next_is, r.many, ← is);
+          rest = pieces_from next behind;
+          first =
+              a.are ∙ ap (λ rs. pieces_from w.at (subjects_of_rings w.order w.dimension rs ++ others)) r.are
+              ∙ (λ i. (ap (ring_piece w.order w.dimension w.at) r.many ∙ sym is) i
+              ∷ pieces_from (sym r.next_is i) behind);
           ahead = record {
-            after = a.after;
             more = a.more;
             whole = r.whole;
-            after_is = omega (arith, a.after_is, ap (size_of_rings w.dimension) r.are, r.next_is);
-            all = a.all;
+            all = begun_at (ap (λ k. drop k w.bytes.now) ends_same) a.all;
             are = refl;
           };
         };
@@ -80,22 +83,22 @@ module _ (w : Pieces) (ahead : HasAhead w) (some : 0 < w.rings) (p : Piece)
 record Coming (buf : List ℕ) (n at : ℕ) (xs : List Piece) : Type 0 where
   pub more : List ℕ
   pub all : HasGeometries n (drop at buf) more
-  pub are : xs ≡ pieces_of_each at all.spelled all.values
+  pub are : xs ≡ pieces_from at (subjects_of_each all.spelled all.values)
 
 coming : (buf : List ℕ) (order : Endianness) (d : Dimension) (r n at : ℕ) (xs : List Piece) → r ≡ 0
     → Ahead buf order d r n at xs
     → Coming buf n at xs
 coming buf order d (suc r) n at xs e a = absurd (omega (arith, e))
 coming buf order d zero n at xs e a =
-    subst (λ k. (all : HasGeometries n (drop k buf) a.more) → xs ≡ pieces_of_each k all.spelled all.values
-    → Coming buf n at xs)
-    (omega (arith, a.after_is)) (λ all are. record { more = a.more; all = all; are = are }) a.all a.are
+    record { more = a.more; all = a.all; are = a.are }
 
 pub none_ahead : {buf : List ℕ} {order : Endianness} {d : Dimension} {r n at : ℕ} {xs : List Piece}
     → Ahead buf order d r n at xs → r ≤ 0 → n ≤ 0 → xs ≡ []
 none_ahead {buf = buf} {order = order} {d = d} {r = r} {n = n} {at = at} {xs = xs} a e none =
     let c = coming buf order d r n at xs (omega (arith, e)) a in
-    c.are ∙ ap (pieces_of_each at c.all.spelled) (none_of c.all.values (omega (arith, none, c.all.counted)))
+    c.are
+    ∙ ap (λ ts. pieces_from at (subjects_of_each c.all.spelled ts))
+    (none_of c.all.values (omega (arith, none, c.all.counted)))
 
 module _ {buf : List ℕ} {order : Endianness} {d : Dimension} {r n at : ℕ} {xs : List Piece}
     (a : Ahead buf order d r n at xs) (none : r ≡ 0) (some : 0 < n) where
@@ -110,33 +113,32 @@ module _ {buf : List ℕ} {order : Endianness} {d : Dimension} {r n at : ℕ} {x
 
   -- its piece comes first, and then what is inside it
   taken : (p : Piece) → p ≡ piece_of at one.geometry.spelled one.geometry.value
-      → {o : Endianness} {e : Dimension} {rings m next after : ℕ}
-      → Inside buf at 0 one.geometry.spelled one.geometry.value one.geometry.rest o e rings m next after
+      → {o : Endianness} {e : Dimension} {rings m next : ℕ}
+      → next ≡ own_end p → Inside buf one.geometry.spelled one.geometry.value one.geometry.rest o e rings m next
       → Taken buf o e rings (n - 1 + m) next xs p
-  taken p is {o} {e} {rings} {m} {next} {after} i =
+  taken p is {o} {e} {rings} {m} {next} ends i =
       let g = one.geometry in
       let x = i.all in
       let y = one.others in
-      let j = joined after x.spelled y.spelled x.values y.values x.begins.front y.begins.front x.begins.first
+      let j = joined x.spelled y.spelled x.values y.values x.begins.front y.begins.front x.begins.first
       y.begins.first in
-      let own = pieces_of_rings o e next (decoded_rings o e rings (drop next buf)) in
-      let others = pieces_of_each (after + sizes x.spelled x.values) y.spelled y.values in
+      let own = first_rings o e rings (drop next buf) in
+      let others = subjects_of_each y.spelled y.values in
+      let joins : inner g.spelled g.value ++ others
+      ≡ own ++ subjects_of_each (join_spellings x.spelled y.spelled) (join_values x.values y.values) =
+      ap (λ l. l ++ others) i.are ∙ append_assoc own (subjects_of_each x.spelled x.values) others
+      ∙ ap (λ l. own ++ l) (sym j.are) in
       record {
-        rest = own ++ pieces_of_each after (join_spellings x.spelled y.spelled) (join_values x.values y.values);
-        first = to_come.are ∙ rw (
-          of_first (pieces_of_each at) one,
-          own_piece at g.spelled g.value,
-          ← i.long,
-          ← is,
-          ← i.pieces,
-          append_assoc own (pieces_of_each after x.spelled x.values) others,
-          j.pieces,
-        );
+        rest =
+            pieces_from next
+            (own ++ subjects_of_each (join_spellings x.spelled y.spelled) (join_values x.values y.values));
+        first =
+            to_come.are ∙ ap (pieces_from at) one.are
+            ∙ ap (λ l. pieces_from at (l ++ others)) (itself_first g.spelled g.value)
+            ∙ (λ k. sym is k ∷ pieces_from (sym (ends ∙ ap own_end is) k) (joins k));
         ahead = record {
-          after = after;
           more = to_come.more;
           whole = i.whole;
-          after_is = i.after_is;
           all = record {
             spelled = join_spellings x.spelled y.spelled;
             values = join_values x.values y.values;
@@ -161,16 +163,16 @@ module _ (w : Pieces) (ahead : HasAhead w) (none : w.rings ≡ 0) (some : 0 < w.
   pub piece_inside : (next : ℕ) → next ≡ own_end p → IsInside w.bytes.now w.at next p
   piece_inside next ends = geometry_inside w.bytes.now w.at next there p (is there) ends
 
-  takes : {o : Endianness} {e : Dimension} {rings m next after : ℕ} → next ≡ own_end p
+  takes : {o : Endianness} {e : Dimension} {rings m next : ℕ} → next ≡ own_end p
       → ((g : HasGeometry (drop w.at w.bytes.now))
-      → Inside w.bytes.now w.at 0 g.spelled g.value g.rest o e rings m next after)
+      → Inside w.bytes.now g.spelled g.value g.rest o e rings m next)
       → (r n : ℕ) → r ≡ rings → n ≡ w.geometries - 1 + m
       → Takes w (record w { at = next; rings = r; geometries = n; order = o; dimension = e }) p
   unfolding one geometry_there
   takes {o} {e} {rings} {m} {next} ends inside r n r-is n-is = record {
     steps = λ xs a.
         let g = geometry_there a none some in
-        let t : Taken w.bytes.now o e r n next xs p = rw (r-is, n-is) (taken a none some p (is g) (inside g)) in
+        let t : Taken w.bytes.now o e r n next xs p = rw (r-is, n-is) (taken a none some p (is g) ends (inside g)) in
         record { rest = t.rest; first = t.first; ahead = t.ahead };
     inside = piece_inside next ends;
     same = refl;
@@ -179,7 +181,7 @@ module _ (w : Pieces) (ahead : HasAhead w) (none : w.rings ≡ 0) (some : 0 < w.
   module _ (next : ℕ) (ends : next ≡ own_end p) where
     pub leaf_takes : p.kind ≤ 3 → p.kind ≢ 3 → Takes w (record w { at = next; geometries = w.geometries - 1 }) p
     leaf_takes low other =
-        takes ends (λ g. leaf_inside w.bytes.now w.at 0 g p (is g) next ends
+        takes ends (λ g. leaf_inside w.bytes.now w.at g p (is g) next ends
         (lt-ltb p.kind 3 (omega (arith, low, other))) w.order w.dimension)
         w.rings (w.geometries - 1) none (omega arith)
 
@@ -193,13 +195,13 @@ module _ (w : Pieces) (ahead : HasAhead w) (none : w.rings ≡ 0) (some : 0 < w.
           dimension = p.dimension;
         }) p
     polygon_takes three =
-        takes ends (λ g. rings_inside w.bytes.now w.at 0 g p (is g) next ends three) p.count (w.geometries - 1) refl
+        takes ends (λ g. rings_inside w.bytes.now w.at g p (is g) next ends three) p.count (w.geometries - 1) refl
         (omega arith)
 
     module _ (high : 3 < p.kind) (other : p.kind ≢ 3) where
       pub members_takes : Takes w (record w { at = next; geometries = w.geometries - 1 + p.count }) p
       members_takes =
-          takes ends (λ g. members_inside w.bytes.now w.at 0 g p (is g) next ends
+          takes ends (λ g. members_inside w.bytes.now w.at g p (is g) next ends
           (le-ltb p.kind 3 (omega (arith, high))) other w.order w.dimension)
           w.rings (w.geometries - 1 + p.count) none refl
 
@@ -207,7 +209,8 @@ module _ (w : Pieces) (ahead : HasAhead w) (none : w.rings ≡ 0) (some : 0 < w.
       pub members_few : w.geometries - 1 + p.count ≤ length w.bytes.now
       members_few =
           let a = (members_takes.steps ahead.pieces ahead.are).ahead in
-          omega (arith, few_geometries _ _ _ a.all, length-drop a.after w.bytes.now)
+          let from = last_end next (first_rings w.order w.dimension w.rings (drop next w.bytes.now)) in
+          omega (arith, few_geometries _ _ _ a.all, length-drop from w.bytes.now)
 
 -- ---- the iterator
 

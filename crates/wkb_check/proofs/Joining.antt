@@ -1,12 +1,11 @@
 -- Geometries one after another, and the first of them.
 use Rattle.std.proofs.Common.{◌≡◌, ℕ, ◌+◌, ◌≤◌, List, ◌++◌, length, sym, ap, subst, arith}
-use Rattle.std.proofs.Common.{length-append, append_assoc, add-zero}
-use Rattle.std.proofs.Math.Nat.{add_assoc}
+use Rattle.std.proofs.Common.{length-append, append_assoc, refl, ◌∙◌}
 use Rattle.wkb_laws.specs.Prelude.{Value, Values, no_members, member, count}
 use Rattle.wkb_laws.specs.Prelude.{Spelling, Spellings, no_spellings, spelling, SpellsEach, any, Front}
 use Rattle.wkb_laws.proofs.Parts.{then_length, then_append}
 use Rattle.wkb_check.specs.Known.{HasGeometry, HasGeometries}
-use Rattle.wkb_check.specs.Pieces.{pieces_of_each, size, sizes}
+use Rattle.wkb_check.specs.Subjects.{subjects, subjects_of_each}
 use Rattle.wkb_check.proofs.Bodies.{spelled_long}
 
 abbrev pub join_spellings : Spellings → Spellings → Spellings
@@ -17,22 +16,22 @@ abbrev pub join_values : Values → Values → Values
 join_values no_members vs = vs
 join_values (member t ts) vs = member t (join_values ts vs)
 
--- these geometries are there, and their pieces are those of the two, one after another
-pub record Joined (at : ℕ) (ss us : Spellings) (ts vs : Values) (bytes : List ℕ) : Type 0 where
+-- these geometries are there, and their subjects are those of the two, one after another
+pub record Joined (ss us : Spellings) (ts vs : Values) (bytes : List ℕ) : Type 0 where
   pub many : count (join_values ts vs) ≡ count ts + count vs
   pub spelled : SpellsEach any (join_spellings ss us) (join_values ts vs) bytes
-  pub pieces : pieces_of_each at (join_spellings ss us) (join_values ts vs)
-      ≡ pieces_of_each at ss ts ++ pieces_of_each (at + sizes ss ts) us vs
+  pub are : subjects_of_each (join_spellings ss us) (join_values ts vs)
+      ≡ subjects_of_each ss ts ++ subjects_of_each us vs
 
-pub joined : (at : ℕ) (ss us : Spellings) (ts vs : Values) (x y : List ℕ) → SpellsEach any ss ts x
-    → SpellsEach any us vs y → Joined at ss us ts vs (x ++ y)
-joined at no_spellings us no_members vs x y h k = record {
+pub joined : (ss us : Spellings) (ts vs : Values) (x y : List ℕ) → SpellsEach any ss ts x
+    → SpellsEach any us vs y → Joined ss us ts vs (x ++ y)
+joined no_spellings us no_members vs x y h k = record {
   many = omega arith;
   spelled = subst (λ z. SpellsEach any us vs (z ++ y)) (sym h) k;
-  pieces = simp add-zero;
+  are = refl;
 }
-joined at (spelling s ss) us (member t ts) vs x y h k =
-    let o = joined (at + size s t) ss us ts vs h.rest y h.second k in
+joined (spelling s ss) us (member t ts) vs x y h k =
+    let o = joined ss us ts vs h.rest y h.second k in
     record {
       many = omega (arith, o.many);
       spelled = record {
@@ -42,9 +41,11 @@ joined at (spelling s ss) us (member t ts) vs x y h k =
         first = h.first;
         second = o.spelled;
       };
-      pieces = simp (o.pieces, append_assoc, add_assoc);
+      are =
+          ap (λ l. subjects s t ++ l) o.are
+          ∙ sym (append_assoc (subjects s t) (subjects_of_each ss ts) (subjects_of_each us vs));
     }
-joined at _ us _ vs x y h k = absurd h
+joined _ us _ vs x y h k = absurd h
 
 -- each has a byte at least
 each_some : (ss : Spellings) (ts : Values) (x : List ℕ) → SpellsEach any ss ts x → count ts ≤ length x

@@ -1,5 +1,5 @@
 -- Geometries one after another, from their bytes into a table.
-use Rattle.std.proofs.Common.{◌≡◌, ◌≢◌, ℕ, suc, ◌+◌, ◌<◌, ◌≤◌, List, [], ◌∷◌, ◌++◌, length, drop, set}
+use Rattle.std.proofs.Common.{◌≡◌, ◌≢◌, ℕ, zero, suc, ◌+◌, ◌<◌, ◌≤◌, List, [], ◌∷◌, ◌++◌, length, drop, set}
 use Rattle.std.proofs.Common.{refl, sym, ap, ◌∙◌, subst, arith, length-append, append-nil, length-drop}
 use Rattle.std.proofs.Common.{None, Some, is_some, true, false, nat_lt, le-ltb, ltb-false, add-one}
 use Rattle.std.proofs.lemmas.Bool.{cond_both}
@@ -11,17 +11,17 @@ use Rattle.wkb_laws.specs.Prelude.{collection, no_members, member, members, coun
 use Rattle.wkb_laws.specs.Prelude.{Spelling, node, Spellings, no_spellings, spelling, SpellsBody, Spells, SpellsEach}
 use Rattle.wkb_laws.specs.Prelude.{Wanted, SpellsCoordinates, IsEach, any, ring_end}
 use Rattle.wkb_geom.specs.Grammar.{Then}
-use Rattle.wkb_geom.specs.Numbers.{order_byte}
+use Rattle.wkb_geom.specs.Numbers.{number}
 use Rattle.wkb_geom.specs.Refusals.{srid_size}
 use Rattle.wkb_geom.specs.Spellings.{Header, IsHeader, member_part}
 use Rattle.wkb_laws.proofs.Parts.{then_length, then_append, drop_front, header_length}
 use Rattle.wkb_laws.proofs.Lengths.{coordinate_length, coordinates_length}
 use Rattle.wkb_laws.proofs.Lists.{count-each}
-use Rattle.wkb_check.specs.Known.{HasGeometry, HasGeometries, AreWhole, decoded_rings}
-use Rattle.wkb_check.specs.Pieces.{count_of, leading, rings_of, size_of_rings, content_size, size, sizes, own_end}
-use Rattle.wkb_check.specs.Pieces.{piece_of, pieces_of, pieces_of_rings, pieces_of_each, IsInside}
-use Rattle.wkb_check.specs.Tables.{entry_of, ring_entries, geometry_entries, member_entries, entry_count, entry_counts}
-use Rattle.wkb_check.specs.Tables.{size_of_rings_from}
+use Rattle.wkb_check.specs.Known.{HasGeometry, HasGeometries, AreWhole}
+use Rattle.wkb_check.specs.Subjects.{Subject, whole, ring, rings_of, subjects, subjects_of_rings, subjects_of_each}
+use Rattle.wkb_check.specs.Pieces.{count_of, leading, own_end, piece_of, ring_piece, piece_at, last_end, pieces_from}
+use Rattle.wkb_check.specs.Pieces.{pieces_of, first_rings, IsInside}
+use Rattle.wkb_check.specs.Tables.{entry_of, entry_at, entries_from, geometry_entries}
 use Rattle.wkb_check.specs.declared.parts.Part.{Part}
 use Rattle.wkb_check.specs.declared.pieces.Piece.{Piece}
 use Rattle.wkb_check.proofs.Bodies.{RingsFirst, rings_first, wanted_by_any, rest_smaller}
@@ -95,100 +95,113 @@ pub body_stands : {input : List ℕ} {at : ℕ} {bytes rest : List ℕ} {Q : Lis
 body_stands {at = at} h t stands sp =
     rest_stands stands sp (body_at h at) (omega (arith, header_length h (kind t) (dimension t) sp.front sp.first))
 
--- ---- lengths
+-- ---- subjects one after another
 
-rings_length : (order : Endianness) (d : Dimension) (rings : List (List Coordinate)) (bytes : List ℕ)
+pub end_append : (at : ℕ) (xs ys : List Subject) → last_end at (xs ++ ys) ≡ last_end (last_end at xs) ys
+end_append at [] ys = refl
+end_append at (x ∷ xs) ys = end_append (own_end (piece_at at x)) xs ys
+
+-- each goes on
+own_onward : (at : ℕ) (x : Subject) → at < own_end (piece_at at x)
+own_onward at (whole (node h words ss) (point d c)) = omega arith
+own_onward at (whole (node h words ss) _) = omega arith
+own_onward at (ring order d cs) = omega arith
+
+pub end_onward : (at : ℕ) (xs : List Subject) → at ≤ last_end at xs
+end_onward at [] = omega arith
+end_onward at (x ∷ xs) = omega (arith, own_onward at x, end_onward (own_end (piece_at at x)) xs)
+
+-- they end where the bytes do that spell them
+rings_end : (order : Endianness) (d : Dimension) (at : ℕ) (rings : List (List Coordinate)) (bytes : List ℕ)
     → IsEach (SpellsCoordinates order d) rings bytes
-    → length bytes ≡ size_of_rings d rings
-rings_length order d [] bytes h = omega (arith, ap length h)
-rings_length order d (cs ∷ rings) bytes h =
+    → last_end at (subjects_of_rings order d rings) ≡ at + length bytes
+rings_end order d at [] bytes h = omega (arith, ap length h)
+rings_end order d at (cs ∷ rings) bytes h =
     omega (
       arith,
       then_length h,
       coordinates_length order d cs h.front h.first,
-      rings_length order d rings h.rest h.second,
+      rings_end order d (own_end (ring_piece order d at (length cs))) rings h.rest h.second,
     )
 
-body_length : (h : Header) (words : List ℕ) (t : Value) (bytes : List ℕ) → SpellsBody h.order words t bytes
-    → 5 + srid_size (is_some h.srid) + length bytes ≡ leading h t + content_size t
-body_length h words (point d None) bytes b = omega (arith, coordinate_length h.order d words bytes b.1)
-body_length h words (point d (Some c)) bytes b = omega (arith, coordinate_length h.order d c bytes b.2)
-body_length h words (line_string d cs) bytes b = omega (arith, coordinates_length h.order d cs bytes b.1)
-body_length h words (polygon d rings) bytes b =
+body_end : (at : ℕ) (h : Header) (words : List ℕ) (ss : Spellings) (t : Value) (bytes : List ℕ)
+    → SpellsBody h.order words t bytes
+    → last_end (own_end (piece_of at (node h words ss) t)) (subjects_of_rings h.order (dimension t) (rings_of t))
+    ≡ body_at h at + length bytes
+body_end at h words ss (point d None) bytes b = omega (arith, coordinate_length h.order d words bytes b.1)
+body_end at h words ss (point d (Some c)) bytes b = omega (arith, coordinate_length h.order d c bytes b.2)
+body_end at h words ss (line_string d cs) bytes b = omega (arith, coordinates_length h.order d cs bytes b.1)
+body_end at h words ss (polygon d rings) bytes b =
     omega (
       arith,
       then_length b.1,
       b.1.first.len,
-      rings_length h.order d rings b.1.rest b.1.second,
+      rings_end h.order d (counted_at h at) rings b.1.rest b.1.second,
     )
-body_length h words _ bytes b = omega (arith, b.1.len)
+body_end at h words ss _ bytes b = omega (arith, b.1.len)
 
 mutual
-  pub spelled_size : (s : Spelling) (t : Value) (bytes : List ℕ) → Spells s t bytes → length bytes ≡ size s t
-  spelled_size (node h words ss) t bytes sp =
+  pub spelled_end : (at : ℕ) (s : Spelling) (t : Value) (bytes : List ℕ) → Spells s t bytes
+      → last_end at (subjects s t) ≡ at + length bytes
+  spelled_end at (node h words ss) t bytes sp =
+      let from = own_end (piece_of at (node h words ss) t) in
+      let rings = subjects_of_rings h.order (dimension t) (rings_of t) in
       omega (
         arith,
         then_length sp,
         header_length h (kind t) (dimension t) sp.front sp.first,
         then_length sp.second,
-        body_length h words t sp.second.front sp.second.first,
-        spelled_sizes _ ss (members t) sp.second.rest sp.second.second,
+        body_end at h words ss t sp.second.front sp.second.first,
+        end_append from rings (subjects_of_each ss (members t)),
+        each_end (last_end from rings) _ ss (members t) sp.second.rest sp.second.second,
       )
 
-  spelled_sizes : (w : Wanted) (ss : Spellings) (ts : Values) (bytes : List ℕ) → SpellsEach w ss ts bytes
-      → length bytes ≡ sizes ss ts
-  spelled_sizes w no_spellings no_members bytes sp = ap length sp
-  spelled_sizes w (spelling s ss) (member t ts) bytes sp =
+  each_end : (at : ℕ) (w : Wanted) (ss : Spellings) (ts : Values) (bytes : List ℕ) → SpellsEach w ss ts bytes
+      → last_end at (subjects_of_each ss ts) ≡ at + length bytes
+  each_end at w no_spellings no_members bytes sp = omega (arith, ap length sp)
+  each_end at w (spelling s ss) (member t ts) bytes sp =
       omega (
         arith,
         then_length sp,
-        spelled_size s t sp.front sp.first.0,
-        spelled_sizes w ss ts sp.rest sp.second,
+        spelled_end at s t sp.front sp.first.0,
+        end_append at (subjects s t) (subjects_of_each ss ts),
+        each_end (last_end at (subjects s t)) w ss ts sp.rest sp.second,
       )
-  spelled_sizes w _ _ bytes sp = absurd sp
+  each_end at w _ _ bytes sp = absurd sp
 
 -- what follows a geometry
-pub behind_geometry : (buf : List ℕ) (at next : ℕ) (g : HasGeometry (drop at buf)) → next ≡ at + size g.spelled g.value
-    → (drop next buf ≡ g.rest) × (next ≤ length buf)
+pub behind_geometry : (buf : List ℕ) (at next : ℕ) (g : HasGeometry (drop at buf))
+    → next ≡ last_end at (subjects g.spelled g.value) → (drop next buf ≡ g.rest) × (next ≤ length buf)
 behind_geometry buf at next g e =
     let b = g.begins in
-    let long = spelled_size g.spelled g.value b.front b.first in
-    (cut buf at _ next b.front g.rest b.whole long e, omega (arith, e, long, (geometry_stands buf at g).inside))
+    let to = e ∙ spelled_end at g.spelled g.value b.front b.first in
+    (cut buf at _ next b.front g.rest b.whole refl to, omega (arith, to, (geometry_stands buf at g).inside))
 
-rings_many : (d : Dimension) (order index at : ℕ) (rings : List (List Coordinate))
-    → length (ring_entries d order index at rings) ≡ length rings
-rings_many d order index at [] = refl
-rings_many d order index at (cs ∷ rings) =
-    omega (arith, rings_many d order (index + 1) (at + ring_end d (length cs)) rings)
+pub rings_many : (order : Endianness) (d : Dimension) (rings : List (List Coordinate))
+    → length (subjects_of_rings order d rings) ≡ length rings
+rings_many order d [] = refl
+rings_many order d (cs ∷ rings) = omega (arith, rings_many order d rings)
 
-mutual
-  pub entries_are : (index at : ℕ) (s : Spelling) (t : Value) → length (geometry_entries index at s t) ≡ entry_count s t
-  entries_are index at (node h words ss) t =
-      simp (length-append, rings_many)
-      (omega (arith, members_are (index + 1) (at + leading h t) ss (members t)))
+pub as_many_entries : (index at : ℕ) (xs : List Subject) → length (entries_from index at xs) ≡ length xs
+as_many_entries index at [] = refl
+as_many_entries index at (x ∷ xs) = omega (arith, as_many_entries (index + 1) (own_end (piece_at at x)) xs)
 
-  members_are : (index at : ℕ) (ss : Spellings) (ts : Values)
-      → length (member_entries index at ss ts) ≡ entry_counts ss ts
-  members_are index at ss no_members = refl
-  members_are index at no_spellings (member t ts) = refl
-  members_are index at (spelling s ss) (member t ts) =
-      simp length-append
-      (omega (arith, entries_are index at s t, members_are (index + entry_count s t) (at + size s t) ss ts))
+pub entries_append : (index at next to : ℕ) (xs ys : List Subject) → next ≡ index + length xs → to ≡ last_end at xs
+    → entries_from index at xs ++ entries_from next to ys ≡ entries_from index at (xs ++ ys)
+entries_append index at next to [] ys n e =
+    let here : next ≡ index = omega (arith, n) in
+    λ i. entries_from (here i) (e i) ys
+entries_append index at next to (x ∷ xs) ys n e =
+    ap (λ es. entry_at index at x ∷ es)
+    (entries_append (index + 1) (own_end (piece_at at x)) next to xs ys (omega (arith, n)) e)
 
 -- ---- the first of some geometries
 
 pub record First (n : ℕ) (bytes more : List ℕ) (all : HasGeometries n bytes more) (m : ℕ) : Type 0 where
   pub geometry : HasGeometry bytes
   pub others : HasGeometries m geometry.rest more
-  pub spelled_is : all.spelled ≡ spelling geometry.spelled others.spelled
-  pub values_is : all.values ≡ member geometry.value others.values
-
--- what is made of all geometries is made of the first and the others
-pub of_first : {A : Type 0} (make : Spellings → Values → A) {n m : ℕ} {bytes more : List ℕ}
-    {all : HasGeometries n bytes more} (f : First n bytes more all m)
-    → make all.spelled all.values
-    ≡ make (spelling f.geometry.spelled f.others.spelled) (member f.geometry.value f.others.values)
-of_first make f = λ i. make (f.spelled_is i) (f.values_is i)
+  pub are : subjects_of_each all.spelled all.values
+      ≡ subjects geometry.spelled geometry.value ++ subjects_of_each others.spelled others.values
 
 first_by : (n m : ℕ) (bytes more : List ℕ) (ss : Spellings) (ts : Values)
     (b : Begins (SpellsEach any ss ts) bytes more) (counted : n ≡ count ts) → n ≡ suc m
@@ -210,8 +223,7 @@ first_by n m bytes more (spelling s ss) (member t ts) b counted e =
         begins = record { front = h.rest; whole = refl; first = h.second };
         counted = omega (arith, counted, e);
       };
-      spelled_is = refl;
-      values_is = refl;
+      are = refl;
     }
 
 pub first_one : (n m : ℕ) (bytes more : List ℕ) (all : HasGeometries n bytes more) → n ≡ suc m
@@ -261,76 +273,64 @@ none_at e = record {
   counted = refl;
 }
 
--- ---- the entries of what is inside a geometry
-
-pub inner_entries : ℕ → ℕ → Spelling → Value → List Part
-inner_entries index at (node h words ss) t =
-    ring_entries (dimension t) (order_byte h.order) (index + 1) (at + leading h t) (rings_of t)
-    ++ member_entries (index + 1) (at + leading h t) ss (members t)
-
-own_entry : (index at : ℕ) (s : Spelling) (t : Value)
-    → entry_of (piece_of at s t) (at + size s t) (index + entry_count s t) ∷ inner_entries index at s t
-    ≡ geometry_entries index at s t
-unfolding inner_entries
-own_entry index at (node h words ss) t = refl
-
 -- ---- what is inside a geometry, by its kind
 
-pub inner_pieces : ℕ → Spelling → Value → List Piece
-inner_pieces at (node h words ss) t =
-    pieces_of_rings h.order (dimension t) (at + leading h t) (rings_of t)
-    ++ pieces_of_each (at + leading h t) ss (members t)
+pub inner : Spelling → Value → List Subject
+inner (node h words ss) t = subjects_of_rings h.order (dimension t) (rings_of t) ++ subjects_of_each ss (members t)
 
-pub own_piece : (at : ℕ) (s : Spelling) (t : Value) → pieces_of at s t ≡ piece_of at s t ∷ inner_pieces at s t
-unfolding inner_pieces
-own_piece at (node h words ss) t = refl
+pub itself_first : (s : Spelling) (t : Value) → subjects s t ≡ whole s t ∷ inner s t
+unfolding inner
+itself_first (node h words ss) t = refl
 
 -- inside a geometry there are so many rings from this byte on, and so many members behind them
-pub record Inside (buf : List ℕ) (at index : ℕ) (s : Spelling) (t : Value) (more : List ℕ) (order : Endianness)
-    (d : Dimension) (rings n from after : ℕ) : Type 0 where
+pub record Inside (buf : List ℕ) (s : Spelling) (t : Value) (more : List ℕ) (order : Endianness) (d : Dimension)
+    (rings n from : ℕ) : Type 0 where
   pub whole : AreWhole order d rings (drop from buf)
-  pub after_is : after ≡ from + size_of_rings d (decoded_rings order d rings (drop from buf))
-  pub all : HasGeometries n (drop after buf) more
-  pub long : after + sizes all.spelled all.values ≡ at + size s t
-  pub counts : entry_count s t ≡ 1 + rings + entry_counts all.spelled all.values
-  pub entries : ring_entries d (order_byte order) (index + 1) from (decoded_rings order d rings (drop from buf))
-      ++ member_entries (index + 1) after all.spelled all.values
-      ≡ inner_entries index at s t
-  pub pieces : pieces_of_rings order d from (decoded_rings order d rings (drop from buf))
-      ++ pieces_of_each after all.spelled all.values
-      ≡ inner_pieces at s t
+  pub all : HasGeometries n (drop (last_end from (first_rings order d rings (drop from buf))) buf) more
+  pub are : inner s t ≡ first_rings order d rings (drop from buf) ++ subjects_of_each all.spelled all.values
 
--- rings are inside, and no members
-pub rings_alone : {buf more : List ℕ} {at index : ℕ} {s : Spelling} {t : Value} {order : Endianness} {d : Dimension}
-    {rings from after : ℕ} → Inside buf at index s t more order d rings 0 from after
-    → (ring_entries d (order_byte order) (index + 1) from (decoded_rings order d rings (drop from buf))
-    ≡ inner_entries index at s t) × (entry_count s t ≡ 1 + rings) × (after ≡ at + size s t)
-rings_alone {buf} {index = index} {order = order} {d} {rings} {from} {after} i =
-    let own = ring_entries d (order_byte order) (index + 1) from (decoded_rings order d rings (drop from buf)) in
-    let none = none_of i.all.values i.all.counted in (
-      sym (append-nil own)
-          ∙ ap (λ ts. own ++ member_entries (index + 1) after i.all.spelled ts) (sym none) ∙ i.entries,
-      omega (arith, i.counts, ap (entry_counts i.all.spelled) none),
-      omega (arith, i.long, ap (sizes i.all.spelled) none),
+-- the first n rings are so many
+first_many : (order : Endianness) (d : Dimension) (n : ℕ) (bytes : List ℕ) → length (first_rings order d n bytes) ≡ n
+first_many order d zero bytes = refl
+first_many order d (suc n) bytes =
+    omega (arith, first_many order d n (drop (ring_end d (number order 4 bytes)) bytes))
+
+-- so many entries are inside
+pub inside_many : {buf more : List ℕ} {s : Spelling} {t : Value} {order : Endianness} {d : Dimension}
+    {rings n from : ℕ} → (i : Inside buf s t more order d rings n from)
+    → length (subjects s t) ≡ 1 + rings + length (subjects_of_each i.all.spelled i.all.values)
+inside_many {buf} {s = s} {t} {order} {d} {rings} {from = from} i =
+    omega (
+      arith,
+      ap length (itself_first s t),
+      ap length i.are,
+      length-append (first_rings order d rings (drop from buf)) (subjects_of_each i.all.spelled i.all.values),
+      first_many order d rings (drop from buf),
     )
 
+-- rings are inside, and no members
+pub rings_alone : {buf more : List ℕ} {s : Spelling} {t : Value} {order : Endianness} {d : Dimension}
+    {rings from : ℕ} → Inside buf s t more order d rings 0 from
+    → (first_rings order d rings (drop from buf) ≡ inner s t) × (length (subjects s t) ≡ 1 + rings)
+rings_alone {buf} {order = order} {d} {rings} {from} i =
+    let own = first_rings order d rings (drop from buf) in
+    let none = ap (subjects_of_each i.all.spelled) (none_of i.all.values i.all.counted) in
+    (sym (i.are ∙ ap (λ xs. own ++ xs) none ∙ append-nil own), omega (arith, inside_many i, ap length none))
+
 -- it has coordinates
-leaf : (at index : ℕ) (s : Spelling) (t : Value) → nat_lt (kind t) 3 ≡ true
-    → (own_end (piece_of at s t) ≡ at + size s t) × (entry_count s t ≡ 1) × (inner_entries index at s t ≡ [])
-    × (inner_pieces at s t ≡ [])
-unfolding inner_entries inner_pieces
-leaf at index (node h words ss) (point d c) e = (omega arith, refl, refl, refl)
-leaf at index (node h words ss) (line_string d cs) e = (omega arith, refl, refl, refl)
-leaf at index (node h words ss) _ e = absurd cc
+leaf : (s : Spelling) (t : Value) → nat_lt (kind t) 3 ≡ true → inner s t ≡ []
+unfolding inner
+leaf (node h words ss) (point d c) e = refl
+leaf (node h words ss) (line_string d cs) e = refl
+leaf (node h words ss) _ e = absurd cc
 
 -- it has rings
-has_rings : (buf : List ℕ) (at index : ℕ) (s : Spelling) (t : Value) (rest : List ℕ)
+has_rings : (buf : List ℕ) (at : ℕ) (s : Spelling) (t : Value) (rest : List ℕ)
     → Begins (Spells s t) (drop at buf) rest → kind t ≡ 3
-    → Inside buf at index s t rest (piece_of at s t).order (piece_of at s t).dimension (piece_of at s t).count 0
+    → Inside buf s t rest (piece_of at s t).order (piece_of at s t).dimension (piece_of at s t).count 0
     (own_end (piece_of at s t))
-    (own_end (piece_of at s t) + size_of_rings_from buf (piece_of at s t) (own_end (piece_of at s t)))
-unfolding inner_entries inner_pieces
-has_rings buf at index (node h words ss) (polygon d rings) rest b e =
+unfolding inner
+has_rings buf at (node h words ss) (polygon d rings) rest b e =
     let t = polygon d rings in
     let g : HasGeometry (drop at buf) = record { spelled = node h words ss; value = t; rest = rest; begins = b } in
     let y = b.first.second in
@@ -341,18 +341,16 @@ has_rings buf at index (node h words ss) (polygon d rings) rest b e =
     let found : RingsFirst h.order d rings (length rings) (drop from buf) =
     subst (RingsFirst h.order d rings (length rings)) (sym stands.is)
     (rings_first h.order d rings z.rest (y.rest ++ rest) z.second) in
-    let long : from + size_of_rings d (decoded_rings h.order d (length rings) (drop from buf))
-    ≡ at + size (node h words ss) t = omega (arith, ap (size_of_rings d) found.are) in
+    let rings_are : first_rings h.order d (length rings) (drop from buf) ≡ subjects_of_rings h.order d rings =
+    ap (subjects_of_rings h.order d) found.are in
     record {
       whole = found.whole;
-      after_is = refl;
-      all = none_at (behind_geometry buf at _ g long).0;
-      long = omega (arith, long);
-      counts = omega arith;
-      entries = ap (λ rs. ring_entries d (order_byte h.order) (index + 1) from rs ++ []) found.are;
-      pieces = ap (λ rs. pieces_of_rings h.order d from rs ++ []) found.are;
+      all =
+          none_at (behind_geometry buf at _ g
+          (ap (last_end from) (rings_are ∙ sym (append-nil (subjects_of_rings h.order d rings))))).0;
+      are = ap (λ rs. rs ++ []) (sym rings_are);
     }
-has_rings buf at index (node h words ss) _ rest b e = absurd (omega (arith, e))
+has_rings buf at (node h words ss) _ rest b e = absurd (omega (arith, e))
 
 -- it has members
 members_many : (t : Value) → nat_lt (kind t) 4 ≡ false → count_of t ≡ count (members t)
@@ -362,21 +360,19 @@ members_many (multi_polygon d polygons) e = sym (count-each (polygon d) polygons
 members_many (collection d ts) e = refl
 members_many _ e = absurd cc
 
-has_members : (buf : List ℕ) (at index : ℕ) (s : Spelling) (t : Value) (rest : List ℕ)
+has_members : (buf : List ℕ) (at : ℕ) (s : Spelling) (t : Value) (rest : List ℕ)
     → Begins (Spells s t) (drop at buf) rest → nat_lt (kind t) 4 ≡ false → (order : Endianness) (d : Dimension)
-    → Inside buf at index s t rest order d 0 (piece_of at s t).count (own_end (piece_of at s t))
-    (own_end (piece_of at s t))
-unfolding inner_entries inner_pieces
-has_members buf at index (node h words ss) (point d c) rest b e order f = absurd cc
-has_members buf at index (node h words ss) (line_string d cs) rest b e order f = absurd cc
-has_members buf at index (node h words ss) (polygon d rings) rest b e order f = absurd cc
-has_members buf at index (node h words ss) t rest b e order f =
+    → Inside buf s t rest order d 0 (piece_of at s t).count (own_end (piece_of at s t))
+unfolding inner
+has_members buf at (node h words ss) (point d c) rest b e order f = absurd cc
+has_members buf at (node h words ss) (line_string d cs) rest b e order f = absurd cc
+has_members buf at (node h words ss) (polygon d rings) rest b e order f = absurd cc
+has_members buf at (node h words ss) t rest b e order f =
     let g : HasGeometry (drop at buf) = record { spelled = node h words ss; value = t; rest = rest; begins = b } in
     let y = b.first.second in
     let body = body_stands h t (geometry_stands buf at g) b.first in
     record {
       whole = tt;
-      after_is = omega arith;
       all = record {
         spelled = ss;
         values = members t;
@@ -387,33 +383,27 @@ has_members buf at index (node h words ss) t rest b e order f =
         };
         counted = members_many t e;
       };
-      long = omega arith;
-      counts = omega arith;
-      entries = refl;
-      pieces = refl;
+      are = refl;
     }
 
-own_inside : (at : ℕ) (s : Spelling) (t : Value) → own_end (piece_of at s t) ≤ at + size s t
-own_inside at (node h words ss) (point d c) = omega arith
-own_inside at (node h words ss) _ = omega arith
-
-own_onward : (at : ℕ) (s : Spelling) (t : Value) → at < (piece_of at s t).offset
-own_onward at (node h words ss) (point d c) = omega arith
-own_onward at (node h words ss) _ = omega arith
+begins_onward : (at : ℕ) (s : Spelling) (t : Value) → at < (piece_of at s t).offset
+begins_onward at (node h words ss) (point d c) = omega arith
+begins_onward at (node h words ss) _ = omega arith
 
 -- the piece of a geometry begins and ends inside the bytes
 pub geometry_inside : (buf : List ℕ) (at to : ℕ) (g : HasGeometry (drop at buf)) (p : Piece)
     → p ≡ piece_of at g.spelled g.value → to ≡ own_end p
     → IsInside buf at to p
 geometry_inside buf at to g p is ends = record {
-  begins = omega (arith, ap (λ (q : Piece). q.offset) is, own_onward at g.spelled g.value);
+  begins = omega (arith, ap (λ (q : Piece). q.offset) is, begins_onward at g.spelled g.value);
   ends = ends;
   inside =
       omega (
         arith,
         ends,
         ap own_end is,
-        own_inside at g.spelled g.value,
+        ap (last_end at) (itself_first g.spelled g.value),
+        end_onward (own_end (piece_of at g.spelled g.value)) (inner g.spelled g.value),
         (behind_geometry buf at _ g refl).1,
       );
 }
@@ -430,62 +420,65 @@ onward buf from to p i =
 piece_kind : (at : ℕ) (s : Spelling) (t : Value) → (piece_of at s t).kind ≡ kind t
 piece_kind at (node h words ss) t = refl
 
-module _ (buf : List ℕ) (at index : ℕ) (g : HasGeometry (drop at buf)) (p : Piece)
+module _ (buf : List ℕ) (at : ℕ) (g : HasGeometry (drop at buf)) (p : Piece)
     (is : p ≡ piece_of at g.spelled g.value) where
   kind_of : p.kind ≡ kind g.value
   kind_of = ap (λ (q : Piece). q.kind) is ∙ piece_kind at g.spelled g.value
 
-  pub leaf_of : nat_lt p.kind 3 ≡ true → (own_end p ≡ at + size g.spelled g.value)
-      × (entry_count g.spelled g.value ≡ 1) × (inner_entries index at g.spelled g.value ≡ [])
-      × (inner_pieces at g.spelled g.value ≡ [])
-  leaf_of low =
-      let l = leaf at index g.spelled g.value (ap (λ k. nat_lt k 3) (sym kind_of) ∙ low) in
-      (ap own_end is ∙ l.0, l.1, l.2, l.3)
+  pub leaf_of : nat_lt p.kind 3 ≡ true → inner g.spelled g.value ≡ []
+  leaf_of low = leaf g.spelled g.value (ap (λ k. nat_lt k 3) (sym kind_of) ∙ low)
+
+  -- a geometry with coordinates of its own is its only piece
+  pub only_piece : nat_lt p.kind 3 ≡ true → pieces_of at g.spelled g.value ≡ p ∷ []
+  only_piece low =
+      ap (pieces_from at) (itself_first g.spelled g.value)
+      ∙ (λ i. sym is i ∷ pieces_from (own_end (sym is i)) (leaf_of low i))
 
   module _ (end : ℕ) (ends : end ≡ own_end p) where
-    pub leaf_inside : nat_lt p.kind 3 ≡ true → (order : Endianness) (d : Dimension)
-        → Inside buf at index g.spelled g.value g.rest order d 0 0 end end
-    leaf_inside low order d =
-        let l = leaf_of low in
-        record {
-          whole = tt;
-          after_is = omega arith;
-          all = none_at (behind_geometry buf at end g (ends ∙ l.0)).0;
-          long = omega (arith, ends, l.0);
-          counts = omega (arith, l.1);
-          entries = sym l.2;
-          pieces = sym l.3;
-        }
+    -- where what is inside ends, it ends itself
+    pub inner_end : last_end end (inner g.spelled g.value) ≡ last_end at (subjects g.spelled g.value)
+    inner_end =
+        (λ i. last_end ((ends ∙ ap own_end is) i) (inner g.spelled g.value))
+        ∙ ap (last_end at) (sym (itself_first g.spelled g.value))
 
-    pub rings_inside : p.kind ≡ 3
-        → Inside buf at index g.spelled g.value g.rest p.order p.dimension p.count 0 end
-        (end + size_of_rings_from buf p end)
+    pub leaf_inside : nat_lt p.kind 3 ≡ true → (order : Endianness) (d : Dimension)
+        → Inside buf g.spelled g.value g.rest order d 0 0 end
+    leaf_inside low order d = record {
+      whole = tt;
+      all = none_at (behind_geometry buf at end g (ap (last_end end) (sym (leaf_of low)) ∙ inner_end)).0;
+      are = leaf_of low;
+    }
+
+    pub rings_inside : p.kind ≡ 3 → Inside buf g.spelled g.value g.rest p.order p.dimension p.count 0 end
     rings_inside three =
-        rw (ends, is) (has_rings buf at index g.spelled g.value g.rest g.begins (sym kind_of ∙ three))
+        rw (ends, is) (has_rings buf at g.spelled g.value g.rest g.begins (sym kind_of ∙ three))
 
     pub members_inside : nat_lt p.kind 3 ≡ false → p.kind ≢ 3 → (order : Endianness) (d : Dimension)
-        → Inside buf at index g.spelled g.value g.rest order d 0 p.count end end
+        → Inside buf g.spelled g.value g.rest order d 0 p.count end
     members_inside high other order d =
         let more : nat_lt (kind g.value) 4 ≡ false =
         le-ltb (kind g.value) 4 (omega (arith, kind_of, other, ltb-false p.kind 3 high)) in
-        rw (ends, is) (has_members buf at index g.spelled g.value g.rest g.begins more order d)
+        rw (ends, is) (has_members buf at g.spelled g.value g.rest g.begins more order d)
 
 -- The entry of this geometry and of what is inside it are put at this index, and the next place is the one after them.
 pub record IsPut (parts new : List Part) (index at next to : ℕ) (s : Spelling) (t : Value) : Type 0 where
   pub put : new ≡ sets parts index (geometry_entries index at s t)
-  pub next_is : next ≡ index + entry_count s t
-  pub to_is : to ≡ at + size s t
+  pub next_is : next ≡ index + length (subjects s t)
+  pub to_is : to ≡ last_end at (subjects s t)
 
 -- so it is where the own entry is put after those of what is inside
 pub item_put : (index at : ℕ) (s : Spelling) (t : Value) (p : Piece) → p ≡ piece_of at s t
-    → (parts with : List Part) (next to : ℕ) (e : Part) → with ≡ sets parts (index + 1) (inner_entries index at s t)
-    → next ≡ index + entry_count s t → to ≡ at + size s t → e ≡ entry_of p to next
+    → (parts with : List Part) (from next to : ℕ) (e : Part) → from ≡ own_end p
+    → with ≡ sets parts (index + 1) (entries_from (index + 1) from (inner s t))
+    → next ≡ index + length (subjects s t) → to ≡ last_end at (subjects s t) → e ≡ entry_of p to next
     → IsPut parts (set with index e) index at next to s t
-item_put index at s t p p-is parts with next to e put n b e-is = record {
+item_put index at s t p p-is parts with from next to e ends put n b e-is = record {
   put =
-      put_first parts with index e (inner_entries index at s t) put
-      ∙ (λ j. sets parts index ((e-is ∙ (λ k. entry_of (p-is k) (b k) (n k))) j ∷ inner_entries index at s t))
-      ∙ ap (sets parts index) (own_entry index at s t);
+      put_first parts with index e (entries_from (index + 1) from (inner s t)) put
+      ∙ (λ j. sets parts index
+      ((e-is ∙ (λ k. entry_of (p-is k) (b k) (n k))) j
+      ∷ entries_from (index + 1) ((ends ∙ ap own_end p-is) j) (inner s t)))
+      ∙ ap (λ xs. sets parts index (entries_from index at xs)) (sym (itself_first s t));
   next_is = n;
   to_is = b;
 }

@@ -1,140 +1,100 @@
 -- Where the subjects of a geometry stand in its bytes, and what its pieces and entries say of them.
 use Rattle.std.proofs.Common.{◌≡◌, ℕ, ◌+◌, ◌*◌, ◌≤◌, List, [], ◌∷◌, ◌++◌, length, drop, Some, None}
-use Rattle.std.proofs.Common.{refl, sym, ap, subst, ◌∙◌, arith, append-nil, nat_lt, if◌then◌else◌, true, false}
+use Rattle.std.proofs.Common.{refl, sym, ap, ◌∙◌, arith, append-nil, nat_lt, if◌then◌else◌, true, false}
 use Rattle.std.proofs.lemmas.Bool.{cond-true}
-use Rattle.wkb_laws.specs.Prelude.{Endianness, Dimension, width, ring_end, Coordinate, Value, Values, point}
+use Rattle.wkb_laws.specs.Prelude.{Endianness, Dimension, width, Coordinate, Value, Values, point}
 use Rattle.wkb_laws.specs.Prelude.{line_string}
 use Rattle.wkb_laws.specs.Prelude.{polygon, no_members, member, members, kind, dimension, Spelling, node, Spellings}
 use Rattle.wkb_laws.specs.Prelude.{no_spellings, spelling, Spells, SpellsBody, SpellsCoordinate, SpellsCoordinates}
 use Rattle.wkb_laws.specs.Prelude.{SpellsEach, Wanted, Begins, coordinates, all_nan}
 use Rattle.wkb_geom.specs.Spellings.{Header}
 use Rattle.wkb_geom.specs.Grammar.{Then, IsEach}
-use Rattle.wkb_geom.specs.Numbers.{order_byte}
 use Rattle.wkb_geom.specs.Reading.{coordinate}
 use Rattle.wkb_laws.proofs.Lengths.{coordinate_length, coordinates_length}
 use Rattle.wkb_laws.proofs.Parts.{items_read, each_len, coordinate_read}
-use Rattle.wkb_check.specs.declared.parts.Part.{Part}
 use Rattle.wkb_check.specs.declared.pieces.Piece.{Piece}
-use Rattle.wkb_check.specs.Pieces.{leading, count_of, rings_of, size, piece_of, ring_piece, pieces_of, pieces_of_rings}
-use Rattle.wkb_check.specs.Pieces.{pieces_of_each}
-use Rattle.wkb_check.specs.Subjects.{Subject, whole, ring, dimension_in, subject_coordinates, SpellsSubject, subjects}
-use Rattle.wkb_check.specs.Subjects.{subjects_of_rings, subjects_of_each}
-use Rattle.wkb_check.specs.Tables.{entry, place, ring_place, entry_count, geometry_entries, ring_entries}
-use Rattle.wkb_check.specs.Tables.{member_entries}
-use Rattle.wkb_check.proofs.Placing.{spelled_size, geometry_stands, body_at, counted_at, body_stands, front_stands}
+use Rattle.wkb_check.specs.Subjects.{Subject, whole, ring, dimension_in, subject_coordinates, SpellsSubject, rings_of}
+use Rattle.wkb_check.specs.Subjects.{subjects, subjects_of_rings, subjects_of_each}
+use Rattle.wkb_check.specs.Pieces.{leading, count_of, own_end, piece_of, ring_piece, piece_at, last_end, pieces_from}
+use Rattle.wkb_check.specs.Pieces.{pieces_of}
+use Rattle.wkb_check.proofs.Placing.{spelled_end, geometry_stands, body_at, counted_at, body_stands, front_stands}
 use Rattle.wkb_check.proofs.Placing.{rest_stands}
 pub use Rattle.wkb_check.proofs.Placing.{Stands}
 
--- the entry of a subject that has this index and begins at this byte
-abbrev pub entry_at : ℕ → ℕ → Subject → Part
-entry_at index at (whole (node h words ss) t) =
-    entry (kind t) (dimension t) h.srid (order_byte h.order) (place index at h (node h words ss) t) (count_of t)
-entry_at index at (ring order d cs) =
-    entry 0 d None (order_byte order) (ring_place d index at (length cs)) (length cs)
-
--- the piece of one that begins at this byte
-abbrev pub piece_at : ℕ → Subject → Piece
-piece_at at (whole s t) = piece_of at s t
-piece_at at (ring order d cs) = ring_piece order d at (length cs)
-
 -- ---- subjects one after another
 
--- the bytes of the subject stand somewhere, and its entry and its piece say where
-pub record IsPlaced (input : List ℕ) (e : Part) (p : Piece) (x : Subject) : Type 0 where
-  pub index : ℕ
-  pub at : ℕ
+-- the bytes of the subject stand here
+pub record IsPlaced (input : List ℕ) (at : ℕ) (x : Subject) : Type 0 where
   pub bytes : List ℕ
   pub rest : List ℕ
   pub stands : Stands input at bytes rest
   pub spell : SpellsSubject x bytes
-  pub entry_is : e ≡ entry_at index at x
-  pub piece_is : p ≡ piece_at at x
 
-is_placed : {input : List ℕ} {at : ℕ} {bytes rest : List ℕ} (index : ℕ) (x : Subject) → Stands input at bytes rest
-    → SpellsSubject x bytes → IsPlaced input (entry_at index at x) (piece_at at x) x
-is_placed {at = at} {bytes = bytes} {rest = rest} index x stands sp = record {
-  index = index;
-  at = at;
-  bytes = bytes;
-  rest = rest;
-  stands = stands;
-  spell = sp;
-  entry_is = refl;
-  piece_is = refl;
-}
+-- so do those of each, where the one before ends
+abbrev pub ArePlaced : List ℕ → ℕ → List Subject → Type 0
+ArePlaced input at [] = Unit {0}
+ArePlaced input at (x ∷ xs) = IsPlaced input at x × ArePlaced input (own_end (piece_at at x)) xs
 
--- so do those of each, and there are as many entries and pieces as subjects
-abbrev pub ArePlaced : List ℕ → List Part → List Piece → List Subject → Type 0
-ArePlaced input [] [] [] = Unit {0}
-ArePlaced input (e ∷ es) (p ∷ ps) (x ∷ xs) = IsPlaced input e p x × ArePlaced input es ps xs
-ArePlaced input _ _ _ = ⊥
+placed_append : (input : List ℕ) (at : ℕ) (xs ys : List Subject) → ArePlaced input at xs
+    → ArePlaced input (last_end at xs) ys → ArePlaced input at (xs ++ ys)
+placed_append input at [] ys f g = g
+placed_append input at (x ∷ xs) ys f g = (f.0, placed_append input (own_end (piece_at at x)) xs ys f.1 g)
 
-placed_append : (input : List ℕ) (es fs : List Part) (ps qs : List Piece) (xs ys : List Subject)
-    → ArePlaced input es ps xs → ArePlaced input fs qs ys → ArePlaced input (es ++ fs) (ps ++ qs) (xs ++ ys)
-placed_append input [] fs [] qs [] ys f g = g
-placed_append input (e ∷ es) fs (p ∷ ps) qs (x ∷ xs) ys f g = (f.0, placed_append input es fs ps qs xs ys f.1 g)
-placed_append input _ fs _ qs _ ys f g = absurd f
+is_placed : {input : List ℕ} {at : ℕ} {bytes rest : List ℕ} (x : Subject) → Stands input at bytes rest
+    → SpellsSubject x bytes → IsPlaced input at x
+is_placed {bytes = bytes} {rest = rest} x stands sp =
+    record { bytes = bytes; rest = rest; stands = stands; spell = sp }
 
-rings_placed : {input : List ℕ} (order : Endianness) (d : Dimension) (rings : List (List Coordinate)) (index : ℕ)
-    {at : ℕ} {bytes rest : List ℕ} → Stands input at bytes rest
-    → IsEach (SpellsCoordinates order d) rings bytes
-    → ArePlaced input (ring_entries d (order_byte order) index at rings) (pieces_of_rings order d at rings)
-    (subjects_of_rings order d rings)
-rings_placed order d [] index stands h = tt
-rings_placed order d (cs ∷ rings) index {at} stands h = (
-  is_placed index (ring order d cs) (front_stands stands h) h.first,
-  rings_placed order d rings (index + 1)
-      (rest_stands stands h (at + ring_end d (length cs))
+rings_placed : {input : List ℕ} (order : Endianness) (d : Dimension) (rings : List (List Coordinate)) {at : ℕ}
+    {bytes rest : List ℕ} → Stands input at bytes rest → IsEach (SpellsCoordinates order d) rings bytes
+    → ArePlaced input at (subjects_of_rings order d rings)
+rings_placed order d [] stands h = tt
+rings_placed order d (cs ∷ rings) {at} stands h = (
+  is_placed (ring order d cs) (front_stands stands h) h.first,
+  rings_placed order d rings
+      (rest_stands stands h (own_end (ring_piece order d at (length cs)))
       (omega (arith, coordinates_length order d cs h.front h.first))) h.second,
 )
 
 -- The rings follow a count, and so do the members.
 inside_placed : {input : List ℕ} {bytes rest : List ℕ} {Q : List ℕ → Type 0} (h : Header) (words : List ℕ)
-    (ss : Spellings) (t : Value) (index at : ℕ) → Stands input (body_at h at) bytes rest
+    (ss : Spellings) (t : Value) (at : ℕ) → Stands input (body_at h at) bytes rest
     → (both : Then (SpellsBody h.order words t) Q bytes)
     → (Stands input (at + leading h t) both.rest rest
-    → ArePlaced input (member_entries index (at + leading h t) ss (members t))
-    (pieces_of_each (at + leading h t) ss (members t)) (subjects_of_each ss (members t)))
-    → ArePlaced input
-    (ring_entries (dimension t) (order_byte h.order) index (at + leading h t) (rings_of t)
-    ++ member_entries index (at + leading h t) ss (members t))
-    (pieces_of_rings h.order (dimension t) (at + leading h t) (rings_of t)
-    ++ pieces_of_each (at + leading h t) ss (members t))
+    → ArePlaced input (at + leading h t) (subjects_of_each ss (members t)))
+    → ArePlaced input (own_end (piece_of at (node h words ss) t))
     (subjects_of_rings h.order (dimension t) (rings_of t) ++ subjects_of_each ss (members t))
-inside_placed h words ss (point d c) index at stands both each = tt
-inside_placed h words ss (line_string d cs) index at stands both each = tt
-inside_placed h words ss (polygon d rings) index at stands both each =
+inside_placed h words ss (point d c) at stands both each = tt
+inside_placed h words ss (line_string d cs) at stands both each = tt
+inside_placed {input} h words ss (polygon d rings) at stands both each =
     let b = both.first.1 in
-    placed_append _ _ _ _ _ _ _ (rings_placed h.order d rings index
+    placed_append input (counted_at h at) (subjects_of_rings h.order d rings) []
+    (rings_placed h.order d rings
     (rest_stands (front_stands stands both) b (counted_at h at) (omega (arith, b.first.len))) b.second) tt
-inside_placed h words ss _ index at stands both each =
+inside_placed h words ss t at stands both each =
     each (rest_stands stands both (counted_at h at) (omega (arith, both.first.1.len)))
 
 mutual
-  placed : {input : List ℕ} (s : Spelling) (t : Value) (index : ℕ) {at : ℕ} {bytes rest : List ℕ}
-      → Stands input at bytes rest → Spells s t bytes
-      → ArePlaced input (geometry_entries index at s t) (pieces_of at s t) (subjects s t)
-  placed {input} (node h words ss) t index {at} stands sp = (
-    is_placed index (whole (node h words ss) t) stands sp,
-    inside_placed h words ss t (index + 1) at (body_stands h t stands sp) sp.second
-        (λ there. each_placed _ ss (members t) (index + 1) there sp.second.second),
+  placed : {input : List ℕ} (s : Spelling) (t : Value) {at : ℕ} {bytes rest : List ℕ}
+      → Stands input at bytes rest → Spells s t bytes → ArePlaced input at (subjects s t)
+  placed (node h words ss) t {at} stands sp = (
+    is_placed (whole (node h words ss) t) stands sp,
+    inside_placed h words ss t at (body_stands h t stands sp) sp.second
+        (λ there. each_placed _ ss (members t) there sp.second.second),
   )
 
-  each_placed : {input : List ℕ} (w : Wanted) (ss : Spellings) (ts : Values) (index : ℕ) {at : ℕ} {bytes rest : List ℕ}
-      → Stands input at bytes rest → SpellsEach w ss ts bytes
-      → ArePlaced input (member_entries index at ss ts) (pieces_of_each at ss ts) (subjects_of_each ss ts)
-  each_placed w ss no_members index stands sp = tt
-  each_placed w no_spellings (member t ts) index stands sp = tt
-  each_placed {input} w (spelling s ss) (member t ts) index {at} stands sp =
-      placed_append input _ _ _ _ _ _ (placed s t index (front_stands stands sp) sp.first.0)
-      (each_placed w ss ts (index + entry_count s t)
-      (rest_stands stands sp (at + size s t) (omega (arith, spelled_size s t sp.front sp.first.0))) sp.second)
+  each_placed : {input : List ℕ} (w : Wanted) (ss : Spellings) (ts : Values) {at : ℕ} {bytes rest : List ℕ}
+      → Stands input at bytes rest → SpellsEach w ss ts bytes → ArePlaced input at (subjects_of_each ss ts)
+  each_placed w ss no_members stands sp = tt
+  each_placed w no_spellings (member t ts) stands sp = tt
+  each_placed {input} w (spelling s ss) (member t ts) {at} stands sp =
+      placed_append input at (subjects s t) (subjects_of_each ss ts) (placed s t (front_stands stands sp) sp.first.0)
+      (each_placed w ss ts (rest_stands stands sp _ (spelled_end at s t sp.front sp.first.0)) sp.second)
 
 pub all_placed : (input : List ℕ) (at : ℕ) {rest : List ℕ} (s : Spelling) (t : Value)
-    → Begins (Spells s t) (drop at input) rest
-    → ArePlaced input (geometry_entries 0 at s t) (pieces_of at s t) (subjects s t)
+    → Begins (Spells s t) (drop at input) rest → ArePlaced input at (subjects s t)
 all_placed input at {rest} s t b =
-    placed s t 0 (geometry_stands input at (record { spelled = s; value = t; rest = rest; begins = b })) b.first
+    placed s t (geometry_stands input at (record { spelled = s; value = t; rest = rest; begins = b })) b.first
 
 -- ---- what a piece says of its subject
 
@@ -240,15 +200,11 @@ ArePiecesOf input [] [] = Unit {0}
 ArePiecesOf input (p ∷ ps) (x ∷ xs) = IsPieceOf input p x × ArePiecesOf input ps xs
 ArePiecesOf input _ _ = ⊥
 
-each_says : (input : List ℕ) (es : List Part) (ps : List Piece) (xs : List Subject) → ArePlaced input es ps xs
-    → ArePiecesOf input ps xs
-each_says input [] [] [] f = tt
-each_says input (e ∷ es) (p ∷ ps) (x ∷ xs) f = (
-  subst (λ p. IsPieceOf input p x) (sym f.0.piece_is) (says x f.0.stands f.0.spell),
-  each_says input es ps xs f.1,
-)
-each_says input _ _ _ f = absurd f
+each_says : (input : List ℕ) (at : ℕ) (xs : List Subject) → ArePlaced input at xs
+    → ArePiecesOf input (pieces_from at xs) xs
+each_says input at [] f = tt
+each_says input at (x ∷ xs) f = (says x f.0.stands f.0.spell, each_says input (own_end (piece_at at x)) xs f.1)
 
 pub pieces_match : (input : List ℕ) (at : ℕ) {rest : List ℕ} (s : Spelling) (t : Value)
     → Begins (Spells s t) (drop at input) rest → ArePiecesOf input (pieces_of at s t) (subjects s t)
-pieces_match input at s t g = each_says input (geometry_entries 0 at s t) _ _ (all_placed input at s t g)
+pieces_match input at s t g = each_says input at (subjects s t) (all_placed input at s t g)

@@ -1,7 +1,7 @@
 -- The pieces of a geometry in preorder: itself, and its rings and members at every level; where they are in its bytes,
 -- and what is still to come of them.
 use Rattle.std.specs.Prelude.{◌≡◌, ℕ, ◌+◌, ◌*◌, ◌<◌, ◌≤◌, List, [], ◌∷◌, ◌++◌, length, drop, Option, Some, None}
-use Rattle.std.specs.Prelude.{is_some, false, IfSome, ◌-◌}
+use Rattle.std.specs.Prelude.{is_some, false, IfSome, ◌-◌, slice_index_or}
 use Rattle.std.specs.Prelude.{nat_lt, if◌then◌else◌}
 use Rattle.wkb_geom.specs.declared.common.Dimension.{Dimension}
 use Rattle.wkb_geom.specs.declared.common.Dimension.TheVariants.{Xy}
@@ -10,12 +10,14 @@ use Rattle.wkb_geom.specs.Reading.{type_of}
 use Rattle.wkb_geom.specs.declared.common.Endianness.{Endianness}
 use Rattle.wkb_geom.specs.declared.code.TheConstants.{POLYGON}
 use Rattle.wkb_geom.specs.Dimensions.{width}
-use Rattle.wkb_geom.specs.Refusals.{srid_size, ring_end}
-use Rattle.wkb_geom.specs.Spellings.{Header, header, Spelling, node, Spellings, no_spellings, spelling}
-use Rattle.wkb_geom.specs.Values.{Coordinate, Value, Values, point, line_string, polygon, multi_point}
-use Rattle.wkb_geom.specs.Values.{multi_line_string, multi_polygon, collection, no_members, member, kind, dimension}
+use Rattle.wkb_geom.specs.Numbers.{order_byte, number}
+use Rattle.wkb_geom.specs.Refusals.{srid_size}
+use Rattle.wkb_geom.specs.Spellings.{Header, header, Spelling, node}
+use Rattle.wkb_geom.specs.Values.{Value, point, line_string, polygon, multi_point}
+use Rattle.wkb_geom.specs.Values.{multi_line_string, multi_polygon, collection, kind, dimension}
 use Rattle.wkb_geom.specs.Values.{members, count}
 use Rattle.wkb_check.specs.Known.{HasGeometry, HasGeometries, AreWhole, decoded_rings}
+use Rattle.wkb_check.specs.Subjects.{Subject, whole, ring, subjects, subjects_of_rings, subjects_of_each}
 use Rattle.wkb_check.specs.declared.pieces.Piece.{Piece}
 use Rattle.wkb_check.specs.declared.pieces.Pieces.{Pieces}
 
@@ -33,33 +35,6 @@ count_of (collection d ts) = count ts
 abbrev pub leading : Header → Value → ℕ
 leading h (point d c) = 5 + srid_size (is_some h.srid)
 leading h _ = 9 + srid_size (is_some h.srid)
-
--- the rings of a polygon
-abbrev pub rings_of : Value → List (List Coordinate)
-rings_of (polygon d rings) = rings
-rings_of _ = []
-
--- the bytes of rings
-abbrev pub size_of_rings : Dimension → List (List Coordinate) → ℕ
-size_of_rings d [] = 0
-size_of_rings d (cs ∷ rest) = ring_end d (length cs) + size_of_rings d rest
-
--- the bytes of coordinates, and of rings
-abbrev pub content_size : Value → ℕ
-content_size (point d c) = 8 * width d
-content_size (line_string d cs) = 8 * width d * length cs
-content_size (polygon d rings) = size_of_rings d rings
-content_size _ = 0
-
--- the bytes of a geometry, and of members
-abbrev mutual
-  pub size : Spelling → Value → ℕ
-  size (node h words ss) t = leading h t + content_size t + sizes ss (members t)
-
-  pub sizes : Spellings → Values → ℕ
-  sizes ss no_members = 0
-  sizes no_spellings (member t ts) = 0
-  sizes (spelling s ss) (member t ts) = size s t + sizes ss ts
 
 -- the coordinates of a piece end here, or its rings or members begin
 abbrev pub own_end : Piece → ℕ
@@ -98,41 +73,42 @@ abbrev pub ring_piece : Endianness → Dimension → ℕ → ℕ → Piece
 ring_piece order d at n =
     record { kind = 0; dimension = d; order = order; srid = None; count = n; begin = at; offset = at + 4 }
 
--- the pieces of rings, the first of which begins at this byte
-abbrev pub pieces_of_rings : Endianness → Dimension → ℕ → List (List Coordinate) → List Piece
-pieces_of_rings order d at [] = []
-pieces_of_rings order d at (cs ∷ rest) =
-    ring_piece order d at (length cs) ∷ pieces_of_rings order d (at + ring_end d (length cs)) rest
+-- the piece of a subject that begins at this byte
+abbrev pub piece_at : ℕ → Subject → Piece
+piece_at at (whole s t) = piece_of at s t
+piece_at at (ring order d cs) = ring_piece order d at (length cs)
 
--- the pieces of a geometry that begins at this byte, and of members
-abbrev mutual
-  pub pieces_of : ℕ → Spelling → Value → List Piece
-  pieces_of at (node h words ss) t =
-      piece_of at (node h words ss) t
-      ∷ (pieces_of_rings h.order (dimension t) (at + leading h t) (rings_of t)
-      ++ pieces_of_each (at + leading h t) ss (members t))
+-- where subjects end, the first of which begins at this byte, and each other where the own bytes of the one before end
+abbrev pub last_end : ℕ → List Subject → ℕ
+last_end at [] = at
+last_end at (x ∷ xs) = last_end (own_end (piece_at at x)) xs
 
-  pub pieces_of_each : ℕ → Spellings → Values → List Piece
-  pieces_of_each at ss no_members = []
-  pieces_of_each at no_spellings (member t ts) = []
-  pieces_of_each at (spelling s ss) (member t ts) = pieces_of at s t ++ pieces_of_each (at + size s t) ss ts
+-- their pieces
+abbrev pub pieces_from : ℕ → List Subject → List Piece
+pieces_from at [] = []
+pieces_from at (x ∷ xs) = piece_at at x ∷ pieces_from (own_end (piece_at at x)) xs
+
+-- the pieces of a geometry that begins at this byte
+abbrev pub pieces_of : ℕ → Spelling → Value → List Piece
+pieces_of at s t = pieces_from at (subjects s t)
 
 -- all pieces of a geometry at the start of some bytes
 abbrev pub all_pieces : {bytes : List ℕ} → HasGeometry bytes → List Piece
 all_pieces g = pieces_of 0 g.spelled g.value
 
+-- the first n rings of some bytes
+abbrev pub first_rings : Endianness → Dimension → ℕ → List ℕ → List Subject
+first_rings order d n bytes = subjects_of_rings order d (decoded_rings order d n bytes)
+
 -- These pieces are to come from this byte on, and no others: the rings of a polygon, and then geometries with all that
 -- is inside them.
 pub record Ahead (buf : List ℕ) (order : Endianness) (d : Dimension) (rings geometries at : ℕ) (xs : List Piece)
     : Type 0 where
-  pub after : ℕ
   pub more : List ℕ
   pub whole : AreWhole order d rings (drop at buf)
-  pub after_is : after ≡ at + size_of_rings d (decoded_rings order d rings (drop at buf))
-  pub all : HasGeometries geometries (drop after buf) more
+  pub all : HasGeometries geometries (drop (last_end at (first_rings order d rings (drop at buf))) buf) more
   pub are : xs
-      ≡ pieces_of_rings order d at (decoded_rings order d rings (drop at buf))
-      ++ pieces_of_each after all.spelled all.values
+      ≡ pieces_from at (first_rings order d rings (drop at buf) ++ subjects_of_each all.spelled all.values)
 
 abbrev pub IsAhead : Pieces → List Piece → Type 0
 IsAhead w xs = Ahead w.bytes.now w.order w.dimension w.rings w.geometries w.at xs
@@ -213,3 +189,14 @@ bytes_left w = length w.bytes.now - w.at
 -- the header of a geometry of this kind with an x and a y, whose code is the number of its kind and nothing else
 abbrev pub bare_head : Endianness → ℕ → Head
 bare_head order k = record { order = order; wkb_type = type_of k Xy; has_srid = false }
+
+-- bytes that begin with such a header
+pub record IsBare (order : Endianness) (bytes : List ℕ) : Type 0 where
+  pub long : 5 ≤ length bytes
+  pub in_order : slice_index_or bytes 0 0 ≡ order_byte order
+  pub least : 1 ≤ number order 4 (drop 1 bytes)
+  pub most : number order 4 (drop 1 bytes) ≤ 7
+
+-- a geometry comes next, and begins with such a header
+abbrev pub IsBareNext : Endianness → Pieces → Type 0
+IsBareNext order w = w.rings ≡ 0 × (0 < w.geometries × IsBare order (drop w.at w.bytes.now))

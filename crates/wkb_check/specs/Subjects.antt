@@ -1,10 +1,10 @@
--- What the pieces and the entries of a geometry are about.
+-- What the pieces and the entries of a geometry are about: itself, and its rings and members at every level.
 use Rattle.std.specs.Prelude.{ℕ, List, [], ◌∷◌, ◌++◌, Some, None}
 use Rattle.wkb_geom.specs.declared.common.Endianness.{Endianness}
 use Rattle.wkb_geom.specs.declared.common.Dimension.{Dimension}
-use Rattle.wkb_geom.specs.Values.{Coordinate, Value, Values, point, line_string, no_members, member, dimension, members}
+use Rattle.wkb_geom.specs.Values.{Coordinate, Value, Values, point, line_string, polygon, no_members, member}
+use Rattle.wkb_geom.specs.Values.{dimension, members}
 use Rattle.wkb_geom.specs.Spellings.{Spelling, node, Spellings, no_spellings, spelling, Spells, SpellsCoordinates}
-use Rattle.wkb_check.specs.Pieces.{rings_of}
 
 -- a geometry, or a ring of a polygon
 pub data Subject : Type 0 where
@@ -37,6 +37,11 @@ subject_coordinates (ring order d cs) = cs
 abbrev pub SpellsSubject : Subject → List ℕ → Type 0
 SpellsSubject (whole s t) bytes = Spells s t bytes
 SpellsSubject (ring order d cs) bytes = SpellsCoordinates order d cs bytes
+
+-- the rings of a polygon
+abbrev pub rings_of : Value → List (List Coordinate)
+rings_of (polygon d rings) = rings
+rings_of _ = []
 
 abbrev pub subjects_of_rings : Endianness → Dimension → List (List Coordinate) → List Subject
 subjects_of_rings order d [] = []

@@ -6,7 +6,7 @@ ghost use Rattle.wkb_geom.specs.Numbers.{number};
 ghost use Rattle.wkb_geom.specs.Reading.{type_kind};
 ghost use Rattle.wkb_check.specs.Known.{HasGeometry};
 ghost use Rattle.wkb_check.specs.Pieces.{own_end, ring_piece, IsPieceAt, IsHeaderAt, HasAhead, HasAll, IsBehind};
-ghost use Rattle.wkb_check.specs.Pieces.{Takes, TakesOrStays, Steps, AreRings, IsRing, bytes_left};
+ghost use Rattle.wkb_check.specs.Pieces.{Takes, TakesOrStays, Steps, AreRings, IsBareNext, IsRing, bytes_left};
 ghost use Rattle.wkb_check.specs.Public.{DescribesFront};
 
 use crate::answer::Summary;
@@ -264,7 +264,8 @@ impl<'a> Pieces<'a> {
     #[inline(always)]
     pub fn next_bare(&mut self, order: Endianness) -> Option<Piece>
         requires ahead { HasAhead self.old }
-        ensures { TakesOrStays self.old result self.new }
+        ensures taken { TakesOrStays self.old result self.new }
+        ensures none { result ≡ None → IsBareNext order self.old → ⊥ }
     {
         if self.rings > 0 || self.geometries == 0 {
             return None;

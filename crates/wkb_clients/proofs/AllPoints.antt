@@ -1,18 +1,15 @@
 -- All coordinates of a value as the points of one multi point.
 use Rattle.std.proofs.Common.{◌≡◌, ℕ, zero, suc, ◌+◌, ◌*◌, ◌%◌, ◌<◌, ◌≤◌, ◌^◌, List, [], ◌∷◌, ◌++◌, map, flat_map, length}
-use Rattle.std.proofs.Common.{Option, Some, None, Bool, true, false, Result, inl, inr, refl, sym, ap, subst, ◌∙◌}
+use Rattle.std.proofs.Common.{Option, Some, None, Bool, true, false, inl, inr, refl, sym, ap, subst, ◌∙◌}
 use Rattle.std.proofs.Common.{arith, drop, nat_lt, if◌then◌else◌, append-nil}
 use Rattle.std.specs.List.{AllByRecursion}
-use Rattle.std.specs.declared.alloc.AllocError.{AllocError}
 use Rattle.std.specs.Prelude.{slice_index_or, is_some}
 use Rattle.std.proofs.lemmas.Bool.{ltb-true, ltb-false, lt-ltb}
 use Rattle.std.proofs.lemmas.List.{length-map}
-use Rattle.std.proofs.lemmas.List.Concat.{flat_map-append}
-use Rattle.wkb.specs.Prelude.{Dimension, Dimensions, Xy, Xyz, Xym, Xyzm, as_dimensions, written_dimension, size}
+use Rattle.wkb.specs.Prelude.{Dimension, Dimensions, Xy, as_dimensions, written_dimension, size}
 use Rattle.wkb.specs.Prelude.{WkbError}
 use Rattle.wkb.specs.Values.{Coordinate, Value, Values, point, line_string, polygon, multi_point, multi_line_string}
 use Rattle.wkb.specs.Values.{multi_polygon, collection, no_members, member, dimension}
-use Rattle.wkb.specs.Values.{member_count, member_count_each}
 use Rattle.wkb.specs.Geometries.{AreCoordinates, IsPoint, IsGeometry, AreGeometries, geometry_of}
 use Rattle.wkb.specs.Geometries.{geometries_of, normal, normal_point}
 use Rattle.wkb.specs.Geometries.{multi_point as points_of}
@@ -21,26 +18,15 @@ use Rattle.wkb.specs.Encodings.{count_fault, size_fault}
 use Rattle.wkb.specs.Plain.{coordinates_in}
 use Rattle.wkb.specs.Spellings.{Front}
 use Rattle.wkb.specs.Known.{encoding_has_size}
+use Rattle.wkb.specs.Lawful.{has_two}
 use Rattle.wkb.specs.ReadBack.{encoding_is_read}
 use Rattle.wkb.specs.Reads.{Item, values}
 use Rattle.wkb.specs.Writes.{WriteOptions, IsVecError}
-use Rattle.wkb_clients.specs.Coordinates.{of_point, of_parts, coordinates_of, coordinates_of_each, words_of, HasOnly}
-use Rattle.wkb_clients.specs.Coordinates.{Adds, HaveOnly, points_meant, ArePoints, IsWantOfRoom}
-use Rattle.wkb_clients.proofs.WordRuns.{parts_of_each, coordinates_again, none_left_over}
+use Rattle.wkb.specs.Coordinates.{of_point, of_parts, coordinates_of, coordinates_of_each}
+use Rattle.wkb_clients.specs.Coordinates.{words_of, HasOnly, HaveOnly, points_meant, ArePoints, IsWantOfRoom}
+use Rattle.wkb_clients.proofs.WordRuns.{coordinates_again, none_left_over}
 
 -- ---- members
-
-falls_by : (ms : List Item) (i : ℕ) (m : Item) → i < length ms
-    → member_count (slice_index_or ms i m).value < member_count_each (values ms)
-falls_by [] i m h = absurd (omega (arith, h))
-falls_by (x ∷ ms) zero m h = omega arith
-falls_by (x ∷ ms) (suc i) m h = omega (arith, falls_by ms i m (omega (arith, h)))
-
--- a member has fewer members in it than all together
-pub member_falls : (ms : List Item) (i : ℕ) (m : Item) (t : ℕ) → m ≡ slice_index_or ms i m → i < length ms
-    → 2 * member_count_each (values ms) ≡ t → 2 * member_count m.value + 1 < t
-member_falls ms i m t is inside measure =
-    omega (arith, falls_by ms i m inside, ap (λ (v : Item). member_count v.value) is)
 
 has_by : (d : Dimension) (ms : List Item) (i : ℕ) (m : Item) → i < length ms → HaveOnly d (values ms)
     → HasOnly d (slice_index_or ms i m).value
@@ -56,34 +42,6 @@ each_has d ms i m is inside all = subst (λ (v : Item). HasOnly d v.value) (sym 
 -- the geometries before an index have it: with those from it on, all have
 pub record HaveOnlyBefore (d : Dimension) (ms : List Item) (i : ℕ) : Type 0 where
   pub left : HaveOnly d (values (drop i ms)) → HaveOnly d (values ms)
-
--- ---- the words of each kind
-
-pub polygon_words : (rings : List (List Coordinate)) → flat_map words_of rings ≡ words_of (of_parts rings)
-polygon_words rings = parts_of_each (λ c. c) (λ cs. cs) rings
-
-pub points_words : (points : List (Option Coordinate))
-    → flat_map (λ p. words_of (of_point p)) points ≡ words_of (flat_map of_point points)
-points_words points = parts_of_each (λ c. c) of_point points
-
-pub polygons_words : (polygons : List (List (List Coordinate)))
-    → flat_map (flat_map words_of) polygons ≡ words_of (flat_map of_parts polygons)
-polygons_words polygons =
-    (λ i. flat_map (λ rings. polygon_words rings i) polygons) ∙ parts_of_each (λ c. c) of_parts polygons
-
-pub members_words : (ms : List Item)
-    → flat_map (λ m. words_of (coordinates_of m.value)) ms ≡ words_of (coordinates_of_each (values ms))
-members_words [] = refl
-members_words (m ∷ ms) =
-    ap (λ l. words_of (coordinates_of m.value) ++ l) (members_words ms)
-    ∙ sym (flat_map-append (λ c. c) (coordinates_of m.value) (coordinates_of_each (values ms)))
-
--- what was added of a view was added of the geometry
-pub adds_seen : (old new more : List ℕ) (r : Result (Unit {0}) AllocError) (v w : Item) → v ≡ w
-    → more ≡ words_of (coordinates_of v.value) → Adds old new more r
-    → Adds old new (words_of (coordinates_of w.value)) r
-adds_seen old new more r v w view words adds =
-    subst (λ m. Adds old new m r) (words ∙ ap (λ (x : Item). words_of (coordinates_of x.value)) view) adds
 
 -- ---- every coordinate fits the dimension
 
@@ -136,10 +94,7 @@ mutual
 -- ---- the multi point
 
 some_words : (d : Dimension) → 0 < size (as_dimensions d)
-some_words Xy = omega arith
-some_words Xyz = omega arith
-some_words Xym = omega arith
-some_words Xyzm = omega arith
+some_words d = omega (arith, has_two d)
 
 -- the words are those of whole coordinates
 pub are_whole : (t : Value) (dims : Dimensions) (words : List ℕ) → dims ≡ as_dimensions (dimension t)
@@ -152,9 +107,7 @@ are_whole t dims words same are fit = (
 
 dimension_again : (d : Dimension) → written_dimension (as_dimensions d) ≡ d
 dimension_again Xy = refl
-dimension_again Xyz = refl
-dimension_again Xym = refl
-dimension_again Xyzm = refl
+dimension_again _ = refl
 
 points_lawful : (dims : Dimensions) (cs : List Coordinate) → AreCoordinates dims cs
     → AllByRecursion (IsPoint dims) (map (λ c. Some c) cs)
@@ -189,9 +142,7 @@ are_points options t bytes form fit is fine =
 no_dimensions_fault : (d : Dimension) → dimensions_fault (as_dimensions d) ≡ None
 unfolding dimensions_fault
 no_dimensions_fault Xy = refl
-no_dimensions_fault Xyz = refl
-no_dimensions_fault Xym = refl
-no_dimensions_fault Xyzm = refl
+no_dimensions_fault _ = refl
 
 no_fault : (t : Value) (n : ℕ) → n ≡ length (coordinates_of t) → n < 2 ^ 32 → fault (points_meant t) ≡ None
 unfolding or_else count_fault
@@ -204,12 +155,8 @@ short_by : (d : Dimension) (n : ℕ) (b : Bool) → n < 2 ^ 32
     → 9 + n * (5 + 8 * size (as_dimensions d)) + 4 * (if b then 1 else 0) < 2 ^ 64
 short_by Xy n true few = omega (arith, few)
 short_by Xy n false few = omega (arith, few)
-short_by Xyz n true few = omega (arith, few)
-short_by Xyz n false few = omega (arith, few)
-short_by Xym n true few = omega (arith, few)
-short_by Xym n false few = omega (arith, few)
-short_by Xyzm n true few = omega (arith, few)
-short_by Xyzm n false few = omega (arith, few)
+short_by _ n true few = omega (arith, few)
+short_by _ n false few = omega (arith, few)
 
 -- fewer points than four bytes can count are written
 few_are_written : (options : WriteOptions) (t : Value) → IsForm options.form

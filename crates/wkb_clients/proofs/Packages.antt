@@ -7,7 +7,7 @@ use Rattle.wkb.specs.Reads.{IsFront, HasNoFront, IsRefusal}
 use Rattle.wkb_clients.specs.Common.{Item}
 use Rattle.wkb_clients.specs.declared.geopackage.BlobHeader.{BlobHeader}
 use Rattle.wkb_clients.specs.Geopackage.{IsBlobHeader, HoldsGeometry, HoldsNoGeometry, body_of, envelope_around, header_order}
-use Rattle.wkb_clients.specs.Geopackage.{envelope_kind, HasWrongEnvelope, IsNotRead}
+use Rattle.wkb_clients.specs.Geopackage.{envelope_kind, HasWrongEnvelope, HoldsEwkb, IsNotRead, is_ewkb}
 
 -- the envelope is judged by what the blob says
 pub as_said : (blob : List ℕ) (h : BlobHeader) (b : Bounds) (r : Bool) → IsBlobHeader blob h
@@ -34,6 +34,16 @@ wrong_envelope blob body h b head same front fails = record {
   wrong = sym fails;
 }
 
+-- EWKB is no geometry of a blob
+pub none_of_iso : (blob body : List ℕ) → body ≡ body_of blob → true ≡ is_ewkb body → HoldsNoGeometry blob
+none_of_iso blob body same ewkb = λ h w holds.
+    let wrong : true ≡ false = ewkb ∙ ap is_ewkb same ∙ holds.iso in
+    absurd (cc)
+
+pub holds_ewkb : (blob body : List ℕ) (h : BlobHeader) → IsBlobHeader blob h → body ≡ body_of blob → true ≡ is_ewkb body
+    → HoldsEwkb blob
+holds_ewkb blob body h head same ewkb = record { header = h; is_header = head; ewkb = sym (ewkb ∙ ap is_ewkb same) }
+
 -- what is behind the header is rejected
 pub not_read : (blob body : List ℕ) (h : BlobHeader) (e : WkbError) → IsBlobHeader blob h → body ≡ body_of blob
     → IsMemory e ⊎ IsRefusal body e → IsNotRead blob e
@@ -57,11 +67,12 @@ memory_or_none blob body e same (inr none) = inr (none_there blob body same none
 
 -- a geometry is there, and the envelope is around its bounds
 pub holds : (blob body : List ℕ) (h : BlobHeader) (b : Bounds) (w : Item) → IsBlobHeader blob h → body ≡ body_of blob
-    → BoundsOnlyFront body b → true ≡ envelope_around (header_order blob) (envelope_kind blob) blob b → IsFront body w
-    → HoldsGeometry blob h w
-holds blob body h b w head same only around front =
+    → false ≡ is_ewkb body → BoundsOnlyFront body b
+    → true ≡ envelope_around (header_order blob) (envelope_kind blob) blob b → IsFront body w → HoldsGeometry blob h w
+holds blob body h b w head same iso only around front =
     record {
       header = head;
+      iso = sym (iso ∙ ap is_ewkb same);
       front = subst (λ l. IsFront l w) same front;
       around = λ c is.
           ap (envelope_around (header_order blob) (envelope_kind blob) blob)

@@ -1,14 +1,12 @@
--- Words that a loop adds part by part, and words of coordinates taken apart again.
+-- Words that a loop adds one by one, and words of coordinates taken apart again.
 use Rattle.std.proofs.Common.{◌≡◌, ℕ, suc, ◌+◌, ◌*◌, ◌/◌, ◌%◌, ◌<◌, ◌≤◌, List, [], ◌∷◌, ◌++◌, flat_map, drop}
 use Rattle.std.proofs.Common.{take, length, Some, slice_get, refl, sym, ap, ◌∙◌, arith, append_assoc, append-nil}
 use Rattle.std.proofs.Common.{length-append}
-use Rattle.std.specs.Prelude.{Option, option_map, slice_index_or}
 use Rattle.std.proofs.Math.Nat.{mul-mod_left, suc-mul, zero-mul}
 use Rattle.std.proofs.Math.Seq.{take-append_seam, drop-append_seam}
 use Rattle.std.proofs.lemmas.List.{drop_all}
 use Rattle.std.proofs.lemmas.List.Concat.{flat_map-append}
 use Rattle.std.proofs.lemmas.Nat.{div-mul-add}
-use Rattle.std.proofs.lemmas.Option.{slice_get-get_or}
 use Rattle.wkb.specs.Geometries.{AreCoordinates}
 use Rattle.wkb.specs.Plain.{runs, coordinates_in}
 use Rattle.wkb.specs.Prelude.{Dimensions, size}
@@ -16,57 +14,21 @@ use Rattle.wkb.specs.Ranges.{drop_at}
 use Rattle.wkb.specs.Values.{Coordinate}
 use Rattle.wkb_clients.specs.Coordinates.{words_of}
 
--- the words of the items before an index were added: those from it on are still to come
-pub record AddsBefore {A : Type 0} (f : A → List ℕ) (old now : List ℕ) (xs : List A) (i : ℕ) : Type 0 where
-  pub left : now ++ flat_map f (drop i xs) ≡ old ++ flat_map f xs
+-- the word at the index was added: those from it on are still to come
+pub word_added : (all now new ws : List ℕ) (n w : ℕ) → now ++ drop n ws ≡ all → slice_get ws n ≡ Some w
+    → new ≡ now ++ w ∷ [] → new ++ drop (n + 1) ws ≡ all
+word_added all now new ws n w so_far at is =
+    let next : n + 1 ≡ suc n = omega arith in
+    (λ j. is j ++ drop (next j) ws) ∙ append_assoc now (w ∷ []) (drop (suc n) ws)
+    ∙ ap (λ l. now ++ l) (sym (drop_at ws n w at)) ∙ so_far
 
-pub adding_starts : {A : Type 0} (f : A → List ℕ) (old : List ℕ) (xs : List A) → AddsBefore f old old xs 0
-adding_starts f old xs = record { left = refl }
-
--- the words of the item at the index were added
-pub adds_next : {A : Type 0} (f : A → List ℕ) (old now new : List ℕ) (xs : List A) (i : ℕ) (x : A)
-    → AddsBefore f old now xs i → slice_get xs i ≡ Some x → new ≡ now ++ f x → AddsBefore f old new xs (i + 1)
-adds_next f old now new xs i x so_far at is =
-    let rest = flat_map f (drop (suc i) xs) in
-    let next : i + 1 ≡ suc i = omega arith in
-    record {
-      left = (λ j. is j ++ flat_map f (drop (next j) xs)) ∙ append_assoc now (f x) rest
-          ∙ ap (λ l. now ++ flat_map f l) (sym (drop_at xs i x at)) ∙ so_far.left;
-    }
-
--- as a call that may find none returned the item
-pub adds_found : {A B : Type 0} (f : A → List ℕ) (seen : B → A) (old now new : List ℕ) (xs : List A) (i : ℕ)
-    (found : Option B) (b : B)
-    → AddsBefore f old now xs i → option_map seen found ≡ slice_get xs i → found ≡ Some b → new ≡ now ++ f (seen b)
-    → AddsBefore f old new xs (i + 1)
-adds_found f seen old now new xs i found b so_far at some is =
-    adds_next f old now new xs i (seen b) so_far (sym at ∙ ap (option_map seen) some) is
-
--- as the loop over a list names the item
-pub adds_item : {A : Type 0} (f : A → List ℕ) (old now new : List ℕ) (xs : List A) (i : ℕ) (x : A)
-    → AddsBefore f old now xs i → i < length xs → new ≡ now ++ f (slice_index_or xs i x)
-    → AddsBefore f old new xs (i + 1)
-adds_item f old now new xs i x so_far inside is =
-    adds_next f old now new xs i (slice_index_or xs i x) so_far (slice_get-get_or xs i x inside) is
-
-pub adding_ends : {A : Type 0} (f : A → List ℕ) (old now : List ℕ) (xs : List A) (i : ℕ) → AddsBefore f old now xs i
-    → length xs ≤ i → now ≡ old ++ flat_map f xs
-adding_ends f old now xs i so_far all =
-    sym (append-nil now) ∙ ap (λ l. now ++ flat_map f l) (sym (drop_all i xs all)) ∙ so_far.left
-
-pub ruleset adding_laws = (adding_starts, adds_next, adds_found, adds_item, adding_ends)
-
--- words that are added one by one
-pub each_alone : (ws : List ℕ) → flat_map (λ w. w ∷ []) ws ≡ ws
-each_alone [] = refl
-each_alone (w ∷ ws) = ap (λ l. w ∷ l) (each_alone ws)
-
--- parts of parts, one after another
-pub parts_of_each : {A B C : Type 0} (f : B → List C) (g : A → List B) (xs : List A)
-    → flat_map (λ x. flat_map f (g x)) xs ≡ flat_map f (flat_map g xs)
-parts_of_each f g [] = refl
-parts_of_each f g (x ∷ xs) =
-    ap (λ l. flat_map f (g x) ++ l) (parts_of_each f g xs) ∙ sym (flat_map-append f (g x) (flat_map g xs))
+-- so the words of the coordinate follow those of the ones before
+pub words_follow : (old new : List ℕ) (c : Coordinate) (n : ℕ) → new ++ drop n c ≡ old ++ c → length c ≤ n
+    → (before : List Coordinate) → old ≡ words_of before → new ≡ words_of (before ++ c ∷ [])
+words_follow old new c n so_far end before of =
+    sym (append-nil new) ∙ ap (λ l. new ++ l) (sym (drop_all n c end)) ∙ so_far
+    ∙ ap (λ l. l ++ c) of ∙ ap (λ l. words_of before ++ l) (sym (append-nil c))
+    ∙ sym (flat_map-append (λ x. x) before (c ∷ []))
 
 -- ---- taken apart
 

@@ -1,48 +1,20 @@
 -- All coordinates of a value, and the multi point that has a point at each of them.
-use Rattle.std.specs.Prelude.{◌≡◌, ◌⊎◌, ◌≤◌, ◌^◌, ℕ, List, [], ◌∷◌, ◌++◌, map, flat_map, length, Option, Some, None}
-use Rattle.std.specs.Prelude.{Result, IfOk, MatchOption, Vec}
+use Rattle.std.specs.Prelude.{◌≡◌, ◌⊎◌, ◌≤◌, ◌^◌, ℕ, List, [], map, flat_map, length, Option, Some}
+use Rattle.std.specs.Prelude.{MatchOption, Vec}
 use Rattle.std.specs.Global.{Global}
-use Rattle.std.specs.declared.alloc.AllocError.{AllocError}
 use Rattle.wkb.specs.Prelude.{Dimension, as_dimensions, WkbError, IsMemory}
 use Rattle.wkb.specs.Values.{Coordinate, Value, Values, point, line_string, polygon, multi_point, multi_line_string}
 use Rattle.wkb.specs.Values.{multi_polygon, collection, no_members, member, dimension}
+use Rattle.wkb.specs.Coordinates.{coordinates_of}
 use Rattle.wkb.specs.Spellings.{Spelling, Front}
 use Rattle.wkb.specs.Geometries.{Geometry, normal_point}
 use Rattle.wkb.specs.Geometries.{multi_point as points_of}
 use Rattle.wkb.specs.Encodings.{encoding_of, refusal_of}
 use Rattle.wkb.specs.Writes.{WriteOptions, Reports}
 
--- the coordinate of a point; an empty one has none
-abbrev pub of_point : Option Coordinate → List Coordinate
-of_point None = []
-of_point (Some c) = c ∷ []
-
--- the coordinates of rings or of line strings
-abbrev pub of_parts : List (List Coordinate) → List Coordinate
-of_parts parts = flat_map (λ cs. cs) parts
-
--- all coordinates of a value, at every level and in order
-abbrev mutual
-  pub coordinates_of : Value → List Coordinate
-  coordinates_of (point d c) = of_point c
-  coordinates_of (line_string d cs) = cs
-  coordinates_of (polygon d rings) = of_parts rings
-  coordinates_of (multi_point d points) = flat_map of_point points
-  coordinates_of (multi_line_string d lines) = of_parts lines
-  coordinates_of (multi_polygon d polygons) = flat_map of_parts polygons
-  coordinates_of (collection d ts) = coordinates_of_each ts
-
-  pub coordinates_of_each : Values → List Coordinate
-  coordinates_of_each no_members = []
-  coordinates_of_each (member t ts) = coordinates_of t ++ coordinates_of_each ts
-
 -- the words of coordinates, one after another
 abbrev pub words_of : List Coordinate → List ℕ
 words_of cs = flat_map (λ c. c) cs
-
--- at Ok these words were added behind the others
-abbrev pub Adds : List ℕ → List ℕ → List ℕ → Result (Unit {0}) AllocError → Type 0
-Adds old new more r = IfOk r (λ _. new ≡ old ++ more)
 
 -- a value has this dimension, and so has each member of a collection in it
 abbrev mutual

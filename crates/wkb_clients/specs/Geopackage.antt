@@ -1,6 +1,6 @@
 -- What a GeoPackage blob holds (OGC 12-128, clause 2.1.3).
 use Rattle.std.specs.Prelude.{◌≡◌, ℕ, ◌+◌, ◌/◌, ◌%◌, ◌<◌, ◌≤◌, List, length, drop, slice_index, Bool, true, not}
-use Rattle.std.specs.Prelude.{◌&&◌, ◌==◌, ◌⊎◌, false, nat_le, if◌then◌else◌}
+use Rattle.std.specs.Prelude.{◌&&◌, ◌==◌, ◌⊎◌, ◌^◌, false, nat_le, if◌then◌else◌}
 use Rattle.wkb.specs.Prelude.{Endianness, BigEndian, LittleEndian, number, is_nan, IsMemory, WkbError}
 use Rattle.wkb.specs.Checks.{Range, Bounds, AreBounds, BoundsFront, rank}
 use Rattle.wkb.specs.Reads.{IsFront, IsRefusal}
@@ -76,9 +76,15 @@ envelope_around order kind blob b =
     if kind == 0 then true
     else axis_around order blob 8 b.x && (axis_around order blob 24 b.y && others_around order kind blob b)
 
--- The blob has this header, then an envelope around all numbers of the geometry, then the geometry.
+-- whether the code has a flag of EWKB, of which the WKB of ISO 13249-3 has none
+abbrev pub is_ewkb : List ℕ → Bool
+is_ewkb body = nat_le 5 (length body) && nat_le (2 ^ 29) (number (order_said (slice_index body 0)) 4 (drop 1 body))
+
+-- The blob has this header, then an envelope around all numbers of the geometry, then the geometry, whose code is one of
+-- ISO. The clause asks that of its members' codes, too, which aren't looked at here.
 pub record HoldsGeometry (blob : List ℕ) (h : BlobHeader) (w : Item) : Type 0 where
   pub header : IsBlobHeader blob h
+  pub iso : is_ewkb (body_of blob) ≡ false
   pub front : IsFront (body_of blob) w
   pub around : (b : Bounds) → AreBounds b w.value
       → envelope_around (header_order blob) (envelope_kind blob) blob b ≡ true
@@ -94,6 +100,12 @@ pub record HasWrongEnvelope (blob : List ℕ) : Type 0 where
   pub front : BoundsFront (body_of blob) bounds
   pub wrong : envelope_around (header_order blob) (envelope_kind blob) blob bounds ≡ false
 
+-- There is a header, and EWKB behind it.
+pub record HoldsEwkb (blob : List ℕ) : Type 0 where
+  pub header : BlobHeader
+  pub is_header : IsBlobHeader blob header
+  pub ewkb : is_ewkb (body_of blob) ≡ true
+
 -- There is a header, and the error says why what is behind it is rejected, or that an allocation failed.
 pub record IsNotRead (blob : List ℕ) (e : WkbError) : Type 0 where
   pub header : BlobHeader
@@ -104,6 +116,7 @@ pub record IsNotRead (blob : List ℕ) (e : WkbError) : Type 0 where
 abbrev pub IsWhy : List ℕ → Unread → Type 0
 IsWhy blob reasons.Header = HasNoBlobHeader blob
 IsWhy blob reasons.Envelope = HasWrongEnvelope blob
+IsWhy blob reasons.Ewkb = HoldsEwkb blob
 IsWhy blob (reasons.Geometry e) = IsNotRead blob e
 
 -- an allocation failed

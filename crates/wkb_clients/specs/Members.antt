@@ -2,11 +2,7 @@
 use Rattle.std.proofs.Common.{◌≡◌, ℕ, ◌+◌, ◌*◌, List, length, drop, Some, slice_get}
 use Rattle.std.specs.Borrow.{Bor}
 use Rattle.wkb_clients.specs.Common.{Dimension, width, number, Coordinate, polygon, header, Item, IsMember}
-use Rattle.wkb_clients.specs.Common.{IsWordOf, StandsAt, member_start, ring_start, Spells}
-
--- the bytes spell the value, by the fields of its spelling
-abbrev pub SpellsInFull : Item → Type 0
-SpellsInFull w = Spells w.spelled w.value w.encoding
+use Rattle.wkb_clients.specs.Common.{IsWordOf, StandsAt, member_start, ring_start}
 
 -- the bytes are the geometry's at the place of its member of this number
 abbrev pub LendsMember : Item → ℕ → List ℕ → Type 0

@@ -1,24 +1,12 @@
 //! Equal views return the same, and a clone is equal to its source: so it has the same members and encodings.
 
 ghost use Rattle.std.specs.Prelude.{◌≡◌, option_map, IfOk};
-ghost use Rattle.wkb.specs.Prelude.{AreBytes};
-ghost use Rattle.wkb.specs.Reads.{polygon_seen};
-ghost use Rattle.wkb_clients.specs.Members.{SpellsInFull};
 
 use std::alloc::Global;
 use wkb::error::WkbResult;
 use wkb::geom::MultiPolygonTrait;
-use wkb::laws::are_bytes;
 use wkb::reader::{MultiPolygon, Polygon, Wkb};
 use wkb::writer::{WriteOptions, to_vec};
-
-// The bytes of a polygon spell it.
-fn polygon_spelled(polygon: &Polygon)
-    ensures bytes { AreBytes polygon.now.encoding }
-    ensures spells { SpellsInFull (polygon_seen polygon.now) }
-{
-    are_bytes(polygon.buf());
-}
 
 /// The polygons of one index in two equal multi polygons.
 pub fn both_polygons<'m, 'a>(
@@ -31,8 +19,8 @@ pub fn both_polygons<'m, 'a>(
 {
     match (source.polygon(i), clone.polygon(i)) {
         (Some(one), Some(other)) => {
-            polygon_spelled(one);
-            polygon_spelled(other);
+            one.buf();
+            other.buf();
             (Some(one), Some(other))
         }
         missing => missing,

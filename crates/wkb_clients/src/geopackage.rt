@@ -1,8 +1,8 @@
 //! A reader of GeoPackage blobs (OGC 12-128, clause 2.1.3), whose contract says which blobs it takes, and why it takes no
-//! other. The geometry may be EWKB, which the clause doesn't allow.
+//! other.
 
 ghost use Rattle.std.specs.Prelude.{◌≡◌, ◌+◌, ◌<◌, ◌≤◌, ◌⊎◌, MatchOption, IfOk, IfErr, drop, length};
-ghost use Rattle.wkb_clients.specs.Geopackage.{IsBlobHeader, HasNoBlobHeader, start_behind, order_said, body_of};
+ghost use Rattle.wkb_clients.specs.Geopackage.{IsBlobHeader, HasNoBlobHeader, start_behind, order_said, body_of, is_ewkb};
 ghost use Rattle.wkb_clients.specs.Geopackage.{is_number_at_most, axis_around, other_around, others_around, envelope_around};
 ghost use Rattle.wkb_clients.specs.Geopackage.{header_order, envelope_kind, HoldsGeometry, HoldsNoGeometry, IsWantOfMemory, IsWhy};
 
@@ -29,6 +29,7 @@ pub struct BlobHeader {
 pub enum Unread {
     Header,
     Envelope,
+    Ewkb,
     Geometry(WkbError),
 }
 
@@ -98,6 +99,13 @@ fn body_of(blob: &[u8], header: BlobHeader) -> &[u8]
     from_offset(blob, start_behind(header.envelope))
 }
 
+/// Whether the geometry's code has a flag of EWKB, which ISO's codes have not.
+fn is_ewkb(body: &[u8]) -> bool
+    ensures { result ≡ is_ewkb body.now }
+{
+    body.len() >= 5 && u32_at(body, 1, order_of_bit(body[0])) >= 0x20000000
+}
+
 /// Whether the two words at an offset are numbers around the range, or NaNs if it has no number, as in an empty geometry.
 fn axis_around(blob: &[u8], at: usize, order: Endianness, range: Range) -> bool
     requires { at + 16 ≤ length blob.now }
@@ -148,8 +156,8 @@ fn envelope_around(blob: &[u8], order: Endianness, kind: u8, found: Bounds) -> b
         && (axis_around(blob, 24, order, found.y) && others_around(blob, order, kind, found))
 }
 
-/// Reads a blob: its header, an envelope around all numbers of the geometry, and the geometry. The envelope of an empty
-/// geometry has NaNs alone.
+/// Reads a blob: its header, an envelope around all numbers of the geometry, and the geometry in the codes of ISO. The
+/// envelope of an empty geometry has NaNs alone.
 pub fn read<'a>(alloc: Global, blob: &'a [u8]) -> Result<Package<'a>, Unread>
     ensures ok { IfOk result (λ p. HoldsGeometry blob.now p.header p.geometry) }
     ensures err { IfErr result (λ e. IsWantOfMemory e ⊎ HoldsNoGeometry blob.now) }
@@ -159,6 +167,9 @@ pub fn read<'a>(alloc: Global, blob: &'a [u8]) -> Result<Package<'a>, Unread>
         return Err(Unread::Header);
     };
     let body = body_of(blob, header);
+    if is_ewkb(body) {
+        return Err(Unread::Ewkb);
+    }
     match bounds(body) {
         Ok(found) => {
             if !envelope_around(blob, header.order, header.envelope, found) {

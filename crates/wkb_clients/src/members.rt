@@ -6,7 +6,6 @@ ghost use Rattle.wkb.specs.Reads.{multi_polygon_seen};
 ghost use Rattle.wkb_clients.specs.Members.{LendsMember, AreNeighbours, IsCornerWord};
 
 use wkb::geom::{CoordTrait, LineStringTrait, MultiPolygonTrait, PolygonTrait};
-use wkb::laws::are_bytes;
 use wkb::reader::MultiPolygon;
 
 /// The bytes of a polygon of a multi polygon, if there is one of this index: at its place in those of the multi
@@ -14,13 +13,9 @@ use wkb::reader::MultiPolygon;
 fn polygon_bytes<'a>(multi: &MultiPolygon<'a>, i: usize) -> Option<&'a [u8]>
     ensures { IfSome result (λ bytes. LendsMember (multi_polygon_seen multi.now) i bytes.now) }
 {
-    are_bytes(multi.buf());
+    multi.buf();
     match multi.polygon(i) {
-        Some(polygon) => {
-            let bytes = polygon.buf();
-            are_bytes(bytes);
-            Some(bytes)
-        }
+        Some(polygon) => Some(polygon.buf()),
         None => None,
     }
 }
@@ -30,13 +25,12 @@ fn polygon_bytes<'a>(multi: &MultiPolygon<'a>, i: usize) -> Option<&'a [u8]>
 pub fn neighbour_bytes<'a>(multi: &MultiPolygon<'a>, i: u32) -> Option<(&'a [u8], &'a [u8])>
     ensures { IfSome result (AreNeighbours (multi_polygon_seen multi.now) i) }
 {
-    are_bytes(multi.buf());
+    multi.buf();
     let i = i as usize;
     let Some(polygon) = multi.polygon(i) else {
         return None;
     };
     let bytes = polygon.buf();
-    are_bytes(bytes);
     match polygon_bytes(multi, i + 1) {
         Some(next) => Some((bytes, next)),
         None => None,
@@ -53,11 +47,11 @@ pub fn corner_word(
 ) -> Option<u64>
     ensures { IfSome result (IsCornerWord (multi_polygon_seen multi.now) member coordinate word) }
 {
-    are_bytes(multi.buf());
+    multi.buf();
     let Some(polygon) = multi.polygon(member) else {
         return None;
     };
-    are_bytes(polygon.buf());
+    polygon.buf();
     let Some(ring) = polygon.exterior() else {
         return None;
     };

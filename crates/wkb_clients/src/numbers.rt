@@ -6,7 +6,6 @@ ghost use Rattle.wkb.specs.Order.{HasNumbers};
 ghost use Rattle.wkb.specs.Ranges.{IsWithin};
 
 use wkb::check::Range;
-use wkb::laws::ranks_in_order;
 
 /// Whether a number that is within a range is between its least and its greatest: always.
 pub fn holds(range: Range, word: u64) -> bool
@@ -15,7 +14,6 @@ pub fn holds(range: Range, word: u64) -> bool
     requires within { IsWithin range word }
     ensures { result ≡ true }
 {
-    ranks_in_order();
     let number = f64::from_bits(word);
     (f64::from_bits(range.least) <= number) & (number <= f64::from_bits(range.greatest))
 }

@@ -1,7 +1,7 @@
 -- Rows that are written in levels, and encoded again, are as they were.
-use Rattle.wkb_columns.proofs.Common.{◌≡◌, ℕ, suc, ◌+◌, ◌*◌, ◌<◌, ◌^◌, List, [], ◌∷◌, length, drop, Option}
-use Rattle.wkb_columns.proofs.Common.{Some, None, refl, sym, ap, ◌∙◌, subst, arith, Dimension, width, Spelling, Value, Spells}
-use Rattle.wkb_columns.proofs.Common.{kind, dimension, slice_index, length-append, header}
+use Rattle.wkb_abi.proofs.Common.{◌≡◌, ℕ, suc, ◌+◌, ◌*◌, ◌<◌, ◌^◌, List, [], ◌∷◌, length, drop, Option}
+use Rattle.wkb_abi.proofs.Common.{Some, None, refl, sym, ap, ◌∙◌, subst, arith, Dimension, width, Spelling, Value, Spells}
+use Rattle.wkb_abi.proofs.Common.{kind, dimension, slice_index, length-append, header}
 use Rattle.std.specs.Prelude.{◌-◌, false, true, take, sum, flat_map, slice_range}
 use Rattle.std.proofs.Common.{length-take, length-drop, mul-add, get_or-drop, take-append-drop}
 use Rattle.std.proofs.lemmas.Bool.Decides.{nat_tests}
@@ -19,27 +19,27 @@ use Rattle.wkb_check.specs.Subjects.{subjects}
 use Rattle.wkb_levels.specs.Columns.{IsClear, singles_of, coordinates_end}
 use Rattle.wkb_levels.specs.Meant.{kind_meant}
 use Rattle.wkb_levels.specs.RowWrites.{HasRowEncoding}
-use Rattle.wkb_columns.specs.Columns.{is_unset_bit}
-use Rattle.wkb_columns.specs.Coordinates.{AreColumnCoordinates, IsCoordinatesRow}
-use Rattle.wkb_columns.specs.Coordinates.{LevelLists, HasRoomUpTo, ends, ring_counts}
-use Rattle.wkb_columns.specs.Coordinates.{single_counts, asked_subject_words}
-use Rattle.wkb_columns.specs.LevelRows.{HasLevelEncoding, LacksLevels, null_row, unknown, unfit}
-use Rattle.wkb_columns.specs.LevelTargets.{levels_in, target_with, target_asked}
-use Rattle.wkb_columns.specs.Requests.{IsRequested, request_of, options_for}
-use Rattle.wkb_columns.specs.RowItems.{IsRowAnswer, handed, no_room, failed}
+use Rattle.wkb_abi.specs.Columns.{is_unset_bit}
+use Rattle.wkb_abi.specs.Coordinates.{AreColumnCoordinates, IsCoordinatesRow}
+use Rattle.wkb_abi.specs.Coordinates.{LevelLists, HasRoomUpTo, ends, ring_counts}
+use Rattle.wkb_abi.specs.Coordinates.{single_counts, asked_subject_words}
+use Rattle.wkb_abi.specs.LevelRows.{HasLevelEncoding, LacksLevels, null_row, unknown, unfit}
+use Rattle.wkb_abi.specs.LevelTargets.{levels_in, target_with, target_asked}
+use Rattle.wkb_abi.specs.Requests.{IsRequested, request_of, options_for}
+use Rattle.wkb_abi.specs.RowItems.{IsRowAnswer, handed, no_room, failed}
 use Rattle.wkb_column_laws.specs.ThereAndBack.{as_spelled, HasEmptyWords, bytes_of, AreShort, AreGivenOn, IsLevelled}
 use Rattle.wkb_column_laws.specs.ThereAndBack.{BackAsSpelled, NullStaysNull, IsWrittenBack, ThereAndBack}
-use Rattle.wkb_columns.specs.declared.column.Column.{Column}
-use Rattle.wkb_columns.specs.declared.totals.Totals.{Totals}
-use Rattle.wkb_columns.specs.declared.level_column.LevelColumn.{LevelColumn}
-use Rattle.wkb_columns.specs.declared.level_column.LevelTarget.{LevelTarget}
-use Rattle.wkb_columns.specs.declared.options.Options.{Options}
-use Rattle.wkb_columns.specs.declared.options.Request.{Request}
-use Rattle.wkb_columns.specs.declared.options.Request.TheVariants.{Encoding, OwnSrid}
-use Rattle.wkb_columns.specs.declared.options.TheConstants.{EWKB_OWN_SRID}
-use Rattle.wkb_columns.proofs.OneRow.{one_row}
-use Rattle.wkb_columns.proofs.Levels.{ends_length, sum-first}
-use Rattle.wkb_columns.proofs.Rooms.{Reaches, RowSays, row_says, scaled, room_before, room_in}
+use Rattle.wkb_abi.specs.declared.column.Column.{Column}
+use Rattle.wkb_abi.specs.declared.totals.Totals.{Totals}
+use Rattle.wkb_abi.specs.declared.level_column.LevelColumn.{LevelColumn}
+use Rattle.wkb_abi.specs.declared.level_column.LevelTarget.{LevelTarget}
+use Rattle.wkb_abi.specs.declared.options.Options.{Options}
+use Rattle.wkb_abi.specs.declared.options.Request.{Request}
+use Rattle.wkb_abi.specs.declared.options.Request.TheVariants.{Encoding, OwnSrid}
+use Rattle.wkb_abi.specs.declared.options.TheConstants.{EWKB_OWN_SRID}
+use Rattle.wkb_abi.proofs.OneRow.{one_row}
+use Rattle.wkb_abi.proofs.Levels.{ends_length, sum-first}
+use Rattle.wkb_abi.proofs.Rooms.{Reaches, RowSays, row_says, scaled, room_before, room_in}
 use Rattle.wkb_column_laws.proofs.ThereAndBackEncodings.{spelled_writable, same_encoding}
 use Rattle.wkb_column_laws.proofs.ThereAndBackGiven.{StageOf, given, single_level, ring_level, keeps_given, room_given, done_at}
 use Rattle.wkb_column_laws.proofs.ThereAndBackGiven.{all_done, BeginsAt, begins_at}

@@ -1,29 +1,29 @@
 -- Columns whose rows are all null, or come back from their levels, come back as a whole.
-use Rattle.wkb_columns.proofs.Common.{◌≡◌, ℕ, zero, suc, ◌+◌, ◌≤◌, ◌<◌, List, [], ◌++◌, length, drop, Option, Some, refl, sym}
-use Rattle.wkb_columns.proofs.Common.{ap, ◌∙◌, subst, arith, Spelling, Value, Dimension, slice_index}
+use Rattle.wkb_abi.proofs.Common.{◌≡◌, ℕ, zero, suc, ◌+◌, ◌≤◌, ◌<◌, List, [], ◌++◌, length, drop, Option, Some, refl, sym}
+use Rattle.wkb_abi.proofs.Common.{ap, ◌∙◌, subst, arith, Spelling, Value, Dimension, slice_index}
 use Rattle.std.specs.Prelude.{take, true, false}
 use lib.Seq.{take-add}
 use Rattle.wkb_geom.specs.Fronts.{Front}
 use Rattle.wkb_levels.specs.Cuts.{start_at}
-use Rattle.wkb_columns.specs.Columns.{IsRow, is_null_row, is_unset_bit}
-use Rattle.wkb_columns.specs.Columns as columns
-use Rattle.wkb_columns.specs.LevelRows.{EncodeLevels, HasLevelEncoding, LacksLevels, level_rows}
-use Rattle.wkb_columns.specs.LevelRows as in_levels
-use Rattle.wkb_columns.specs.Requests.{request_of}
-use Rattle.wkb_columns.specs.RowItems.{IsRowAnswer, handed, no_room, failed, RowHas, RowFails, fails, has_no_row}
-use Rattle.wkb_columns.specs.RowItems.{AreEncodings, rows_of}
+use Rattle.wkb_abi.specs.Columns.{IsRow, is_null_row, is_unset_bit}
+use Rattle.wkb_abi.specs.Columns as columns
+use Rattle.wkb_abi.specs.LevelRows.{EncodeLevels, HasLevelEncoding, LacksLevels, level_rows}
+use Rattle.wkb_abi.specs.LevelRows as in_levels
+use Rattle.wkb_abi.specs.Requests.{request_of}
+use Rattle.wkb_abi.specs.RowItems.{IsRowAnswer, handed, no_room, failed, RowHas, RowFails, fails, has_no_row}
+use Rattle.wkb_abi.specs.RowItems.{AreEncodings, rows_of}
 use Rattle.wkb_column_laws.specs.ThereAndBack.{AreGivenOn, IsWrittenBack, ComesBack, stays_null, is_levelled, AreTheSame}
 use Rattle.wkb_column_laws.specs.ThereAndBack.{ColumnsComeBack}
 use Rattle.wkb_column_laws.specs.ThereAndBack.{AllHadRoom}
-use Rattle.wkb_columns.specs.Writings.{HasEncoding, FailsToWrite, unknown, refused}
-use Rattle.wkb_columns.specs.declared.column.Column.{Column}
-use Rattle.wkb_columns.specs.declared.level_column.LevelColumn.{LevelColumn}
-use Rattle.wkb_columns.specs.declared.level_column.LevelTarget.{LevelTarget}
-use Rattle.wkb_columns.specs.declared.options.Options.{Options}
-use Rattle.wkb_columns.specs.declared.options.Request.{Request}
-use Rattle.wkb_columns.specs.declared.status.TheConstants.{NO_ROOM, NULL_ROW}
-use Rattle.wkb_columns.proofs.OneRow.{is_asked}
-use Rattle.wkb_columns.proofs.OneRow.{one_row, never_lacks, never_refused}
+use Rattle.wkb_abi.specs.Writings.{HasEncoding, FailsToWrite, unknown, refused}
+use Rattle.wkb_abi.specs.declared.column.Column.{Column}
+use Rattle.wkb_abi.specs.declared.level_column.LevelColumn.{LevelColumn}
+use Rattle.wkb_abi.specs.declared.level_column.LevelTarget.{LevelTarget}
+use Rattle.wkb_abi.specs.declared.options.Options.{Options}
+use Rattle.wkb_abi.specs.declared.options.Request.{Request}
+use Rattle.wkb_abi.specs.declared.status.TheConstants.{NO_ROOM, NULL_ROW}
+use Rattle.wkb_abi.proofs.OneRow.{is_asked}
+use Rattle.wkb_abi.proofs.OneRow.{one_row, never_lacks, never_refused}
 use Rattle.wkb_column_laws.proofs.ThereAndBack.{there_and_back}
 
 -- what two calls tell of a row and write of it is the same: nothing, or some bytes

@@ -1,10 +1,10 @@
 -- What bytes spell, with the words of its empty points, can be written; and where these are the words that are written
 -- of empty points, its encoding is that of the value.
-use Rattle.wkb_columns.proofs.Common.{◌≡◌, ℕ, suc, ◌+◌, ◌*◌, ◌≤◌, ◌<◌, ◌^◌, List, [], ◌∷◌, ◌++◌, length, Option, Some, None}
-use Rattle.wkb_columns.proofs.Common.{refl, sym}
-use Rattle.wkb_columns.proofs.Common.{ap, ◌∙◌, arith, is_some, Dimension, Coordinate, Spelling, node, Spellings}
-use Rattle.wkb_columns.proofs.Common.{no_spellings, spelling, Spells, SpellsEach, SpellsCoordinate, Value, point}
-use Rattle.wkb_columns.proofs.Common.{multi_point, IsNumber}
+use Rattle.wkb_abi.proofs.Common.{◌≡◌, ℕ, suc, ◌+◌, ◌*◌, ◌≤◌, ◌<◌, ◌^◌, List, [], ◌∷◌, ◌++◌, length, Option, Some, None}
+use Rattle.wkb_abi.proofs.Common.{refl, sym}
+use Rattle.wkb_abi.proofs.Common.{ap, ◌∙◌, arith, is_some, Dimension, Coordinate, Spelling, node, Spellings}
+use Rattle.wkb_abi.proofs.Common.{no_spellings, spelling, Spells, SpellsEach, SpellsCoordinate, Value, point}
+use Rattle.wkb_abi.proofs.Common.{multi_point, IsNumber}
 use Rattle.std.specs.Prelude.{map, flat_map, if◌then◌else◌, Bool, true, false}
 use Rattle.std.specs.List.{AllByRecursion}
 use Rattle.std.proofs.Common.{lt-ltb}

@@ -1,6 +1,6 @@
 -- A column of a point and of a null row, and its levels: they are given on as the law says.
-use Rattle.wkb_columns.proofs.Common.{ℕ, zero, suc, ◌<◌, List, [], ◌∷◌, ◌++◌, Some, None, refl, inl, arith}
-use Rattle.wkb_columns.proofs.Common.{Spelling, node, no_spellings, Value, point, Spells}
+use Rattle.wkb_abi.proofs.Common.{ℕ, zero, suc, ◌<◌, List, [], ◌∷◌, ◌++◌, Some, None, refl, inl, arith}
+use Rattle.wkb_abi.proofs.Common.{Spelling, node, no_spellings, Value, point, Spells}
 use Rattle.std.specs.Prelude.{false}
 use Rattle.std.specs.Borrow.{Bor}
 use Rattle.std.specs.List.{AllByRecursion}
@@ -13,16 +13,16 @@ use Rattle.wkb_geom.specs.declared.common.Dimension.TheVariants.{Xy}
 use Rattle.wkb_geom.specs.declared.common.Endianness.TheVariants.{LittleEndian}
 use Rattle.wkb_geom.specs.declared.common.Form.TheVariants.{Iso}
 use Rattle.wkb_check.specs.Subjects.{subjects}
-use Rattle.wkb_columns.specs.Columns.{IsRow, null_row}
-use Rattle.wkb_columns.specs.Coordinates.{LevelLists, levels, HasCoordinates, handed, failed, written, no_row, no_totals}
-use Rattle.wkb_columns.specs.LevelRows.{HasLevelEncoding}
-use Rattle.wkb_columns.specs.LevelTargets.{target_asked}
+use Rattle.wkb_abi.specs.Columns.{IsRow, null_row}
+use Rattle.wkb_abi.specs.Coordinates.{LevelLists, levels, HasCoordinates, handed, failed, written, no_row, no_totals}
+use Rattle.wkb_abi.specs.LevelRows.{HasLevelEncoding}
+use Rattle.wkb_abi.specs.LevelTargets.{target_asked}
 use Rattle.wkb_column_laws.specs.ThereAndBack.{AreGivenOn, IsLevelled, ComesBack, stays_null, is_levelled}
-use Rattle.wkb_columns.specs.declared.column.Column.{Column}
-use Rattle.wkb_columns.specs.declared.totals.Totals.{Totals}
-use Rattle.wkb_columns.specs.declared.level_column.LevelColumn.{LevelColumn}
-use Rattle.wkb_columns.specs.declared.options.Options.{Options}
-use Rattle.wkb_columns.specs.declared.options.Request.TheVariants.{Encoding}
+use Rattle.wkb_abi.specs.declared.column.Column.{Column}
+use Rattle.wkb_abi.specs.declared.totals.Totals.{Totals}
+use Rattle.wkb_abi.specs.declared.level_column.LevelColumn.{LevelColumn}
+use Rattle.wkb_abi.specs.declared.options.Options.{Options}
+use Rattle.wkb_abi.specs.declared.options.Request.TheVariants.{Encoding}
 use Rattle.wkb_column_laws.proofs.ThereAndBack.{back_as_spelled}
 
 -- a slice of these items

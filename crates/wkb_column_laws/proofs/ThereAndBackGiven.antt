@@ -1,6 +1,6 @@
 -- The levels that are given on, and where each row begins in them.
-use Rattle.wkb_columns.proofs.Common.{◌≡◌, ℕ, ◌*◌, List, length}
-use Rattle.wkb_columns.proofs.Common.{refl, sym, ap, ◌∙◌, arith, Dimension, width}
+use Rattle.wkb_abi.proofs.Common.{◌≡◌, ℕ, ◌*◌, List, length}
+use Rattle.wkb_abi.proofs.Common.{refl, sym, ap, ◌∙◌, arith, Dimension, width}
 use Rattle.std.specs.Prelude.{◌-◌, ◌==◌, if◌then◌else◌, take}
 use Rattle.std.specs.Borrow.{Bor}
 use Rattle.std.specs.List.{range_with_len}
@@ -12,13 +12,13 @@ use Rattle.wkb_levels.specs.declared.ends.Ends.TheVariants.{Each, At}
 use Rattle.wkb_levels.specs.declared.levels.Levels.{Levels}
 use Rattle.wkb_levels.specs.Cuts.{start_at}
 use Rattle.wkb_levels.specs.EndLists.{start_of, ends_of, begin_of}
-use Rattle.wkb_columns.specs.Coordinates.{LevelLists, levels, HasRoomUpTo, AreColumnCoordinates}
-use Rattle.wkb_columns.specs.LevelTargets.{levels_in}
+use Rattle.wkb_abi.specs.Coordinates.{LevelLists, levels, HasRoomUpTo, AreColumnCoordinates}
+use Rattle.wkb_abi.specs.LevelTargets.{levels_in}
 use Rattle.wkb_column_laws.specs.ThereAndBack.{AreGivenOn}
-use Rattle.wkb_columns.specs.declared.column.Column.{Column}
-use Rattle.wkb_columns.specs.declared.totals.Totals.{Totals}
-use Rattle.wkb_columns.specs.declared.level_column.LevelColumn.{LevelColumn}
-use Rattle.wkb_columns.proofs.Rooms.{Reaches, scaled, room_in}
+use Rattle.wkb_abi.specs.declared.column.Column.{Column}
+use Rattle.wkb_abi.specs.declared.totals.Totals.{Totals}
+use Rattle.wkb_abi.specs.declared.level_column.LevelColumn.{LevelColumn}
+use Rattle.wkb_abi.proofs.Rooms.{Reaches, scaled, room_in}
 use Rattle.wkb_column_laws.proofs.ThereAndBackRows.{Stage, IsDone, rows_done, Keeps, keeps_on, keeps_fewer}
 use Rattle.wkb_column_laws.proofs.ThereAndBackRows.{start_same}
 use Rattle.wkb_column_laws.proofs.ThereAndBackRows.{as_long_back}

@@ -1,9 +1,9 @@
 -- The singles of a geometry: what its subjects give each level, and the geometry that they mean.
-use Rattle.wkb_columns.proofs.Common.{◌≡◌, ℕ, ◌<◌, List, [], ◌∷◌, ◌++◌, length, Option, Some, None, refl, sym, ap, ◌∙◌}
-use Rattle.wkb_columns.proofs.Common.{subst, arith, append-nil, append_assoc, Dimension, width, Coordinate}
-use Rattle.wkb_columns.proofs.Common.{Spelling, node, Spellings, no_spellings, spelling, Spells, SpellsEach, Value, Values}
-use Rattle.wkb_columns.proofs.Common.{point, line_string, polygon, multi_point, multi_line_string, multi_polygon, collection}
-use Rattle.wkb_columns.proofs.Common.{no_members, member, members, kind, dimension, SpellsCoordinate, SpellsCoordinates}
+use Rattle.wkb_abi.proofs.Common.{◌≡◌, ℕ, ◌<◌, List, [], ◌∷◌, ◌++◌, length, Option, Some, None, refl, sym, ap, ◌∙◌}
+use Rattle.wkb_abi.proofs.Common.{subst, arith, append-nil, append_assoc, Dimension, width, Coordinate}
+use Rattle.wkb_abi.proofs.Common.{Spelling, node, Spellings, no_spellings, spelling, Spells, SpellsEach, Value, Values}
+use Rattle.wkb_abi.proofs.Common.{point, line_string, polygon, multi_point, multi_line_string, multi_polygon, collection}
+use Rattle.wkb_abi.proofs.Common.{no_members, member, members, kind, dimension, SpellsCoordinate, SpellsCoordinates}
 use Rattle.std.specs.Prelude.{map, flat_map, slice_index, option_and_then}
 use Rattle.std.specs.Option.{option_map}
 use Rattle.std.proofs.lemmas.List.Concat.{flat_map-append}
@@ -19,8 +19,8 @@ use Rattle.wkb_levels.specs.Cuts.{only_each}
 use Rattle.wkb_levels.specs.Meant.{kind_meant, rings_meant}
 use Rattle.wkb_levels.specs.declared.row.Kind.{Kind}
 use Rattle.wkb_levels.specs.declared.row.Kind.TheVariants as kinds
-use Rattle.wkb_columns.specs.Coordinates.{words_asked, asked_subject_words, ring_counts, single_counts}
-use Rattle.wkb_columns.specs.LevelTargets.{kind_named}
+use Rattle.wkb_abi.specs.Coordinates.{words_asked, asked_subject_words, ring_counts, single_counts}
+use Rattle.wkb_abi.specs.LevelTargets.{kind_named}
 use Rattle.wkb_column_laws.specs.ThereAndBack.{points_spelled, as_spelled}
 use Rattle.wkb_column_laws.proofs.ThereAndBackLevels.{joined, sizes_of, AreWide}
 

@@ -15,7 +15,7 @@ use Rattle.wkb_levels.specs.Columns.{row_begin, row_end, rings_begin, rings_end,
 use Rattle.wkb_levels.specs.Cuts.{start_at, AreEnds, pieces_from}
 use Rattle.wkb_levels.specs.EndLists.{start_of, ends_of}
 use Rattle.wkb_plain.proofs.Runs.{length-runs}
-use Rattle.wkb_columns.specs.Coordinates.{ends}
+use Rattle.wkb_abi.specs.Coordinates.{ends}
 use Rattle.wkb_levels.proofs.Pieces.{length-pieces, start_behind, slice_range-pieces, coordinates_between}
 
 -- lists one behind another

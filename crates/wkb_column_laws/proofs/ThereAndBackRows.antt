@@ -1,9 +1,9 @@
 -- What the lists of a column's levels hold of each row.
-use Rattle.wkb_columns.proofs.Common.{◌≡◌, ℕ, zero, suc, ◌+◌, ◌*◌, ◌≤◌, List, [], ◌∷◌, ◌++◌, length, drop, Some}
-use Rattle.wkb_columns.proofs.Common.{None, refl, sym, ap, ◌∙◌, subst, arith, length-append, Dimension, width, Spelling, node}
-use Rattle.wkb_columns.proofs.Common.{Spellings, no_spellings, spelling, Value, Values, no_members, member, members}
-use Rattle.wkb_columns.proofs.Common.{dimension}
-use Rattle.wkb_columns.proofs.Common.{point, polygon, slice_index, Coordinate, inl, inr, Header}
+use Rattle.wkb_abi.proofs.Common.{◌≡◌, ℕ, zero, suc, ◌+◌, ◌*◌, ◌≤◌, List, [], ◌∷◌, ◌++◌, length, drop, Some}
+use Rattle.wkb_abi.proofs.Common.{None, refl, sym, ap, ◌∙◌, subst, arith, length-append, Dimension, width, Spelling, node}
+use Rattle.wkb_abi.proofs.Common.{Spellings, no_spellings, spelling, Value, Values, no_members, member, members}
+use Rattle.wkb_abi.proofs.Common.{dimension}
+use Rattle.wkb_abi.proofs.Common.{point, polygon, slice_index, Coordinate, inl, inr, Header}
 use Rattle.std.specs.Prelude.{◌-◌, sum, flat_map, take, slice_range}
 use Rattle.std.proofs.Common.{set}
 use Rattle.std.proofs.lemmas.Bool.{cases_eq}
@@ -15,23 +15,22 @@ use Rattle.wkb_geom.specs.Codes.{dimension_of_thousands}
 use Rattle.wkb_geom.specs.Fronts.{Front}
 use Rattle.wkb_geom.specs.declared.common.Endianness.{Endianness}
 use Rattle.wkb_laws.proofs.OneFront.{one_front_lem}
-use Rattle.wkb_check.specs.Pieces.{rings_of}
-use Rattle.wkb_check.specs.Subjects.{Subject, whole, subjects, subjects_of_rings, subjects_of_each}
+use Rattle.wkb_check.specs.Subjects.{Subject, whole, rings_of, subjects, subjects_of_rings, subjects_of_each}
 use Rattle.wkb_levels.specs.Cuts.{start_at}
-use Rattle.wkb_columns.specs.Columns.{IsRow, IsRefusedWith}
-use Rattle.wkb_columns.specs.Coordinates.{LevelLists, HasRoomUpTo, totals_after, with_levels, IsCoordinatesRow, handed}
-use Rattle.wkb_columns.specs.Coordinates.{failed, written, no_room, LacksCoordinates, no_row, unknown, refused}
-use Rattle.wkb_columns.specs.Coordinates.{AreColumnCoordinates, ends, ring_counts, single_counts}
-use Rattle.wkb_columns.specs.Coordinates.{asked_subject_words}
-use Rattle.wkb_columns.specs.RowItems.{end_of}
+use Rattle.wkb_abi.specs.Columns.{IsRow, IsRefusedWith}
+use Rattle.wkb_abi.specs.Coordinates.{LevelLists, HasRoomUpTo, totals_after, with_levels, IsCoordinatesRow, handed}
+use Rattle.wkb_abi.specs.Coordinates.{failed, written, no_room, LacksCoordinates, no_row, unknown, refused}
+use Rattle.wkb_abi.specs.Coordinates.{AreColumnCoordinates, ends, ring_counts, single_counts}
+use Rattle.wkb_abi.specs.Coordinates.{asked_subject_words}
+use Rattle.wkb_abi.specs.RowItems.{end_of}
 use Rattle.wkb_column_laws.specs.ThereAndBack.{AreShort}
-use Rattle.wkb_columns.specs.declared.column.Column.{Column}
-use Rattle.wkb_columns.specs.declared.totals.Totals.{Totals}
-use Rattle.wkb_columns.specs.declared.status.TheConstants.{OK}
-use Rattle.wkb_columns.proofs.OneRow.{one_row, never_lacks, never_refused}
-use Rattle.wkb_columns.proofs.Levels.{AreSmall, sum-first, sum_append, wide_enough}
-use Rattle.wkb_columns.proofs.Rooms.{AreAsLong, Reaches, RowSays, row_says, long_more, scaled, room_before, room_in}
-use Rattle.wkb_columns.proofs.Rooms.{one_dimension}
+use Rattle.wkb_abi.specs.declared.column.Column.{Column}
+use Rattle.wkb_abi.specs.declared.totals.Totals.{Totals}
+use Rattle.wkb_abi.specs.declared.status.TheConstants.{OK}
+use Rattle.wkb_abi.proofs.OneRow.{one_row, never_lacks, never_refused}
+use Rattle.wkb_abi.proofs.Levels.{AreSmall, sum-first, sum_append, wide_enough}
+use Rattle.wkb_abi.proofs.Rooms.{AreAsLong, Reaches, RowSays, row_says, long_more, scaled, room_before, room_in}
+use Rattle.wkb_abi.proofs.Rooms.{one_dimension}
 
 -- ---- a list that items are put into
 

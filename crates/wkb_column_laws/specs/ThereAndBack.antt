@@ -12,21 +12,21 @@ use Rattle.wkb_geom.specs.Geometries.{Geometry, geometry_of}
 use Rattle.wkb_geom.specs.Numbers.{AreBytes}
 use Rattle.wkb_geom.specs.Spellings.{Spelling, node, header, Spellings, no_spellings, spelling}
 use Rattle.wkb_geom.specs.Values.{Coordinate, Value, point, multi_point, kind, dimension}
-use Rattle.wkb_columns.specs.Columns.{IsRow, is_null_row}
-use Rattle.wkb_columns.specs.Coordinates.{LevelLists, AreColumnCoordinates}
-use Rattle.wkb_columns.specs.LevelRows.{HasLevelEncoding, LacksLevels, EncodeLevels, level_rows}
-use Rattle.wkb_columns.specs.LevelTargets.{target_asked}
-use Rattle.wkb_columns.specs.Requests.{request_of, options_for}
-use Rattle.wkb_columns.specs.RowItems.{RowHas, IsRowAnswer, AreEncodings, rows_of}
-use Rattle.wkb_columns.specs.Writings.{HasEncoding}
-use Rattle.wkb_columns.specs.declared.column.Column.{Column}
-use Rattle.wkb_columns.specs.declared.totals.Totals.{Totals}
-use Rattle.wkb_columns.specs.declared.level_column.LevelColumn.{LevelColumn}
-use Rattle.wkb_columns.specs.declared.level_column.LevelTarget.{LevelTarget}
-use Rattle.wkb_columns.specs.declared.options.Options.{Options}
-use Rattle.wkb_columns.specs.declared.options.Request.{Request}
-use Rattle.wkb_columns.specs.declared.options.TheConstants.{EWKB_OWN_SRID}
-use Rattle.wkb_columns.specs.declared.status.TheConstants.{OK, NO_ROOM, NULL_ROW}
+use Rattle.wkb_abi.specs.Columns.{IsRow, is_null_row}
+use Rattle.wkb_abi.specs.Coordinates.{LevelLists, AreColumnCoordinates}
+use Rattle.wkb_abi.specs.LevelRows.{HasLevelEncoding, LacksLevels, EncodeLevels, level_rows}
+use Rattle.wkb_abi.specs.LevelTargets.{target_asked}
+use Rattle.wkb_abi.specs.Requests.{request_of, options_for}
+use Rattle.wkb_abi.specs.RowItems.{RowHas, IsRowAnswer, AreEncodings, rows_of}
+use Rattle.wkb_abi.specs.Writings.{HasEncoding}
+use Rattle.wkb_abi.specs.declared.column.Column.{Column}
+use Rattle.wkb_abi.specs.declared.totals.Totals.{Totals}
+use Rattle.wkb_abi.specs.declared.level_column.LevelColumn.{LevelColumn}
+use Rattle.wkb_abi.specs.declared.level_column.LevelTarget.{LevelTarget}
+use Rattle.wkb_abi.specs.declared.options.Options.{Options}
+use Rattle.wkb_abi.specs.declared.options.Request.{Request}
+use Rattle.wkb_abi.specs.declared.options.TheConstants.{EWKB_OWN_SRID}
+use Rattle.wkb_abi.specs.declared.status.TheConstants.{OK, NO_ROOM, NULL_ROW}
 use Rattle.wkb_levels.specs.Cuts.{start_at}
 use Rattle.wkb_sink.specs.declared.options.WriteOptions.{WriteOptions}
 

@@ -1,7 +1,6 @@
 pub mod Prelude
 pub mod AsWritten
 pub mod Bodies
-pub mod Fronts
 pub mod LastItem
 pub mod NoMemory
 pub mod NoSrids

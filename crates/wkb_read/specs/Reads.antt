@@ -6,14 +6,9 @@ use Rattle.wkb_read.specs.Prelude.{any, Front, HasNoFront, max_nesting, Cause, R
 use Rattle.wkb_read.specs.Prelude.{IsWritable, Item, Counts, IsGeometry, normal}
 use Rattle.wkb_read.specs.Memory.{IsNotMemory}
 use Rattle.wkb_read.specs.Meanings.{geometry_seen}
+pub use Rattle.wkb_view.specs.Lends.{IsFront, CanBeWritten, IsRead, Lends}
 use Rattle.wkb_geom.specs.declared.error.WkbError.TheVariants as errors
 use Rattle.wkb_read.specs.declared.geometry.Wkb.{Wkb}
-
--- the input begins with the bytes of this geometry, which spell its value
-pub record IsFront (buf : List ℕ) (w : Item) : Type 0 where
-  pub rest : List ℕ
-  pub front : Front buf w.spelled w.value rest
-  pub encoding_is : front.front ≡ w.encoding
 
 -- whatever geometry the input begins with has these bytes, this spelling and this value
 abbrev pub IsOnlyFront : List ℕ → Item → Type 0
@@ -58,21 +53,6 @@ pub record CountsAtMost (buf : List ℕ) (c : Counts) : Type 0 where
       → (c.turns ≤ member_count t) × (c.slots ≤ listed_count t)
   pub refusal : (cause : Cause) (turns slots : ℕ) → Refuses max_nesting any buf cause turns slots
       → (c.turns ≤ turns) × (c.slots ≤ slots)
-
--- the value can be written in either order
-abbrev pub CanBeWritten : Value → Type 0
-CanBeWritten t = (order : Endianness) → IsWritable order Iso (geometry_of t)
-
--- What every geometry is that was read, wherever it is handed on, and every member of it: its bytes are those of a
--- slice and begin with it, and its value is lawful, can be written, is its own normal value, and is what the traits show.
-pub record IsRead (w : Item) : Type 0 where
-  pub front : IsFront w.encoding w
-  pub bytes : AreBytes w.encoding
-  pub fits : length w.encoding < 2 ^ 64
-  pub lawful : IsGeometry (geometry_of w.value)
-  pub seen : geometry_seen w ≡ geometry_of w.value
-  pub normal : normal (geometry_of w.value) ≡ w.value
-  pub writable : CanBeWritten w.value
 
 -- no list of the input asks for an entry
 pub record AsksForNone (buf : List ℕ) : Type 0 where

@@ -1,7 +1,5 @@
 //! Collections, and geometries of any kind.
 
-ghost use Rattle.std.specs.Prelude.{◌<◌, ◌^◌, length};
-ghost use Rattle.wkb_geom.specs.Numbers.{AreBytes};
 ghost use Rattle.wkb_read.specs.Prelude.{as_dimensions};
 ghost use Rattle.wkb_read.specs.Meanings.{members_seen, geometry_seen};
 ghost use Rattle.wkb_read.specs.Lawful.{members_lawful, geometry_lawful, one_dimension_seen};
@@ -20,6 +18,7 @@ use wkb_geom::{
 use wkb_plain::{Line, Rect, Triangle};
 use wkb_view::any::AnyView;
 use wkb_view::as_written::AsWritten;
+use wkb_view::lent::are_bytes;
 use wkb_view::line_string::LineString;
 use wkb_view::multi_line_string::MultiLineString;
 use wkb_view::multi_point::MultiPoint;
@@ -111,18 +110,11 @@ impl<'a> Model for Wkb<'a> {
     ghost size_decreases = { λ a h. kind_falls a.kind };
 }
 
-/// What the lemmas ask of the bytes of a slice.
-#[inline(always)]
-fn are_bytes(_bytes: &[u8])
-    ensures bytes { AreBytes _bytes.now }
-    ensures fits { length _bytes.now < 2 ^ 64 }
-{}
-
 impl<'a> GeometryCollection<'a> {
     ghost use Rattle.std.specs.Prelude.{◌≡◌, true, IfOk, length};
-    ghost use Rattle.wkb_read.specs.Prelude.{srid_of, BytesSpell, IsSpelledAsWritten};
+    ghost use Rattle.wkb_read.specs.Prelude.{srid_of, IsSpelledAsWritten};
     ghost use Rattle.wkb_read.specs.Places.{collection_seen};
-    ghost use Rattle.wkb_read.specs.Reads.{IsFront, IsRead};
+    ghost use Rattle.wkb_read.specs.Reads.{Lends};
 
     /// The number of its bytes.
     #[inline]
@@ -143,24 +135,9 @@ impl<'a> GeometryCollection<'a> {
     /// The bytes of this geometry, from its order byte to its end.
     #[inline]
     pub fn buf(&self) -> &'a [u8]
-        ensures encoding { result.now ≡ self.now.encoding }
-        ensures spells { BytesSpell (collection_seen self.now) }
-        ensures front { IsFront result.now (collection_seen self.now) }
-        ensures read { IsRead (collection_seen self.now) }
+        ensures { Lends (collection_seen self.now) result.now }
     {
-        let buf = self.bytes();
-        are_bytes(buf);
-        buf
-    }
-
-    /// Its bytes, as `buf` returns them.
-    #[tactic(auto, using(crate::proofs::Fronts::own_front))]
-    #[inline]
-    fn bytes(&self) -> &'a [u8]
-        ensures encoding { result.now ≡ self.now.encoding }
-        ensures spells { BytesSpell (collection_seen self.now) }
-        ensures front { IsFront result.now (collection_seen self.now) }
-    {
+        are_bytes(self.buf);
         self.buf
     }
 
@@ -262,11 +239,11 @@ impl<'a> GeometryCollectionTrait for GeometryCollection<'a> {
 impl<'a> Wkb<'a> {
     ghost use Rattle.std.specs.Prelude.{◌≡◌, true, None, IfOk, IfErr, IfSome, IsSome};
     ghost use Rattle.wkb_geom.specs.Encodings.{form_with_flags};
-    ghost use Rattle.wkb_read.specs.Prelude.{srid_of, dimension, IsCollection, BytesSpell, IsSpelledAsWritten};
+    ghost use Rattle.wkb_read.specs.Prelude.{srid_of, dimension, IsCollection, IsSpelledAsWritten};
     ghost use Rattle.wkb_read.specs.Prelude.{LendsEncoding};
     ghost use Rattle.wkb_read.specs.Places.{collection_seen};
     ghost use Rattle.wkb_read.specs.Types.{geometry_type_of, IsListed};
-    ghost use Rattle.wkb_read.specs.Reads.{Reads, IsFront, IsRead};
+    ghost use Rattle.wkb_read.specs.Reads.{Reads, Lends};
 
     /// The geometry at the start of the bytes, as `read_wkb` returns it.
     pub fn try_new(alloc: Global, buf: &'a [u8]) -> WkbResult<Wkb<'a>>
@@ -306,24 +283,8 @@ impl<'a> Wkb<'a> {
     }
 
     /// The bytes of this geometry, from its order byte to its end.
-    #[inline]
     pub fn buf(&self) -> &'a [u8]
-        ensures encoding { result.now ≡ self.now.encoding }
-        ensures spells { BytesSpell self.now }
-        ensures front { IsFront result.now self.now }
-        ensures read { IsRead self.now }
-    {
-        let buf = self.bytes();
-        are_bytes(buf);
-        buf
-    }
-
-    /// Its bytes, as `buf` returns them.
-    #[tactic(auto, using(crate::proofs::Fronts::own_front, crate::proofs::Fronts::point_shallow))]
-    fn bytes(&self) -> &'a [u8]
-        ensures encoding { result.now ≡ self.now.encoding }
-        ensures spells { BytesSpell self.now }
-        ensures front { IsFront result.now self.now }
+        ensures { Lends self.now result.now }
     {
         match &self.kind {
             View::Point(point) => point.buf(),
@@ -332,7 +293,7 @@ impl<'a> Wkb<'a> {
             View::MultiPoint(multi) => multi.buf(),
             View::MultiLineString(multi) => multi.buf(),
             View::MultiPolygon(multi) => multi.buf(),
-            View::GeometryCollection(collection) => collection.bytes(),
+            View::GeometryCollection(collection) => collection.buf(),
         }
     }
 

@@ -10,8 +10,8 @@ use wkb_clients::boxes::BoundingBox;
 use wkb_clients::geopackage::{Unread, read};
 use wkb_clients::windows::found_in;
 
-/// Twenty for a fault of the header, 30 for one of the envelope, 40 for one of the geometry; else the envelope's kind,
-/// and ten more where the header is big endian.
+/// Twenty for a fault of the header, 30 for one of the envelope, 40 for one of the geometry, 50 for EWKB; else the
+/// envelope's kind, and ten more where the header is big endian.
 fn outcome(alloc: Global, text: &str) -> Result<u8, Fail> {
     let blob = bytes(text)?;
     match read(alloc, blob.as_slice()) {
@@ -22,6 +22,7 @@ fn outcome(alloc: Global, text: &str) -> Result<u8, Fail> {
         Err(Unread::Header) => Ok(20),
         Err(Unread::Envelope) => Ok(30),
         Err(Unread::Geometry(_)) => Ok(40),
+        Err(Unread::Ewkb) => Ok(50),
     }
 }
 
@@ -50,7 +51,7 @@ fn packages_read(rt: HostRuntime) -> Result<(), Fail> {
 }
 
 // Another letter, another version, a bit of a later use, an envelope of no kind, one that is cut; one from x 2 on, one
-// of a NaN, one of zeros around an empty geometry; and a geometry without its last byte.
+// of a NaN, one of zeros around an empty geometry; EWKB with an SRID; and a geometry without its last byte.
 #[test]
 fn packages_refused(rt: HostRuntime) -> Result<(), Fail> {
     let alloc = rt.alloc();
@@ -69,6 +70,7 @@ fn packages_refused(rt: HostRuntime) -> Result<(), Fail> {
         "47500013 e6100000 0000000000000000 0000000000000000 0000000000000000 0000000000000000
         01 03000000 00000000";
     assert!(rt; outcome(alloc, zeros)? == 30);
+    assert!(rt; outcome(alloc, "47500001 e6100000 01 01000020 e6100000 P")? == 50);
     assert!(rt;
         outcome(
             alloc,

@@ -7,7 +7,7 @@ use Rattle.wkb_check.specs.declared.pieces.Piece.{Piece}
 use Rattle.wkb_check.specs.declared.pieces.Pieces.{Pieces}
 use Rattle.wkb_check.specs.Known.{HasGeometry}
 use Rattle.wkb_check.specs.Pieces.{own_end, IsPieceAt, IsTaken, pieces_of}
-use Rattle.wkb_check.proofs.Placing.{sets_after, own_piece, leaf_of, geometry_inside}
+use Rattle.wkb_check.proofs.Placing.{sets_after, only_piece, geometry_inside}
 use Rattle.wkb_check.specs.declared.answer.Summary.{Summary}
 use Rattle.wkb_check.specs.Public.{DescribesFront}
 use Rattle.wkb_sink.specs.declared.options.WriteOptions.{WriteOptions}
@@ -100,8 +100,10 @@ module _ {buf : List ℕ} {found : Summary} (d : DescribesFront buf found) {p : 
   alone : IsFrontEncoding buf options own_encoding
   alone g =
       sym (encoded options.endianness options.form g)
-      ∙ rw (← pieces_say buf 0 g.spelled g.value g.rest g.begins, own_piece)
-      (simp (sym (first g), (leaf_of buf 0 0 g p (first g) low).3, append-nil))
+      ∙ ap (shares_encoding options.endianness options.form)
+      (sym (pieces_say buf 0 g.spelled g.value g.rest g.begins)
+      ∙ ap (map (share_in buf)) (only_piece buf 0 g p (first g) low))
+      ∙ append-nil own_encoding
 
   pub alone_fits : (out : List ℕ) → FrontFits buf options out
       → record { inside : own_end p ≤ length buf; room : HasRoomAt out 0 own_encoding }

@@ -9,7 +9,7 @@ use Rattle.wkb_laws.specs.Prelude.{encoding, encodings, inner, number_bytes}
 unfoldable use Rattle.wkb_laws.specs.Prelude.{words_encoding, coordinates_encoding, point_encoding}
 unfoldable use Rattle.wkb_laws.specs.Prelude.{line_string_encoding, polygon_encoding, members_encoding}
 use Rattle.wkb_laws.proofs.Values.{same_dimension, count-geometries_of}
-use Rattle.wkb_check.specs.Pieces.{rings_of}
+use Rattle.wkb_check.specs.Subjects.{rings_of}
 use Rattle.wkb_sink.proofs.Turned.{words_joined}
 use Rattle.wkb_rewrite.specs.Shares.{Share, share_encoding}
 use Rattle.wkb_rewrite.proofs.ValueShares.{own_share, ring_share, shares_of, shares_of_each}

@@ -4,7 +4,7 @@ use Rattle.std.proofs.Common.{length-append}
 use Rattle.wkb_laws.specs.Prelude.{Endianness, Dimension, Form, Coordinate, AreBytes, Value, Values, no_members, member}
 use Rattle.wkb_laws.specs.Prelude.{dimension, members, Spelling, node, Spellings, no_spellings, spelling, Spells}
 use Rattle.wkb_laws.specs.Prelude.{SpellsEach, kind, multi_point, Wanted, srid_count, srid_count_each, srid_size}
-use Rattle.wkb_laws.specs.Prelude.{ring_end, form_srid, geometry_of, encoding}
+use Rattle.wkb_laws.specs.Prelude.{form_srid, geometry_of, encoding}
 use Rattle.wkb_laws.proofs.Lengths.{spelled_length, encoding_length, value_size, srid_size_is, none_without_members}
 use Rattle.wkb_laws.proofs.Lengths.{none_in_points}
 use Rattle.wkb_laws.proofs.Values.{normal-geometry_of, lawful-geometry_of}
@@ -14,7 +14,8 @@ use Rattle.wkb_check.specs.declared.pieces.Piece.{Piece}
 use Rattle.wkb_check.specs.declared.answer.Summary.{Summary}
 use Rattle.wkb_check.specs.Known.{HasGeometry}
 use Rattle.wkb_check.specs.Public.{DescribesFront}
-use Rattle.wkb_check.specs.Pieces.{leading, rings_of, size, piece_of, pieces_of, pieces_of_rings, pieces_of_each}
+use Rattle.wkb_check.specs.Subjects.{Subject, rings_of, subjects, subjects_of_rings, subjects_of_each}
+use Rattle.wkb_check.specs.Pieces.{own_end, piece_of, ring_piece, piece_at, last_end, pieces_from, pieces_of}
 use Rattle.wkb_check.proofs.Ahead.{type_kind_is}
 use Rattle.wkb_rewrite.proofs.Comparing.{same_spelling, value_good}
 use Rattle.wkb_rewrite.proofs.Putting.{most_srid}
@@ -28,33 +29,41 @@ pub sizes_append : (ps qs : List Piece) → srid_sizes (ps ++ qs) ≡ srid_sizes
 sizes_append [] qs = omega arith
 sizes_append (p ∷ ps) qs = omega (arith, sizes_append ps qs)
 
+srids_append : (at : ℕ) (xs ys : List Subject)
+    → srid_sizes (pieces_from at (xs ++ ys))
+    ≡ srid_sizes (pieces_from at xs) + srid_sizes (pieces_from (last_end at xs) ys)
+srids_append at [] ys = omega arith
+srids_append at (x ∷ xs) ys = omega (arith, srids_append (own_end (piece_at at x)) xs ys)
+
 rings_have_none : (order : Endianness) (d : Dimension) (at : ℕ) (rings : List (List Coordinate))
-    → srid_sizes (pieces_of_rings order d at rings) ≡ 0
+    → srid_sizes (pieces_from at (subjects_of_rings order d rings)) ≡ 0
 rings_have_none order d at [] = refl
-rings_have_none order d at (cs ∷ rings) = omega (arith, rings_have_none order d (at + ring_end d (length cs)) rings)
+rings_have_none order d at (cs ∷ rings) =
+    omega (arith, rings_have_none order d (own_end (ring_piece order d at (length cs))) rings)
 
 mutual
   srids_counted : (at : ℕ) (s : Spelling) (t : Value) (x : List ℕ) → Spells s t x
       → srid_sizes (pieces_of at s t) ≡ 4 * srid_count s
   srids_counted at (node h words ss) t x a =
+      let from = own_end (piece_of at (node h words ss) t) in
+      let rings = subjects_of_rings h.order (dimension t) (rings_of t) in
       omega (
         arith,
         srid_size_is (is_some h.srid),
-        sizes_append (pieces_of_rings h.order (dimension t) (at + leading h t) (rings_of t))
-            (pieces_of_each (at + leading h t) ss (members t)),
-        rings_have_none h.order (dimension t) (at + leading h t) (rings_of t),
-        each_counted (at + leading h t) _ ss (members t) a.second.rest a.second.second,
+        srids_append from rings (subjects_of_each ss (members t)),
+        rings_have_none h.order (dimension t) from (rings_of t),
+        each_counted (last_end from rings) _ ss (members t) a.second.rest a.second.second,
       )
 
   each_counted : (at : ℕ) (w : Wanted) (ss : Spellings) (ts : Values) (x : List ℕ) → SpellsEach w ss ts x
-      → srid_sizes (pieces_of_each at ss ts) ≡ 4 * srid_count_each ss
+      → srid_sizes (pieces_from at (subjects_of_each ss ts)) ≡ 4 * srid_count_each ss
   each_counted at w no_spellings no_members x a = refl
   each_counted at w (spelling s ss) (member t ts) x a =
       omega (
         arith,
-        sizes_append (pieces_of at s t) (pieces_of_each (at + size s t) ss ts),
+        srids_append at (subjects s t) (subjects_of_each ss ts),
         srids_counted at s t a.front a.first.0,
-        each_counted (at + size s t) w ss ts a.rest a.second,
+        each_counted (last_end at (subjects s t)) w ss ts a.rest a.second,
       )
   each_counted at w _ _ x a = absurd a
 

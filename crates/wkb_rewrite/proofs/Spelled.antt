@@ -11,8 +11,8 @@ use Rattle.wkb_laws.specs.Prelude.{no_spellings, spelling, no_members, Spells}
 unfoldable use Rattle.wkb_laws.specs.Prelude.{point_words}
 use Rattle.wkb_geom.specs.Reading.{items}
 use Rattle.wkb_check.specs.declared.pieces.Piece.{Piece}
-use Rattle.wkb_check.specs.Pieces.{pieces_of, rings_of}
-use Rattle.wkb_check.specs.Subjects.{Subject, whole, ring, subject_coordinates, subjects, subjects_of_rings}
+use Rattle.wkb_check.specs.Pieces.{pieces_of}
+use Rattle.wkb_check.specs.Subjects.{Subject, whole, ring, rings_of, subject_coordinates, subjects, subjects_of_rings}
 use Rattle.wkb_check.specs.Subjects.{subjects_of_each}
 use Rattle.wkb_check.proofs.Subjects.{piece_coordinates, IsPieceOf, ArePiecesOf, pieces_match}
 use Rattle.wkb_rewrite.specs.Shares.{Share, share_in, own_words}

@@ -11,9 +11,10 @@ use Rattle.wkb_geom.specs.Reading.{ring_in}
 use Rattle.wkb_geom.specs.Items.{length-items}
 use Rattle.wkb_check.specs.declared.pieces.Piece.{Piece}
 use Rattle.wkb_check.specs.Known.{HasGeometry}
-use Rattle.wkb_check.specs.Pieces.{own_end, count_of, piece_of, pieces_of_each, ring_piece, size, Ahead}
+use Rattle.wkb_check.specs.Subjects.{subjects_of_each}
+use Rattle.wkb_check.specs.Pieces.{own_end, count_of, piece_of, pieces_from, ring_piece, Ahead}
 use Rattle.wkb_check.proofs.Ahead.{says, begins_inside}
-use Rattle.wkb_check.proofs.Placing.{own_piece, inner_pieces, first_one, of_first}
+use Rattle.wkb_check.proofs.Placing.{itself_first, inner, first_one}
 use Rattle.wkb_check.proofs.Following.{none_ahead}
 use Rattle.wkb_check.proofs.Public.{geometry_opens}
 use Rattle.wkb_rewrite.specs.Shares.{share_in, share_encoding, words_part, count_part, header_part, is_empty_point}
@@ -129,14 +130,15 @@ module _ {buf : List ℕ} (b : AreBytes buf) where
       → Ahead buf order d r n at (p ∷ ps) → IsThere buf at p
   next_there {r = zero} {n = zero} a = let none = none_ahead a (omega arith) (omega arith) in absurd cc
   next_there {r = zero} {n = suc m} {at = at} {p = p} {ps = ps} a =
-      let f = first_one (suc m) m (drop a.after buf) a.more a.all refl in
+      let f = first_one (suc m) m (drop at buf) a.more a.all refl in
       let g = f.geometry in
-      let others = pieces_of_each (a.after + size g.spelled g.value) f.others.spelled f.others.values in
-      let first : p ∷ ps ≡ piece_of a.after g.spelled g.value ∷ (inner_pieces a.after g.spelled g.value ++ others) =
-      a.are ∙ of_first (pieces_of_each a.after) f ∙ ap (λ qs. qs ++ others) (own_piece a.after g.spelled g.value) in
-      let is : p ≡ piece_of a.after g.spelled g.value = cc in
-      geometry (rw is (subst (λ k. IsGeometry buf k (piece_of a.after g.spelled g.value)) (omega (arith, a.after_is))
-      (geometry_there a.after g)))
+      let others = subjects_of_each f.others.spelled f.others.values in
+      let first : p ∷ ps
+      ≡ piece_of at g.spelled g.value
+      ∷ pieces_from (own_end (piece_of at g.spelled g.value)) (inner g.spelled g.value ++ others) =
+      a.are ∙ ap (pieces_from at) (f.are ∙ ap (λ xs. xs ++ others) (itself_first g.spelled g.value)) in
+      let is : p ≡ piece_of at g.spelled g.value = cc in
+      geometry (rw is (geometry_there at g))
   next_there {order = order} {d = d} {r = suc m} {at = at} {p = p} {ps = ps} a =
       let bytes = drop at buf in
       let first : p ∷ ps ≡ ring_piece order d at (length (ring_in order d bytes)) ∷ _ = a.are in

@@ -79,8 +79,8 @@ impl<'a, S: Sink> Buffered<'a, S> {
         }
     }
 
-    // Flushes, and fails if even an empty block has no room for `n`. Inlined, so that `lay_whole`, which has no real
-    // sink, keeps the block in registers.
+    /// Flushes, and fails if even an empty block has no room for `n`. Inlined, so that `lay_whole`, which has no real
+    /// sink, keeps the block in registers.
     #[inline]
     #[tactic(auto, using(crate::proofs::Steps::room_laws))]
     fn flush_for(&mut self, n: usize) -> Result<(), Stopped>
@@ -128,7 +128,7 @@ impl<'a, S: Sink> Buffered<'a, S> {
         }
     }
 
-    // Puts what waits. Then the bytes go into the block, or straight to the sink where they are longer than the block.
+    /// Puts what waits. Then the bytes go into the block, or straight to the sink where they are longer than the block.
     #[inline(never)]
     #[tactic(auto, using(crate::proofs::Steps::step_laws))]
     fn put_past(&mut self, bytes: &[u8]) -> Result<(), Stopped>

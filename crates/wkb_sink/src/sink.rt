@@ -84,7 +84,7 @@ pub trait Sink {
         ensures { result ≡ has_failed self.now };
 }
 
-// Whether a put with this result failed: by an error, or by taking no byte of some.
+/// Whether a put with this result failed: by an error, or by taking no byte of some.
 #[inline]
 fn is_failure(answer: &io::Result<usize>, bytes: &[u8]) -> bool
     ensures { result ≡ put_fails bytes.now answer.now }

@@ -2,6 +2,7 @@ pub mod Algebra
 pub mod Items
 pub mod Lawful
 pub mod Leaves
+pub mod Lends
 pub mod Lists
 pub mod Members
 pub mod Pieces

@@ -10,6 +10,7 @@ pub mod Parts
 pub mod Passes
 pub mod Pieces
 pub mod Lawful
+pub mod Lends
 pub mod Reads
 pub mod Spells
 pub mod Views

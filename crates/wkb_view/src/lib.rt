@@ -7,6 +7,7 @@ pub mod as_written;
 pub mod coord;
 pub mod counts;
 mod ends;
+pub mod lent;
 pub mod line_string;
 pub mod linear_ring;
 pub mod multi_line_string;

@@ -9,6 +9,7 @@ use crate::any::{
 };
 use crate::as_written::{AsWritten, flags_without_srid};
 use crate::coord::Coord;
+use crate::lent::are_bytes;
 use crate::linear_ring::LinearRing;
 use crate::own_srid::OwnSrid;
 use wkb_geom::code::{LINE_STRING, WkbType};
@@ -35,7 +36,7 @@ impl<'a> LineString<'a> {
     ghost use Rattle.std.specs.Prelude.{◌≡◌, length, ◌≤◌, IfOk};
     ghost use Rattle.wkb_geom.specs.Values as value;
     ghost use Rattle.wkb_geom.specs.declared.code.WkbType.TheVariants as kinds;
-    ghost use Rattle.wkb_view.specs.Prelude.{line_string_at, line_string_item, BytesSpell};
+    ghost use Rattle.wkb_view.specs.Prelude.{line_string_at, line_string_item};
     ghost use Rattle.wkb_view.specs.Coords.{ring_encoding, ring_order, ring_dimension};
     ghost use Rattle.wkb_view.specs.Views.{line_string_seen, line_string_layout};
     ghost use Rattle.wkb_view.specs.Views.{line_string_offset, seen_coordinates};
@@ -44,6 +45,7 @@ impl<'a> LineString<'a> {
     ghost use Rattle.wkb_view.specs.Headers.{HasHead};
     ghost use Rattle.wkb_view.specs.Outcome.{IsRead, IsTakenAs, TakesAtLeast};
     ghost use Rattle.wkb_view.specs.Members.{IsEncoding, PassedEncoding};
+    ghost use Rattle.wkb_view.specs.Lends.{Lends};
 
     /// The number of its bytes.
     #[inline]
@@ -87,11 +89,12 @@ impl<'a> LineString<'a> {
     }
 
     /// The bytes of this geometry, from its order byte to its end.
+    #[tactic(auto, using(crate::proofs::Lends::line_string_lends))]
     #[inline]
     pub fn buf(&self) -> &'a [u8]
-        ensures encoding { result.now ≡ (line_string_seen self.now).encoding }
-        ensures spells { BytesSpell (line_string_seen self.now) }
+        ensures { Lends (line_string_seen self.now) result.now }
     {
+        are_bytes(self.buf);
         self.buf
     }
 

@@ -8,6 +8,7 @@ use crate::any::{
 use crate::as_written::{AsWritten, flags_without_srid};
 use crate::counts::Counts;
 use crate::ends::{Parts, read_ends};
+use crate::lent::are_bytes;
 use crate::own_srid::OwnSrid;
 use crate::part::part_at;
 use std::alloc::{AllocError, Global};
@@ -50,13 +51,14 @@ impl<'a> MultiLineString<'a> {
     ghost use Rattle.std.specs.Prelude.{◌≡◌, length, option_map, IfSome, IfOk};
     ghost use Rattle.wkb_geom.specs.Found.{IsItemAt};
     ghost use Rattle.wkb_geom.specs.declared.code.WkbType.TheVariants as kinds;
-    ghost use Rattle.wkb_view.specs.Prelude.{multi_line_string_at, BytesSpell, spelling_at};
+    ghost use Rattle.wkb_view.specs.Prelude.{multi_line_string_at, spelling_at};
     ghost use Rattle.wkb_view.specs.Views.{line_string_spelling, line_string_dimension};
     ghost use Rattle.wkb_view.specs.Views.{seen_coordinates};
     ghost use Rattle.wkb_view.specs.Headers.{HasHead};
     ghost use Rattle.wkb_view.specs.Members.{multi_line_string_seen};
     ghost use Rattle.wkb_view.specs.Outcome.{TakesAtLeast, CanCount, RefusesWithoutSlots};
     ghost use Rattle.wkb_view.specs.Reads.{ReadsMultiLineString};
+    ghost use Rattle.wkb_view.specs.Lends.{Lends};
 
     /// The number of its bytes.
     #[inline]
@@ -77,9 +79,9 @@ impl<'a> MultiLineString<'a> {
     /// The bytes of this geometry, from its order byte to its end.
     #[inline]
     pub fn buf(&self) -> &'a [u8]
-        ensures encoding { result.now ≡ self.now.encoding }
-        ensures spells { BytesSpell (multi_line_string_seen self.now) }
+        ensures { Lends (multi_line_string_seen self.now) result.now }
     {
+        are_bytes(self.buf);
         self.buf
     }
 

@@ -11,6 +11,7 @@ use crate::any::{
 };
 use crate::as_written::{AsWritten, flags_without_srid};
 use crate::counts::Counts;
+use crate::lent::are_bytes;
 use crate::own_srid::OwnSrid;
 use crate::part::subslice;
 use wkb_geom::code::{POINT, WkbType};
@@ -37,11 +38,12 @@ impl<'a> MultiPoint<'a> {
     ghost use Rattle.std.specs.Prelude.{◌≡◌, length, ◌≤◌, IfOk};
     ghost use Rattle.wkb_geom.specs.Values as value;
     ghost use Rattle.wkb_geom.specs.declared.code.WkbType.TheVariants as kinds;
-    ghost use Rattle.wkb_view.specs.Prelude.{multi_point_at, BytesSpell};
+    ghost use Rattle.wkb_view.specs.Prelude.{multi_point_at};
     ghost use Rattle.wkb_view.specs.Views.{multi_point_seen, seen_points, multi_point_offset};
     ghost use Rattle.wkb_view.specs.Headers.{HasHead};
     ghost use Rattle.wkb_view.specs.Outcome.{CanCount, TakesAtLeast};
     ghost use Rattle.wkb_view.specs.Reads.{ReadsMultiPoint};
+    ghost use Rattle.wkb_view.specs.Lends.{Lends};
 
     /// The number of its bytes.
     #[inline]
@@ -72,11 +74,12 @@ impl<'a> MultiPoint<'a> {
     }
 
     /// The bytes of this geometry, from its order byte to its end.
+    #[tactic(auto, using(crate::proofs::Lends::multi_point_lends))]
     #[inline]
     pub fn buf(&self) -> &'a [u8]
-        ensures encoding { result.now ≡ (multi_point_seen self.now).encoding }
-        ensures spells { BytesSpell (multi_point_seen self.now) }
+        ensures { Lends (multi_point_seen self.now) result.now }
     {
+        are_bytes(self.buf);
         self.buf
     }
 

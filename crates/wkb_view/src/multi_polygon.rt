@@ -13,6 +13,7 @@ use crate::any::{
 };
 use crate::as_written::{AsWritten, flags_without_srid};
 use crate::counts::Counts;
+use crate::lent::are_bytes;
 use crate::own_srid::OwnSrid;
 use crate::reserved::{Reserved, counted_list};
 use std::alloc::{AllocError, Global};
@@ -53,11 +54,12 @@ impl<'a> Model for MultiPolygon<'a> {
 impl<'a> MultiPolygon<'a> {
     ghost use Rattle.std.specs.Prelude.{◌≡◌, length, IfOk};
     ghost use Rattle.wkb_geom.specs.declared.code.WkbType.TheVariants as kinds;
-    ghost use Rattle.wkb_view.specs.Prelude.{multi_polygon_at, BytesSpell};
+    ghost use Rattle.wkb_view.specs.Prelude.{multi_polygon_at};
     ghost use Rattle.wkb_view.specs.Headers.{HasHead};
     ghost use Rattle.wkb_view.specs.Members.{multi_polygon_seen};
     ghost use Rattle.wkb_view.specs.Outcome.{TakesAtLeast, CanCount, RefusesWithoutSlots};
     ghost use Rattle.wkb_view.specs.Reads.{ReadsMultiPolygon};
+    ghost use Rattle.wkb_view.specs.Lends.{Lends};
 
     /// The number of its bytes.
     #[inline]
@@ -78,9 +80,9 @@ impl<'a> MultiPolygon<'a> {
     /// The bytes of this geometry, from its order byte to its end.
     #[inline]
     pub fn buf(&self) -> &'a [u8]
-        ensures encoding { result.now ≡ self.now.encoding }
-        ensures spells { BytesSpell (multi_polygon_seen self.now) }
+        ensures { Lends (multi_polygon_seen self.now) result.now }
     {
+        are_bytes(self.buf);
         self.buf
     }
 

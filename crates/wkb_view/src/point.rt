@@ -8,6 +8,7 @@ use crate::any::{
 };
 use crate::as_written::{AsWritten, flags_without_srid};
 use crate::coord::Coord;
+use crate::lent::are_bytes;
 use crate::own_srid::OwnSrid;
 use crate::part::subslice;
 use wkb_geom::code::{POINT, WkbType};
@@ -31,7 +32,7 @@ impl<'a> Point<'a> {
     ghost use Rattle.std.specs.Prelude.{◌≡◌, length, is_none, IfOk};
     ghost use Rattle.wkb_geom.specs.Values as value;
     ghost use Rattle.wkb_geom.specs.declared.code.WkbType.TheVariants as kinds;
-    ghost use Rattle.wkb_view.specs.Prelude.{point_at, point_item, BytesSpell};
+    ghost use Rattle.wkb_view.specs.Prelude.{point_at, point_item};
     ghost use Rattle.wkb_view.specs.Coords.{words_seen, coord_order, coord_dimension};
     ghost use Rattle.wkb_view.specs.Coords.{coord_encoding};
     ghost use Rattle.wkb_view.specs.Views.{coordinate_in, point_seen, seen_coordinate, point_layout};
@@ -40,6 +41,7 @@ impl<'a> Point<'a> {
     ghost use Rattle.wkb_view.specs.Headers.{HasHead};
     ghost use Rattle.wkb_view.specs.Members.{IsEncoding, PassedEncoding};
     ghost use Rattle.wkb_view.specs.Outcome.{IsRead, IsTakenAs, TakesAtLeast};
+    ghost use Rattle.wkb_view.specs.Lends.{Lends};
 
     /// The number of its bytes.
     #[inline]
@@ -83,11 +85,12 @@ impl<'a> Point<'a> {
     }
 
     /// The bytes of this geometry, from its order byte to its end.
+    #[tactic(auto, using(crate::proofs::Lends::point_lends))]
     #[inline]
     pub fn buf(&self) -> &'a [u8]
-        ensures encoding { result.now ≡ (point_seen self.now).encoding }
-        ensures spells { BytesSpell (point_seen self.now) }
+        ensures { Lends (point_seen self.now) result.now }
     {
+        are_bytes(self.buf);
         self.buf
     }
 

@@ -8,6 +8,7 @@ use crate::any::{
 use crate::as_written::{AsWritten, flags_without_srid};
 use crate::counts::Counts;
 use crate::ends::read_ends;
+use crate::lent::are_bytes;
 use crate::linear_ring::{LinearRing, RingParts};
 use crate::own_srid::OwnSrid;
 use crate::part::part_at;
@@ -50,12 +51,13 @@ impl<'a> Polygon<'a> {
     ghost use Rattle.std.specs.Prelude.{◌≡◌, length, sum_by, IfSome, IfOk};
     ghost use Rattle.wkb_geom.specs.Found.{IsItemAt};
     ghost use Rattle.wkb_geom.specs.declared.code.WkbType.TheVariants as kinds;
-    ghost use Rattle.wkb_view.specs.Prelude.{polygon_at, BytesSpell, order_of};
+    ghost use Rattle.wkb_view.specs.Prelude.{polygon_at, order_of};
     ghost use Rattle.wkb_view.specs.Coords.{ring_order, ring_dimension, ring_seen};
     ghost use Rattle.wkb_view.specs.Headers.{HasHead};
     ghost use Rattle.wkb_view.specs.Members.{polygon_seen};
     ghost use Rattle.wkb_view.specs.Outcome.{CanCount, RefusesWithoutSlots, TakesAtLeast};
     ghost use Rattle.wkb_view.specs.Reads.{ReadsPolygon};
+    ghost use Rattle.wkb_view.specs.Lends.{Lends};
 
     /// The number of its bytes.
     #[inline]
@@ -76,9 +78,9 @@ impl<'a> Polygon<'a> {
     /// The bytes of this geometry, from its order byte to its end.
     #[inline]
     pub fn buf(&self) -> &'a [u8]
-        ensures encoding { result.now ≡ self.now.encoding }
-        ensures spells { BytesSpell (polygon_seen self.now) }
+        ensures { Lends (polygon_seen self.now) result.now }
     {
+        are_bytes(self.buf);
         self.buf
     }
 

@@ -20,8 +20,7 @@ pub fn measure_coordinates<L: LineStringTrait>(line: &L) -> Measured
     }
 }
 
-// The index up to which the coordinates from another one on fit the room. Only those that don't all fit take a
-// division.
+/// The index up to which the coordinates from another one on fit the room. It divides only if not all of them fit.
 #[inline]
 fn end_of_run(from: usize, count: usize, size: usize, room: usize) -> usize
     requires order { from < count }

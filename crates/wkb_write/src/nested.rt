@@ -37,9 +37,8 @@ pub trait Nested<G: Dimensioned> {
     ghost lawful: { (g : G) → IsGeometry (geometry g) };
 }
 
-// Adds the size of a collection of these dimensions and members to the size before it. Where the last member is a
-// collection, the last call adds it. The compiler makes it a jump, so that the stack stays flat along a chain of
-// collections.
+/// Adds the size of a collection of these dimensions and members to the size before it. Where the last member is a
+/// collection, the last call adds it, as a jump: the stack stays flat along a chain of collections.
 #[cycle(measure)]
 #[tactic(auto, using(crate::proofs::Collections::added_laws))]
 pub fn add_members<G: Dimensioned, K: Nested<G>>(
@@ -72,7 +71,7 @@ pub fn add_members<G: Dimensioned, K: Nested<G>>(
     Measured::Bytes(total)
 }
 
-// The size of a geometry without its header, or its first fault. `usize::MAX` means that size or any greater one.
+/// The size of a geometry without its header, or its first fault. `usize::MAX` means that size or any greater one.
 #[cycle(measure)]
 #[tactic(auto, using(crate::proofs::Collections::added_laws))]
 #[inline(always)]
@@ -85,7 +84,7 @@ pub fn measure_geometry<G: Dimensioned, K: Nested<G>>(geom: &G) -> Measured
     }
 }
 
-// Whether the codes are EWKB's. Members need nothing else of the form, and a bool travels in a register.
+/// Whether the codes are EWKB's. Members need nothing else of the form, and a bool travels in a register.
 #[inline(always)]
 fn has_flags(form: Form) -> bool
     ensures { inner form ≡ form_with_flags result }
@@ -96,7 +95,7 @@ fn has_flags(form: Form) -> bool
     }
 }
 
-// The form of a member.
+/// The form of a member.
 #[inline(always)]
 fn member_form(has_flags: bool) -> Form
     ensures { result ≡ form_with_flags has_flags }
@@ -108,8 +107,7 @@ fn member_form(has_flags: bool) -> Form
     }
 }
 
-// Puts a member: a geometry without an SRID. It isn't inlined, and takes its options as two scalars, which are passed
-// down a chain of collections in registers, without a load at each level.
+/// Puts a member: a geometry without an SRID. It isn't inlined, and takes its options as two scalars, in registers.
 #[cycle(put)]
 #[inline(never)]
 #[tactic(auto, using(crate::proofs::Steps::member_laws))]
@@ -134,8 +132,8 @@ fn put_member<S: Sink, G: Dimensioned, K: Nested<G>>(
     }
 }
 
-// Puts a collection's header, and its members after their count. The last call puts the last member. The compiler makes
-// it a jump, so that the stack stays flat along a chain of collections.
+/// Puts a collection's header, its count and its members. The last call puts the last member. The compiler makes it a
+/// jump, so that the stack stays flat along a chain of collections.
 #[cycle(put)]
 #[inline(always)]
 #[tactic(auto, using(crate::proofs::Steps::members_laws))]

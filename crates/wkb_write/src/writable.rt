@@ -42,11 +42,11 @@ pub trait Writable<G> {
     ghost lawful: { (g : G) → IsGeometry (geometry g) };
 }
 
-// Zeroing a block takes time in proportion to its size, so short encodings get the smallest one
-// (docs/DECISIONS.md, D8).
+/// Zeroing a block takes time in proportion to its size, so short encodings get the smallest one
+/// (docs/DECISIONS.md, D8).
 const LARGE_BLOCK: usize = 1024;
 
-// Puts a geometry through a block over these bytes, and then what still waits there.
+/// Puts a geometry through a block over these bytes, and then what still waits there.
 #[inline(always)]
 fn put_through<S: Sink, G, K: Writable<G>>(
     writer: &mut S,
@@ -179,7 +179,7 @@ pub fn wkb_result(put: Result<(), Option<io::Error>>) -> WkbResult<()>
     }
 }
 
-// The sink's own error, or that it took no byte.
+/// The sink's own error, or that it took no byte.
 #[inline(always)]
 pub fn sink_error<T>(failure: Option<io::Error>) -> WkbResult<T>
     ensures { IsErrAnd result (λ e. TellsFailure e failure) }
@@ -217,7 +217,7 @@ pub fn vec_as<G, K: Writable<G>>(
     }
 }
 
-// A sink that takes nothing.
+/// A sink that takes nothing.
 #[derive(Drop)]
 struct Full {
     has_failed: bool,

@@ -1,4 +1,4 @@
-use Rattle.std.proofs.Common.{sym, ap, ◌<◌, rules}
+use Rattle.std.proofs.Common.{sym, ap, rules}
 use Rattle.wkb_geom.specs.Reading.{type_kind}
 use Rattle.wkb_check.proofs.Ahead.{found_header}
 use Rattle.wkb_bounds.proofs.Scanning.{found_low}
@@ -6,8 +6,7 @@ use Rattle.wkb_bounds.proofs.scan.put_bounds_found.Goals as goal
 
 pub put_bounds_of_piece-requires-clause-low : goal.put_bounds_of_piece-requires-clause-low
 put_bounds_of_piece-requires-clause-low c =
-    let low : type_kind c.args.found.now.wkb_type < 3 = search (rules) in
-    found_low c.requires c.outermost.result c.outermost.ensures low
+    found_low c.requires c.outermost.result c.outermost.ensures (search (rules))
 
 pub put_bounds_of_rings-requires-clause-header : goal.put_bounds_of_rings-requires-clause-header
 put_bounds_of_rings-requires-clause-header c =

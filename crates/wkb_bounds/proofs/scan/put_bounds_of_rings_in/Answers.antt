@@ -65,4 +65,4 @@ pub returns : goal.returns
 returns c = λ g.
     subst (λ b. AreBounds b g.value) (sym c.bounds.ensures)
     (all_of_numbers (c.loop-ring.invariant.so_far g) c.in_default.is c.next_if_ring.ensures.steps
-    (c.are_plane_numbers.ensures c.if-not-are_plane_numbers.false))
+    (c.are_plane_numbers.ensures.all c.if-not-are_plane_numbers.false))

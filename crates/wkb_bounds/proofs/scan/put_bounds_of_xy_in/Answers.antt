@@ -9,6 +9,6 @@ pub returns : goal.returns
 returns c = λ a.
     rw (
       c.bounds.ensures,
-      c.widen_xy_by_numbers.ensures.widens (c.are_plane_numbers.ensures c.if-not-are_plane_numbers.false) a,
+      c.widen_xy_by_numbers.ensures.widens (c.are_plane_numbers.ensures.all c.if-not-are_plane_numbers.false) a,
       c.empty-ranks.ensures,
     ) refl

@@ -1,4 +1,4 @@
-use Rattle.wkb_columns.proofs.Common.{arith}
+use Rattle.wkb_abi.proofs.Common.{arith}
 use Rattle.wkb_c.proofs.Gathering.{described_with, found_measured, requested_size}
 use Rattle.wkb_c.proofs.collect.measure_found.Goals as goal
 

@@ -1,5 +1,5 @@
-use Rattle.wkb_columns.proofs.Common.{arith, ◌∙◌}
-use Rattle.wkb_c.proofs.Gathering.{measured_more, all_measured, reach_inside}
+use Rattle.wkb_abi.proofs.Common.{arith, ◌∙◌}
+use Rattle.wkb_c.proofs.Gathering.{measured_more, all_measured, have_before, reach_inside}
 use Rattle.wkb_c.proofs.collect.measure_members.Goals as goal
 
 pub overflow_add-size : goal.overflow_add-size
@@ -26,3 +26,10 @@ pub returns-clause-measured : goal.returns-clause-measured
 returns-clause-measured c =
     let l = c.loop-i.invariant in
     all_measured l.reaches l.measured (omega (arith, c.loop-i-test.false, c.loop-i.auto.i-end))
+
+pub returns-in-Err-clause-unfit : goal.returns-in-Err-clause-unfit
+returns-in-Err-clause-unfit c = record {
+  below = c.loop-i-test.true;
+  before = have_before c.loop-i.invariant.measured;
+  unfit = c.in-Err.ensures.unfit;
+}

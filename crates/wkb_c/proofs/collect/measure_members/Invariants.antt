@@ -1,5 +1,5 @@
-use Rattle.wkb_columns.proofs.Common.{◌≡◌}
-use Rattle.wkb_columns.specs.Columns.{Reach}
+use Rattle.wkb_abi.proofs.Common.{◌≡◌}
+use Rattle.wkb_abi.specs.Columns.{Reach}
 use Rattle.wkb_c.proofs.Gathering.{MeasuredBefore}
 use Rattle.wkb_c.proofs.collect.measure_members.Given as goal
 

@@ -1,6 +1,6 @@
-use Rattle.wkb_columns.proofs.Common.{arith}
+use Rattle.wkb_abi.proofs.Common.{arith}
 use Rattle.wkb_c.proofs.Gathering.{requested_put, requested_size}
-use Rattle.wkb_columns.proofs.OneRow.{never_refused}
+use Rattle.wkb_abi.proofs.OneRow.{never_refused}
 use Rattle.wkb_c.proofs.collect.put_row_member.Goals as goal
 
 pub unreachable-requires : goal.unreachable-requires

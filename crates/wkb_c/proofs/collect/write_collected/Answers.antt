@@ -1,4 +1,4 @@
-use Rattle.wkb_columns.proofs.Common.{arith, ap, length, length-append, drop, ◌∙◌}
+use Rattle.wkb_abi.proofs.Common.{arith, ap, length, length-append, drop, refl, ◌++◌, ◌∙◌}
 use Rattle.std.proofs.Common.{length-drop}
 use Rattle.wkb_c.specs.Collections.{front_of, inside_of}
 use Rattle.wkb_c.proofs.Gathering.{one_list, whole_put}
@@ -10,7 +10,8 @@ returns-then-out-wanted-clause-no_room c = λ told.
     let target = c.args.target.now in
     let long = length-append (front_of target c.args.rows) (inside_of target m.have.values) in
     record {
-      have = m.have;
+      items = front_of target c.args.rows ++ inside_of target m.have.values;
+      is = record { have = m.have; encoding_is = refl };
       lacks = record {
         count_is = omega (arith, m.size_is, c.lay_front-start.ensures.bytes.ends, long);
         short = omega (arith, m.size_is, c.lay_front-start.ensures.bytes.ends, long, c.if-out-wanted.true);
@@ -35,7 +36,8 @@ returns-clause-written c = λ told.
     let target = c.args.target.now in
     let laid = c.lay_front-start.ensures.bytes in
     record {
-      have = m.have;
+      items = front_of target c.args.rows ++ inside_of target m.have.values;
+      is = record { have = m.have; encoding_is = refl };
       held = record {
         count_is =
             omega (

@@ -1,15 +1,15 @@
-use Rattle.wkb_columns.proofs.Common.{refl, ◌∙◌}
-use Rattle.wkb_c.specs.Boxes.{bounded, refused}
+use Rattle.wkb_abi.proofs.Common.{refl, ◌∙◌}
+use Rattle.wkb_abi.specs.Columns.{accepted, refused}
 use Rattle.wkb_c.proofs.column_bounds.bound_row.Goals as goal
 
 pub returns-then-put_plain_bounds-clause-row : goal.returns-then-put_plain_bounds-clause-row
 returns-then-put_plain_bounds-clause-row c =
-    bounded c.in-Ok.row.now c.in-Ok.ensures.row refl
+    accepted c.in-Ok.row.now c.in-Ok.ensures.row refl
     (c.put_plain_bounds.ensures.front c.if-put_plain_bounds.true)
 
 pub returns-in-Ok-bounds_or_status-clause-row : goal.returns-in-Ok-bounds_or_status-clause-row
 returns-in-Ok-bounds_or_status-clause-row c =
-    bounded c.in-Ok.row.now c.in-Ok.ensures.row refl c.in-Ok-bounds_or_status.ensures.front
+    accepted c.in-Ok.row.now c.in-Ok.ensures.row refl c.in-Ok-bounds_or_status.ensures.front
 
 pub returns-in-Err-bounds_or_status-clause-row : goal.returns-in-Err-bounds_or_status-clause-row
 returns-in-Err-bounds_or_status-clause-row c =

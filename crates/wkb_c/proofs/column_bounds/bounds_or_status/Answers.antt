@@ -1,4 +1,4 @@
-use Rattle.wkb_columns.proofs.Telling.{refused_with}
+use Rattle.wkb_abi.proofs.Telling.{refused_with}
 use Rattle.wkb_c.proofs.column_bounds.bounds_or_status.Goals as goal
 
 pub returns-in-Err-clause-refused : goal.returns-in-Err-clause-refused

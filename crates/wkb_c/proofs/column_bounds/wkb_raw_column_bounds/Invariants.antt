@@ -1,11 +1,10 @@
-use Rattle.wkb_columns.specs.Columns.{Reach}
-use Rattle.wkb_c.specs.Boxes.{AreRowBoxes}
-use Rattle.wkb_c.proofs.RowItems.{AreSet}
+use Rattle.wkb_bounds.specs.Bounded.{BoundsFront, nothing}
+use Rattle.wkb_abi.specs.Columns.{Reach}
+use Rattle.wkb_c.proofs.RowItems.{AreShown}
 use Rattle.wkb_c.proofs.column_bounds.wkb_raw_column_bounds.Given as goal
 
 abbrev pub invariant-loop-i : goal.invariant-loop-i
 invariant-loop-i l = record {
   reaches : Reach l.column l.i l.reach;
-  lists : AreSet l.i-end l.initial.statuses l.statuses l.initial.boxes l.boxes;
-  done : AreRowBoxes l.column l.i l.statuses l.boxes;
+  shown : AreShown BoundsFront nothing l.column l.i-end l.i l.initial.statuses l.statuses l.initial.boxes l.boxes;
 }

@@ -1,7 +1,7 @@
-use Rattle.wkb_columns.proofs.Common.{arith, ◌∙◌}
+use Rattle.wkb_abi.proofs.Common.{arith, ◌∙◌}
 use lib.ListN.{length-set}
-use Rattle.wkb_columns.specs.Columns.{IsStatusOfRow}
-use Rattle.wkb_columns.proofs.Rows.{statuses_more}
+use Rattle.wkb_abi.specs.Columns.{IsStatusOfRow}
+use Rattle.wkb_abi.proofs.Rows.{statuses_more}
 use Rattle.wkb_c.proofs.column_check.wkb_raw_column_check.Goals as goal
 
 pub loop-i-preserved : goal.loop-i-preserved

@@ -1,5 +1,5 @@
-use Rattle.wkb_columns.proofs.Common.{refl}
-use Rattle.wkb_columns.specs.LevelLists.{accepted, rejected}
+use Rattle.wkb_abi.proofs.Common.{refl}
+use Rattle.wkb_abi.specs.LevelLists.{accepted, rejected}
 use Rattle.wkb_c.proofs.column_coordinates.put_any.Goals as goal
 
 pub returns-in-Ok-clause-put : goal.returns-in-Ok-clause-put

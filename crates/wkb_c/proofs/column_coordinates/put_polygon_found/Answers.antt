@@ -1,5 +1,5 @@
-use Rattle.wkb_columns.proofs.Common.{refl, ◌∙◌}
-use Rattle.wkb_columns.specs.Coordinates.{written, no_room}
+use Rattle.wkb_abi.proofs.Common.{refl, ◌∙◌}
+use Rattle.wkb_abi.specs.Coordinates.{written, no_room}
 use Rattle.wkb_rewrite.proofs.Measured.{here, kind_of}
 use Rattle.wkb_c.proofs.column_coordinates.put_polygon_found.Goals as goal
 

@@ -1,7 +1,7 @@
-use Rattle.wkb_columns.proofs.Common.{refl, sym, ◌∙◌}
-use Rattle.wkb_columns.specs.Coordinates.{failed, unknown}
-use Rattle.wkb_columns.specs.LevelLists.{accepted}
-use Rattle.wkb_columns.proofs.Rooms.{any_put}
+use Rattle.wkb_abi.proofs.Common.{refl, sym, ◌∙◌}
+use Rattle.wkb_abi.specs.Coordinates.{failed, unknown}
+use Rattle.wkb_abi.specs.LevelLists.{accepted}
+use Rattle.wkb_abi.proofs.Rooms.{any_put}
 use Rattle.wkb_c.proofs.column_coordinates.put_row.Goals as goal
 
 pub returns-in_default-clause-put : goal.returns-in_default-clause-put

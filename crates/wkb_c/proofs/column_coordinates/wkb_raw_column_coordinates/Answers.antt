@@ -1,8 +1,8 @@
-use Rattle.wkb_columns.proofs.Common.{arith}
-use Rattle.wkb_columns.specs.LevelLists.{levels_of}
+use Rattle.wkb_abi.proofs.Common.{arith}
+use Rattle.wkb_abi.specs.LevelLists.{levels_of}
 use Rattle.wkb_c.proofs.InTurn.{row_more}
-use Rattle.wkb_columns.proofs.Rooms.{row_says, room_more, long_more}
-use Rattle.wkb_columns.proofs.Levels.{stay_same}
+use Rattle.wkb_abi.proofs.Rooms.{row_says, room_more, long_more}
+use Rattle.wkb_abi.proofs.Levels.{stay_same}
 use Rattle.wkb_c.proofs.RowItems.{set_more}
 use Rattle.wkb_c.proofs.column_coordinates.wkb_raw_column_coordinates.Goals as goal
 

@@ -1,9 +1,9 @@
-use Rattle.wkb_columns.specs.Columns.{Reach}
-use Rattle.wkb_columns.specs.Coordinates.{AreColumnCoordinates, LevelsSuffice}
-use Rattle.wkb_columns.specs.LevelLists.{levels_of, AreSameSlices}
+use Rattle.wkb_abi.specs.Columns.{Reach}
+use Rattle.wkb_abi.specs.Coordinates.{AreColumnCoordinates, LevelsSuffice}
+use Rattle.wkb_abi.specs.LevelLists.{levels_of, AreSameSlices}
 use Rattle.wkb_c.proofs.RowItems.{AreSet}
-use Rattle.wkb_columns.proofs.Levels.{AreSmall}
-use Rattle.wkb_columns.proofs.Rooms.{AreAsLong}
+use Rattle.wkb_abi.proofs.Levels.{AreSmall}
+use Rattle.wkb_abi.proofs.Rooms.{AreAsLong}
 use Rattle.wkb_c.proofs.column_coordinates.wkb_raw_column_coordinates.Given as goal
 
 abbrev pub invariant-loop-i : goal.invariant-loop-i

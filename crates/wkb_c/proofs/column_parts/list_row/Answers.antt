@@ -1,5 +1,5 @@
-use Rattle.wkb_columns.proofs.Common.{refl}
-use Rattle.wkb_columns.specs.RowItems.{nothing, fails, has_no_row}
+use Rattle.wkb_abi.proofs.Common.{refl}
+use Rattle.wkb_abi.specs.RowItems.{nothing, fails, has_no_row}
 use Rattle.wkb_c.proofs.Called.{list_step}
 use Rattle.wkb_c.proofs.RowItems.{lent_rest}
 use Rattle.wkb_c.proofs.column_parts.list_row.Goals as goal

@@ -1,29 +1,26 @@
-use Rattle.wkb_columns.proofs.Common.{arith}
-use Rattle.wkb_c.proofs.LastEnds.{last_end_suffices}
-use Rattle.wkb_columns.proofs.Reasons.{encodings_tell_other}
-use Rattle.wkb_c.proofs.RowItems.{row_done, set_more}
+use Rattle.wkb_abi.proofs.Common.{arith}
+use Rattle.wkb_abi.proofs.Reasons.{encodings_tell_other}
+use Rattle.wkb_c.proofs.RowItems.{row_done, last_end_suffices}
 use Rattle.wkb_c.proofs.column_write.wkb_raw_column_write.Goals as goal
 
 pub loop-i-preserved : goal.loop-i-preserved
 loop-i-preserved c =
     let l = c.loop-i in
-    let lists = l.invariant.lists in
     let row = c.write_wkb_row-status in
     let end = c.saturating_add-at in record {
       reaches = row.ensures.reach;
-      lists = set_more lists l.i row.result.0 end.result (omega arith);
       done =
-          row_done l.invariant.done lists row.ensures.step end.ensures (omega arith) c.loop-i-test.true
-          (omega (arith, c.min-i-end.ensures));
+          row_done l.invariant.done row.ensures.step end.ensures
+          (encodings_tell_other c.args.options.now c.args.column.now) (omega arith)
+          c.loop-i-test.true (omega (arith, c.min-i-end.ensures));
     }
 
 pub returns-clause-each : goal.returns-clause-each
 returns-clause-each c =
     let l = c.loop-i in λ i below.
-    l.invariant.done.each i (omega (arith, below, c.loop-i-test.false, c.min-i-end.ensures, l.invariant.lists))
+    l.invariant.done.each i (omega (arith, below, c.loop-i-test.false, c.min-i-end.ensures, l.invariant.done.lists))
 
 pub returns-clause-room : goal.returns-clause-room
 returns-clause-room c =
     let l = c.loop-i in
-    last_end_suffices (encodings_tell_other c.args.options.now c.args.column.now) l.invariant.done
-    (omega (arith, c.loop-i-test.false, c.min-i-end.ensures)) (omega arith)
+    last_end_suffices l.invariant.done (omega (arith, c.loop-i-test.false, l.auto.i-end, c.min-i-end.ensures))

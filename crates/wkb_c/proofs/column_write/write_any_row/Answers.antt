@@ -1,4 +1,4 @@
-use Rattle.wkb_columns.specs.Writings.{accepted}
+use Rattle.wkb_abi.specs.Writings.{accepted}
 use Rattle.wkb_c.proofs.column_write.write_any_row.Goals as goal
 
 pub returns-in-Ok-clause-writes : goal.returns-in-Ok-clause-writes

@@ -1,5 +1,5 @@
-use Rattle.wkb_columns.proofs.Common.{refl}
-use Rattle.wkb_columns.specs.RowItems.{nothing, has_no_row}
+use Rattle.wkb_abi.proofs.Common.{refl}
+use Rattle.wkb_abi.specs.RowItems.{nothing, has_no_row}
 use Rattle.wkb_c.proofs.Encodings.{asked_step, any_step}
 use Rattle.wkb_c.proofs.RowItems.{lent_rest}
 use Rattle.wkb_c.proofs.column_write.write_wkb_row.Goals as goal

@@ -1,31 +1,28 @@
-use Rattle.wkb_columns.proofs.Common.{arith, ◌∙◌, ◌≡◌, ap, length}
+use Rattle.wkb_abi.proofs.Common.{arith, ◌∙◌, ◌≡◌, ap, length}
 use Rattle.wkb_levels.specs.EndLists.{ends_of}
-use Rattle.wkb_c.proofs.LastEnds.{last_end_suffices}
 use Rattle.wkb_c.proofs.LevelRows.{ready_first}
-use Rattle.wkb_columns.proofs.Reasons.{levels_tell_other}
-use Rattle.wkb_c.proofs.RowItems.{set_first, set_more, rows_first, row_done}
+use Rattle.wkb_abi.proofs.Reasons.{levels_tell_other}
+use Rattle.wkb_c.proofs.RowItems.{rows_first, row_done, last_end_suffices}
 use Rattle.wkb_c.proofs.from_coordinates.wkb_raw_column_from_coordinates.Goals as goal
 use Rattle.wkb_c.proofs.from_coordinates.wkb_raw_column_from_coordinates.Goals.{After-len-rows}
-use Rattle.wkb_columns.specs.LevelTargets.{levels_in}
+use Rattle.wkb_abi.specs.LevelTargets.{levels_in}
 
 pub loop-i-init : goal.loop-i-init
 loop-i-init c = record {
   ready = ready_first c.args.column.now c.target_of_numbers-target.result c.front-floor.result c.front-floor.ensures;
-  lists = set_first;
   done = rows_first;
 }
 
 pub loop-i-preserved : goal.loop-i-preserved
 loop-i-preserved c =
     let l = c.loop-i in
-    let lists = l.invariant.lists in
     let row = c.write_level_row-status in
     let end = c.saturating_add-at in record {
       ready = row.ensures.ready;
-      lists = set_more lists l.i row.result.0 end.result (omega (arith, c.loop-i-test.true));
       done =
-          row_done l.invariant.done lists row.ensures.step end.ensures (omega arith) c.loop-i-test.true
-          (omega (arith, c.min.ensures, c.min-i-end.ensures));
+          row_done l.invariant.done row.ensures.step end.ensures
+          (levels_tell_other c.args.column.now c.target_of_numbers-target.result) (omega arith)
+          c.loop-i-test.true (omega (arith, c.min.ensures, c.min-i-end.ensures));
     }
 
 -- as many rows as are counted
@@ -38,11 +35,11 @@ returns-clause-each c =
     let rows = rows_are (goal.at.returns-clause-each c).After-len-rows in λ i below.
     rw (← c.target_of_numbers-target.ensures)
     (l.invariant.done.each i
-    (omega (arith, below, c.loop-i-test.false, c.min.ensures, c.min-i-end.ensures, rows, l.invariant.lists)))
+    (omega (arith, below, c.loop-i-test.false, c.min.ensures, c.min-i-end.ensures, rows, l.invariant.done.lists)))
 
 pub returns-clause-room : goal.returns-clause-room
 returns-clause-room c =
     let l = c.loop-i in
     let rows = rows_are (goal.at.returns-clause-room c).After-len-rows in
-    last_end_suffices (levels_tell_other c.args.column.now c.target_of_numbers-target.result) l.invariant.done
-    (omega (arith, c.loop-i-test.false, c.min.ensures, c.min-i-end.ensures, rows)) (omega arith)
+    last_end_suffices l.invariant.done
+    (omega (arith, c.loop-i-test.false, l.auto.i-end, c.min.ensures, c.min-i-end.ensures, rows))

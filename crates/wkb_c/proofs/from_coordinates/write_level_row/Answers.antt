@@ -1,4 +1,4 @@
-use Rattle.wkb_columns.proofs.Common.{sym, ◌∙◌}
+use Rattle.wkb_abi.proofs.Common.{sym, ◌∙◌}
 use Rattle.wkb_levels.specs.declared.write.Written.TheVariants.{Whole, LacksRoom, Unfit}
 use Rattle.wkb_c.proofs.LevelRows.{written_step}
 use Rattle.wkb_c.proofs.RowItems.{lent_rest}

@@ -1,5 +1,8 @@
-use Rattle.wkb_columns.proofs.Common.{arith, ap}
+use Rattle.wkb_abi.proofs.Common.{arith, ap, ◌∙◌, append-nil}
+use lib.Seq.{sets}
 use Rattle.std.proofs.Common.{set}
+use Rattle.wkb_check.specs.Subjects.{subjects}
+use Rattle.wkb_check.specs.Tables.{entries_from}
 use Rattle.wkb_c.proofs.Called.{fits_table, table_put, one_geometry, whole_put, parts_found}
 use Rattle.wkb_c.proofs.parts.list_parts.Goals as goal
 
@@ -13,11 +16,12 @@ put_geometries-requires c = record {
 pub returns-then-found-eq1-clause-listed : goal.returns-then-found-eq1-clause-listed
 returns-then-found-eq1-clause-listed c = λ ok.
     whole_put c.requires.accepted c.outermost.result c.outermost.ensures c.if-found-eq1.true
-    (omega (arith, c.if-parts-found.false)) (ap (set c.args.parts.now 0) c.of.ensures)
+    (omega (arith, c.if-parts-found.false)) (ap (set c.args.parts.now 0) c.of-entry.ensures)
 
 pub returns-clause-listed : goal.returns-clause-listed
 returns-clause-listed c = λ ok.
     let d = c.requires.accepted in
     table_put c.args.buf.now c.args.found.now.parts c.args.parts.now c.put_geometries.new.parts (parts_found d)
     (omega (arith, c.if-parts-found.false))
-    (c.put_geometries.ensures d.rest (one_geometry c.args.buf.now d.spelled d.value d.rest d.front)).put
+    ((c.put_geometries.ensures d.rest (one_geometry c.args.buf.now d.spelled d.value d.rest d.front)).put
+    ∙ ap (λ xs. sets c.args.parts.now 0 (entries_from 0 0 xs)) (append-nil (subjects d.spelled d.value)))

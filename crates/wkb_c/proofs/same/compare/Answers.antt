@@ -1,6 +1,6 @@
-use Rattle.wkb_columns.proofs.Common.{refl, sym, ◌∙◌}
-use Rattle.wkb_columns.specs.Statuses.{one_value, two_values}
-use Rattle.wkb_columns.proofs.Telling.{accepted_there, same_values, other_values}
+use Rattle.wkb_abi.proofs.Common.{refl, sym, ◌∙◌}
+use Rattle.wkb_abi.specs.Statuses.{one_value, two_values}
+use Rattle.wkb_abi.proofs.Telling.{accepted_there, same_values, other_values}
 use Rattle.wkb_c.proofs.same.compare.Goals as goal
 
 pub returns-then-have_one_value : goal.returns-then-have_one_value

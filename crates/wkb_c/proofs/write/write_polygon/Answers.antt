@@ -1,16 +1,14 @@
-use Rattle.wkb_columns.proofs.Common.{arith, sym}
+use Rattle.wkb_abi.proofs.Common.{arith}
 use Rattle.wkb_rewrite.proofs.Measured.{here}
-use Rattle.wkb_columns.specs.Writings.{meant}
-use Rattle.wkb_c.proofs.Encodings.{writes, lacks_room}
+use Rattle.wkb_c.proofs.Encodings.{meant, writes, lacks_room}
 use Rattle.wkb_c.proofs.write.write_polygon.Goals as goal
 
 pub returns-then-out-wanted : goal.returns-then-out-wanted
 returns-then-out-wanted c =
     let options = c.options_for-options in
     let wanted = c.size_with_own_srid-wanted in
-    meant _ (sym c.in-Some.ensures)
-    (lacks_room _ c.args.buf.now c.args.found.now c.requires.here options.result options.ensures
-    c.args.out.now wanted.result (λ i. (c.type_inv.buf i).fits)
+    meant c.in-Some.ensures
+    (lacks_room _ c.requires.here options.ensures (λ i. (c.type_inv.buf i).fits)
     (wanted.ensures.size options.result.endianness (here c.requires.here)) (omega (arith, c.if-out-wanted.true)))
 
 pub put_polygon-requires-clause-room : goal.put_polygon-requires-clause-room
@@ -26,8 +24,7 @@ returns c =
     let options = c.options_for-options in
     let wanted = c.size_with_own_srid-wanted in
     let there = here c.requires.here in
-    meant _ (sym c.in-Some.ensures)
-    (writes _ c.args.buf.now c.args.found.now c.requires.here options.result options.ensures
-    c.args.out.now c.put_polygon.new.out wanted.result (λ i. (c.type_inv.buf i).fits)
+    meant c.in-Some.ensures
+    (writes _ c.requires.here options.ensures (λ i. (c.type_inv.buf i).fits)
     (wanted.ensures.size options.result.endianness there) (omega (arith, c.if-out-wanted.false))
     (c.put_polygon.ensures.put there))

@@ -1,4 +1,4 @@
-use Rattle.wkb_columns.proofs.Common.{arith, length, ◌≤◌}
+use Rattle.wkb_abi.proofs.Common.{arith, length, ◌≤◌}
 use Rattle.wkb_geom.specs.Encodings.{encoding}
 use Rattle.wkb_geom.specs.Geometries.{geometry_of}
 use Rattle.wkb_check.specs.Known.{HasGeometry}
@@ -11,8 +11,8 @@ pub returns-then-out-wanted : goal.returns-then-out-wanted
 returns-then-out-wanted c =
     let options = c.options_for-options in
     let wanted = c.encoded_size-wanted in
-    lacks_room c.args.request c.args.buf.now c.args.found.now c.requires options.result options.ensures c.args.out.now
-    wanted.result (λ i. (c.type_inv.buf i).fits) (wanted.ensures.size options.result.endianness (here c.requires))
+    lacks_room c.args.request c.requires options.ensures (λ i. (c.type_inv.buf i).fits)
+    (wanted.ensures.size options.result.endianness (here c.requires))
     (omega (arith, c.if-out-wanted.true))
 
 -- there is room for the encoding where it is put
@@ -36,9 +36,7 @@ put_encoding-requires-clause-room c = fits (goal.at.put_encoding-requires-clause
 
 pub returns : goal.returns
 returns c =
-    let options = c.options_for-options in
     let there = here c.requires in
     let size_is = c.put_encoding.ensures.size there in
-    writes c.args.request c.args.buf.now c.args.found.now c.requires options.result options.ensures c.args.out.now
-    c.put_encoding.new.out c.put_encoding.result (λ i. (c.type_inv.buf i).fits) size_is
+    writes c.args.request c.requires c.options_for-options.ensures (λ i. (c.type_inv.buf i).fits) size_is
     (omega (arith, size_is, fits (goal.at.returns c).Joined-out-buf there)) (c.put_encoding.ensures.put there)

@@ -12,16 +12,12 @@ own_byte : (order : Endianness) → order_of_byte (order_byte order) ≡ Some or
 own_byte BigEndian = refl
 own_byte LittleEndian = refl
 
-pub returns : goal.returns
-returns c =
+pub returns-clause-head : goal.returns-clause-head
+returns-clause-head c =
     let code = c.u32_at-code.result in
     let least = c.if-code-lt-POINT.false in
     let most = c.if-code-gt-GEOMETRY_COLLECTION.false in
-    record {
-      head = head_meant c.args.bytes.now c.args.order code (type_of code Xy) false
-          (omega (arith, c.if-bytes-lt-MEMBER_HEADER_SIZE.false))
-          (ap order_of_byte (c.if-bytes-byte.false ∙ c.byte.ensures) ∙ own_byte c.args.order) c.u32_at-code.ensures
-          (bare_meant code (omega (arith, least)) (omega (arith, most)));
-      least = least;
-      most = most;
-    }
+    head_meant c.args.bytes.now c.args.order code (type_of code Xy) false
+    (omega (arith, c.if-bytes-lt-MEMBER_HEADER_SIZE.false))
+    (ap order_of_byte (c.if-bytes-byte.false ∙ c.byte.ensures) ∙ own_byte c.args.order) c.u32_at-code.ensures
+    (bare_meant code (omega (arith, least)) (omega (arith, most)))

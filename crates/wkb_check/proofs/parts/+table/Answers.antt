@@ -1,13 +1,15 @@
-use Rattle.std.proofs.Common.{◌+◌, refl, sym, ap, ◌∙◌, arith}
+use Rattle.std.proofs.Common.{◌+◌, List, length, refl, sym, ap, ◌∙◌, arith}
 use lib.Seq.{sets}
 use Rattle.wkb_geom.specs.declared.common.Dimension.TheVariants.{Xy}
 use Rattle.wkb_geom.specs.declared.common.Endianness.TheVariants.{BigEndian}
-use Rattle.wkb_check.specs.Pieces.{sizes}
-use Rattle.wkb_check.specs.Tables.{member_entries, entry_counts}
+use Rattle.wkb_check.specs.Pieces.{last_end}
+use Rattle.wkb_check.specs.Subjects.{Subject, subjects_of_each}
+use Rattle.wkb_check.specs.Tables.{entries_from}
+use Rattle.wkb_check.specs.declared.parts.Part.{Part}
 use Rattle.wkb_check.specs.declared.parts.PartPlace.{PartPlace}
 use Rattle.wkb_check.proofs.Filling.{left_first, left_next, here}
-use Rattle.wkb_check.proofs.Placing.{geometry_inside, onward, leaf_of, rings_inside, members_inside, rings_alone}
-use Rattle.wkb_check.proofs.Placing.{item_put, none_of}
+use Rattle.wkb_check.proofs.Placing.{geometry_inside, onward, leaf_inside, rings_inside, members_inside, rings_alone}
+use Rattle.wkb_check.proofs.Placing.{item_put, none_of, inside_many, inner_end}
 use Rattle.wkb_check.proofs.parts.+table.Goals as goal
 use Rattle.wkb_check.proofs.parts.+table.Goals.{then-has_coordinates, else-has_coordinates+then-piece-eq-POLYGON}
 use Rattle.wkb_check.proofs.parts.+table.Goals.{else-has_coordinates+else-piece-eq-POLYGON}
@@ -37,7 +39,7 @@ end-requires t c =
 pub put_rings-requires-clause-whole : goal.put_rings-requires-clause-whole
 put_rings-requires-clause-whole t c =
     let h = here (c.loop.invariant _ c.requires.fit.all) (omega (arith, c.loop-test.true)) c.requires.fit.fit in
-    (rings_inside c.args.buf.now c.loop.at.byte c.loop.at.index h.geometry c.of_geometry-piece.result
+    (rings_inside c.args.buf.now c.loop.at.byte h.geometry c.of_geometry-piece.result
     (c.of_geometry-piece.ensures h.geometry) c.end.result c.end.ensures c.if-piece-eq-POLYGON.true).whole
 
 pub put_rings-requires-clause-room : goal.put_rings-requires-clause-room
@@ -46,8 +48,8 @@ put_rings-requires-clause-room t c =
     omega (
       arith,
       h.room,
-      (rings_inside c.args.buf.now c.loop.at.byte c.loop.at.index h.geometry c.of_geometry-piece.result
-          (c.of_geometry-piece.ensures h.geometry) c.end.result c.end.ensures c.if-piece-eq-POLYGON.true).counts,
+      inside_many (rings_inside c.args.buf.now c.loop.at.byte h.geometry c.of_geometry-piece.result
+          (c.of_geometry-piece.ensures h.geometry) c.end.result c.end.ensures c.if-piece-eq-POLYGON.true),
     )
 
 pub put_geometries-requires : goal.put_geometries-requires
@@ -57,11 +59,11 @@ put_geometries-requires t c =
     let is = c.of_geometry-piece.ensures h.geometry in
     let inside = geometry_inside c.args.buf.now c.loop.at.byte c.end.result h.geometry c.of_geometry-piece.result is
     c.end.ensures in
-    let m = members_inside c.args.buf.now c.loop.at.byte c.loop.at.index h.geometry c.of_geometry-piece.result is
+    let m = members_inside c.args.buf.now c.loop.at.byte h.geometry c.of_geometry-piece.result is
     c.end.result c.end.ensures (sym c.has_coordinates.ensures ∙ c.if-has_coordinates.false)
     c.if-piece-eq-POLYGON.false BigEndian Xy in (
       omega (arith, c.decreases, l.onward, inside.inside, onward _ _ _ c.of_geometry-piece.result inside),
-      record { more = h.geometry.rest; all = m.all; fit = omega (arith, h.room, m.counts) },
+      record { more = h.geometry.rest; all = m.all; fit = omega (arith, h.room, inside_many m) },
     )
 
 pub offset_bounds-parts-at : goal.offset_bounds-parts-at
@@ -83,28 +85,33 @@ loop-preserved t c = λ more all.
     let at = c.loop.at in
     let p = c.of_geometry-piece.result in
     let is = c.of_geometry-piece.ensures g in
+    let put : List Subject → List Part =
+    λ xs. sets c.loop.parts (at.index + 1) (entries_from (at.index + 1) c.end.result xs) in
+    let ends = inner_end buf at.byte g p is c.end.result c.end.ensures in
     elim c.if-has_coordinates.branch [
       | then-has_coordinates w ↦
-          let l = leaf_of buf at.byte at.index g p is (sym c.has_coordinates.ensures ∙ w.if-has_coordinates.true) in
-          item_put at.index at.byte _ _ p is c.loop.parts _ _ _ c.of.result
-          (w.parts-is ∙ ap (sets c.loop.parts (at.index + 1)) (sym l.2))
-          (omega (arith, ap (λ (p : PartPlace). p.index) w.next-is, l.1))
-          (omega (arith, ap (λ (p : PartPlace). p.byte) w.next-is, c.end.ensures, l.0)) c.of.ensures
+          let r = rings_alone (leaf_inside buf at.byte g p is c.end.result c.end.ensures
+          (sym c.has_coordinates.ensures ∙ w.if-has_coordinates.true) BigEndian Xy) in
+          item_put at.index at.byte _ _ p is c.loop.parts _ c.end.result _ _ c.of.result c.end.ensures
+          (w.parts-is ∙ ap put r.0)
+          (omega (arith, ap (λ (p : PartPlace). p.index) w.next-is, r.1))
+          (ap (λ (p : PartPlace). p.byte) w.next-is ∙ ap (last_end c.end.result) r.0 ∙ ends) c.of.ensures
       | else-has_coordinates+then-piece-eq-POLYGON w ↦
-          let r = rings_alone (rings_inside buf at.byte at.index g p is _ c.end.ensures w.if-piece-eq-POLYGON.true) in
+          let r = rings_alone (rings_inside buf at.byte g p is _ c.end.ensures w.if-piece-eq-POLYGON.true) in
           let puts = w.put_rings.ensures in
-          item_put at.index at.byte _ _ p is c.loop.parts _ _ _ c.of.result
-          (w.parts-is ∙ puts.put ∙ ap (sets c.loop.parts (at.index + 1)) r.0)
+          item_put at.index at.byte _ _ p is c.loop.parts _ c.end.result _ _ c.of.result c.end.ensures
+          (w.parts-is ∙ puts.put ∙ ap put r.0)
           (omega (arith, ap (λ (p : PartPlace). p.index) w.next-is, puts.index, r.1))
-          (omega (arith, ap (λ (p : PartPlace). p.byte) w.next-is, puts.byte, r.2)) c.of.ensures
+          (ap (λ (p : PartPlace). p.byte) w.next-is ∙ puts.byte ∙ ap (last_end c.end.result) r.0 ∙ ends) c.of.ensures
       | else-has_coordinates+else-piece-eq-POLYGON w ↦
-          let m = members_inside buf at.byte at.index g p is _ c.end.ensures
+          let i = members_inside buf at.byte g p is _ c.end.ensures
           (sym c.has_coordinates.ensures ∙ w.if-has_coordinates.false) w.if-piece-eq-POLYGON.false BigEndian Xy in
-          let puts = w.put_geometries.ensures g.rest m.all in
-          item_put at.index at.byte _ _ p is c.loop.parts _ _ _ c.of.result
-          (w.parts-is ∙ puts.put ∙ ap (sets c.loop.parts (at.index + 1)) m.entries)
-          (omega (arith, ap (λ (p : PartPlace). p.index) w.next-is, puts.index, m.counts))
-          (omega (arith, ap (λ (p : PartPlace). p.byte) w.next-is, puts.byte, m.long)) c.of.ensures
+          let puts = w.put_geometries.ensures g.rest i.all in
+          item_put at.index at.byte _ _ p is c.loop.parts _ c.end.result _ _ c.of.result c.end.ensures
+          (w.parts-is ∙ puts.put ∙ ap put (sym i.are))
+          (omega (arith, ap (λ (p : PartPlace). p.index) w.next-is, puts.index, inside_many i))
+          (ap (λ (p : PartPlace). p.byte) w.next-is ∙ puts.byte ∙ ap (last_end c.end.result) (sym i.are) ∙ ends)
+          c.of.ensures
     ])
 
 pub returns : goal.returns
@@ -114,8 +121,9 @@ returns t c = λ more all.
     let none = none_of l.to_come.values (omega (arith, l.to_come.counted, c.loop-test.false)) in
     record {
       put =
-          ap (λ ts. sets c.loop.parts c.loop.at.index (member_entries c.loop.at.index c.loop.at.byte left ts))
+          ap (λ ts. sets c.loop.parts c.loop.at.index
+          (entries_from c.loop.at.index c.loop.at.byte (subjects_of_each left ts)))
           (sym none) ∙ l.put;
-      index = omega (arith, l.indices, ap (entry_counts left) none);
-      byte = omega (arith, l.bytes, ap (sizes left) none);
+      index = omega (arith, l.indices, ap (λ ts. length (subjects_of_each left ts)) none);
+      byte = ap (λ ts. last_end c.loop.at.byte (subjects_of_each left ts)) (sym none) ∙ l.bytes;
     }

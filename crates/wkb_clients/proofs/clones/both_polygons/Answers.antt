@@ -10,5 +10,4 @@ returns-in-Some-Some c =
     (same_polygon c.args.source.now c.args.clone.now c.args.i c.in-Some-Some.one.now
     c.in-Some-Some.other.now c.requires o.part p.part
     o.dimension p.dimension o.spelled p.spelled
-    c.polygon_spelled.ensures.bytes c.polygon_spelled-in-Some-Some.ensures.bytes c.polygon_spelled.ensures.spells
-    c.polygon_spelled-in-Some-Some.ensures.spells)
+    c.buf.ensures.read c.buf-in-Some-Some.ensures.read)

@@ -1,4 +1,5 @@
-use Rattle.wkb_clients.proofs.AllPoints.{member_falls, each_has}
+use Rattle.wkb.specs.Members.{member_falls}
+use Rattle.wkb_clients.proofs.AllPoints.{each_has}
 use Rattle.wkb_clients.proofs.coordinates.+dimension.Goals as goal
 
 pub have_only-has_only-requires : goal.have_only-has_only-requires

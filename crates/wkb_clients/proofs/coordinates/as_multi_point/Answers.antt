@@ -1,4 +1,4 @@
-use Rattle.std.proofs.Common.{◌≡◌, ◌++◌, ap, subst, sym, ◌∙◌}
+use Rattle.std.proofs.Common.{◌≡◌, [], ap, subst, sym, ◌∙◌}
 use Rattle.wkb.specs.Encodings.{encoding_of, refusal_of}
 use Rattle.wkb.specs.Geometries.{AreCoordinates}
 use Rattle.wkb.specs.Levels.{points_dimensions, points_points}
@@ -6,7 +6,8 @@ use Rattle.wkb.specs.Plain.{line_string_dimensions, line_string_coordinates}
 use Rattle.wkb.specs.Prelude.{as_dimensions}
 use Rattle.wkb.specs.Values.{dimension}
 use Rattle.wkb.specs.Writes.{IsVecError}
-use Rattle.wkb_clients.specs.Coordinates.{coordinates_of, words_of, HasOnly}
+use Rattle.wkb.specs.Coordinates.{coordinates_of}
+use Rattle.wkb_clients.specs.Coordinates.{words_of, HasOnly}
 use Rattle.wkb_clients.proofs.AllPoints.{all_fit, are_whole, are_points, want_of_room, meant_is}
 use Rattle.wkb_clients.proofs.coordinates.as_multi_point.Goals as goal
 use Rattle.wkb_clients.proofs.coordinates.as_multi_point.Goals.{After-as_slice}
@@ -22,8 +23,7 @@ fit c =
 -- the words are those of all coordinates
 words_are : (c : After-as_slice) → c.as_slice.result.now ≡ words_of (coordinates_of c.args.geometry.now.value)
 words_are c =
-    c.as_slice.ensures.value ∙ c.in_ok-put_words.ensures
-    ∙ ap (λ l. l ++ words_of (coordinates_of c.args.geometry.now.value)) c.new-words.ensures.items
+    c.as_slice.ensures.value ∙ c.in_ok-visit_coordinates.ensures.visited [] c.new.ensures.items
 
 pub unreachable-requires : goal.unreachable-requires
 unreachable-requires c =
@@ -37,10 +37,10 @@ returns-in-Ok-clause-ok c =
     let p = (goal.at.returns-in-Ok-clause-ok c).After-as_slice in
     let options = c.args.options.now in
     let line = c.in-Some.line in
-    let points = c.new-2.result in
+    let points = c.new-3.result in
     let meant = meant_is c.args.geometry.now.value c.dim.result (line_string_dimensions line) (points_dimensions points) _
     (line_string_coordinates line) (points_points points) c.dim.ensures c.in-Some.ensures.dimensions
-    c.new-2.ensures.dimensions c.new-2.ensures.points c.in-Some.ensures.coordinates (words_are p) (fit p) in
+    c.new-3.ensures.dimensions c.new-3.ensures.points c.in-Some.ensures.coordinates (words_are p) (fit p) in
     are_points options c.args.geometry.now.value c.in-Ok.bytes.items c.srid_fits.ensures
     (fit p)
     (c.in-Ok.ensures.ok ∙ ap (encoding_of options) meant) (ap (refusal_of options) (sym meant) ∙ c.in-Ok.ensures.writable)
@@ -50,9 +50,9 @@ returns-clause-err c =
     let p = (goal.at.returns-clause-err c).After-as_slice in
     let options = c.args.options.now in
     let line = c.in-Some.line in
-    let points = c.new-2.result in
+    let points = c.new-3.result in
     let meant = meant_is c.args.geometry.now.value c.dim.result (line_string_dimensions line) (points_dimensions points) _
     (line_string_coordinates line) (points_points points) c.dim.ensures c.in-Some.ensures.dimensions
-    c.new-2.ensures.dimensions c.new-2.ensures.points c.in-Some.ensures.coordinates (words_are p) (fit p) in
+    c.new-3.ensures.dimensions c.new-3.ensures.points c.in-Some.ensures.coordinates (words_are p) (fit p) in
     want_of_room options c.args.geometry.now.value c.in-Err.e c.srid_fits.ensures (fit p)
     (subst (λ g. IsVecError options g c.in-Err.e) meant c.in-Err.ensures.err)

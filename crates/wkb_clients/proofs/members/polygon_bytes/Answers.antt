@@ -7,9 +7,5 @@ returns-in-Some c =
     let m = c.args.multi.now in
     let p = c.in-Some.polygon.now in
     let o = c.in-Some.ensures in
-    let b = c.buf.ensures in
-    let bytes = c.buf-bytes.ensures in
     member_stands (multi_polygon_seen m) c.args.i (polygon_seen p)
-    (polygon_is_member m c.args.i p o.dimension o.spelled o.part)
-    (record { bytes = c.are_bytes.ensures; encoding = b.encoding; spells = b.spells })
-    (record { bytes = c.are_bytes-in-Some.ensures; encoding = bytes.encoding; spells = bytes.spells })
+    (polygon_is_member m c.args.i p o.dimension o.spelled o.part) c.buf.ensures c.buf-in-Some.ensures

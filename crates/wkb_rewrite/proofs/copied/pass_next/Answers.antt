@@ -9,16 +9,16 @@ pub stands_as_written-requires-clause-header : goal.stands_as_written-requires-c
 stands_as_written-requires-clause-header c =
     let ahead = c.requires.ahead in
     there_header (taken_there c.args.pieces.now (λ i. (c.type_inv.buf i).fits) c.requires.here ahead.are
-    (c.in-Some.ensures.takes.steps ahead.pieces ahead.are))
+    (c.in-Some.ensures.taken.takes.steps ahead.pieces ahead.are))
 
 pub stands_as_written-requires-2-clause-header : goal.stands_as_written-requires-2-clause-header
 stands_as_written-requires-2-clause-header c =
     let ahead = c.requires.ahead in
-    let still = subst (λ w. IsAhead w ahead.pieces) (sym (c.next_bare.ensures.stays c.in_default.is)) ahead.are in
+    let still = subst (λ w. IsAhead w ahead.pieces) (sym (c.next_bare.ensures.taken.stays c.in_default.is)) ahead.are in
     there_header (taken_there c.next_bare.new.self (λ i. (c.type_inv.buf i).fits)
-    (c.next_bare.ensures.same ∙ c.requires.here) still (c.in_ok-piece.ensures.steps.steps ahead.pieces still))
+    (c.next_bare.ensures.taken.same ∙ c.requires.here) still (c.in_ok-piece.ensures.steps.steps ahead.pieces still))
 
 pub returns-in_err-piece-clause-none : goal.returns-in_err-piece-clause-none
 returns-in_err-piece-clause-none c = λ _ xs are.
-    let still = subst (λ w. IsAhead w xs) (sym (c.next_bare.ensures.stays c.in_default.is)) are in
+    let still = subst (λ w. IsAhead w xs) (sym (c.next_bare.ensures.taken.stays c.in_default.is)) are in
     nothing_ahead still c.in_err-piece.was c.next.ensures.steps

@@ -1,4 +1,4 @@
-use Rattle.wkb_columns.proofs.Common.{arith, sym, ◌∙◌}
+use Rattle.wkb_abi.proofs.Common.{arith, sym, ◌∙◌}
 use Rattle.wkb_c.proofs.Gathering.{no_part, same_self}
 use Rattle.wkb_c.proofs.collect.CollectTarget.takes.Goals as goal
 

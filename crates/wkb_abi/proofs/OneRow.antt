@@ -1,0 +1,33 @@
+-- What holds of one row of a column: it has one list of bytes, and no two answers.
+use Rattle.wkb_abi.proofs.Common.{◌≡◌, ◌≢◌, ℕ, List, Some, None, sym, ◌∙◌}
+use Rattle.std.specs.Prelude.{true, false, slice_range}
+use Rattle.wkb_laws.proofs.Outcomes.{never_both_lem}
+use Rattle.wkb_rewrite.specs.Inputs.{IsAccepted}
+use Rattle.wkb_abi.specs.Columns.{IsRow, LacksRow, IsRefusedWith, null_row, bad_offsets}
+use Rattle.wkb_abi.specs.Requests.{request_of}
+use Rattle.wkb_abi.specs.declared.column.Column.{Column}
+use Rattle.wkb_abi.specs.declared.options.Options.{Options}
+use Rattle.wkb_abi.specs.declared.options.Request.{Request}
+
+-- a row has one list of bytes
+pub one_row : {c : Column} {i : ℕ} {a b : List ℕ} → IsRow c i a → IsRow c i b → a ≡ b
+one_row {c} x y =
+    let p = x.slice in
+    let q = y.slice in
+    let starts : p.start ≡ q.start = p.span.start_is.number_is ∙ sym q.span.start_is.number_is in
+    let ends : p.end ≡ q.end = p.span.end_is.number_is ∙ sym q.span.end_is.number_is in
+    p.row_is ∙ (λ i. slice_range c.bytes.now (starts i) (ends i)) ∙ sym q.row_is
+
+pub never_lacks : {c : Column} {i status : ℕ} {row : List ℕ} → IsRow c i row → LacksRow c i status → ⊥
+never_lacks {c} {i} is (null_row null told) =
+    let never : true ≡ false = sym null ∙ is.present in absurd cc
+never_lacks is (bad_offsets some none told) = none _ is.slice
+
+-- what is accepted isn't rejected
+pub never_refused : {row : List ℕ} {status : ℕ} → IsAccepted row → IsRefusedWith row status → ⊥
+never_refused {row} a why =
+    let r = why.1 in never_both_lem row a.s a.t a.rest r.cause r.turns r.slots a.front r.refuses
+
+-- what is asked for is not nothing
+pub is_asked : (o : Options) (request : Request) → request_of o ≡ Some request → request_of o ≢ None
+is_asked o request asked none = let never : Some request ≡ None = sym asked ∙ none in absurd (cc)

@@ -1,0 +1,51 @@
+-- The statuses of a column's rows, and their items where each row has one.
+use Rattle.wkb_abi.proofs.Common.{◌≡◌, ℕ, zero, suc, ◌+◌, ◌<◌, List, length, slice_index, refl, sym, subst, arith}
+use Rattle.std.specs.Prelude.{slice_index_or}
+use Rattle.std.proofs.Common.{set}
+use lib.Seq.{get_or-set_same, get_or-set_other}
+use Rattle.wkb_rewrite.specs.Inputs.{IsAccepted}
+use Rattle.wkb_abi.specs.Columns.{RowShows, RowsShow, accepted, refused, no_row, IsStatusOfRow}
+use Rattle.wkb_abi.specs.declared.column.Column.{Column}
+
+-- what holds of the rows below a number, and of the row of this number, holds of the rows below the next
+pub below_more : (Q : ℕ → Type 0) (i : ℕ) → ((j : ℕ) → j < i → Q j) → Q i → (j : ℕ) → j < i + 1 → Q j
+below_more Q zero above own zero h = own
+below_more Q zero above own (suc j) h = absurd (omega (arith, h))
+below_more Q (suc i) above own zero h = above zero (omega arith)
+below_more Q (suc i) above own (suc j) h =
+    below_more (λ k. Q (suc k)) i (λ k h. above (suc k) (omega (arith, h))) own j (omega (arith, h))
+
+-- what holds of the rows below a number, and of its own status, holds with one status more
+pub statuses_more : (Q : ℕ → ℕ → Type 0) (statuses : List ℕ) (i s : ℕ) → i < length statuses
+    → ((j : ℕ) → j < i → Q j (slice_index statuses j)) → Q i s
+    → (j : ℕ) → j < i + 1 → Q j (slice_index (set statuses i s) j)
+statuses_more Q statuses i s there above own =
+    below_more (λ j. Q j (slice_index (set statuses i s) j)) i
+    (λ j below. subst (Q j) (sym (get_or-set_other statuses i j s 0 (λ same. omega (arith, same, below))))
+    (above j below))
+    (subst (Q i) (sym (get_or-set_same statuses i s 0 there)) own)
+
+-- the same of statuses and items
+pub shown_more : {A : Type 0} {Shows : List ℕ → A → Type 0} {none : A} {c : Column} {statuses : List ℕ} {items : List A}
+    (i s : ℕ) (a : A) → i < length statuses → i < length items → RowsShow Shows none c i statuses items
+    → RowShows Shows none c i s a → RowsShow Shows none c (i + 1) (set statuses i s) (set items i a)
+shown_more {A = A} {Shows} {none} {c} {statuses} {items} i s a there room above own = record {
+  each =
+      below_more (λ j. Q j (slice_index (set statuses i s) j) (slice_index_or (set items i a) j none)) i
+      (λ j below.
+      let other : j ≡ i → ⊥ = λ same. omega (arith, same, below) in
+      subst (λ T. T) (λ k. Q j (sym (get_or-set_other statuses i j s 0 other) k)
+      (sym (get_or-set_other items i j a none other) k)) (above.each j below))
+      (subst (λ T. T) (λ k. Q i (sym (get_or-set_same statuses i s 0 there) k)
+      (sym (get_or-set_same items i a none room) k)) own);
+} where
+  Q : ℕ → ℕ → A → Type 0
+  Q = RowShows Shows none c
+
+-- the status of a row whose item shows that it is accepted
+pub status_shown : {A : Type 0} {Shows : List ℕ → A → Type 0} {none : A} {c : Column} {i status : ℕ} {item : A}
+    → ((row : List ℕ) → Shows row item → IsAccepted row) → RowShows Shows none c i status item
+    → IsStatusOfRow c i status
+status_shown fine (accepted row is ok shows) = accepted row is ok (fine row shows)
+status_shown fine (refused row is why none) = refused row is why refl
+status_shown fine (no_row why none) = no_row why refl

@@ -1,0 +1,69 @@
+-- How far the rows of a column reach, so that no two of them overlap.
+use Rattle.wkb_abi.proofs.Common.{◌≡◌, ℕ, zero, suc, ◌+◌, ◌<◌, ◌≤◌, ◌⊎◌, inl, inr, List, [], length}
+use Rattle.wkb_abi.proofs.Common.{ap, arith}
+use Rattle.std.specs.Prelude.{max, ◌-◌, drop}
+use Rattle.std.proofs.lemmas.List.{length-take}
+use Rattle.wkb_abi.proofs.Rows.{below_more}
+use Rattle.wkb_abi.specs.declared.column.Column.{Column}
+use Rattle.wkb_abi.specs.Columns.{IsSpan, HasNoSpan, HasNoSlice, EndBy, IsReach, IsRow}
+use Rattle.wkb_abi.specs.Columns.{RowsFollow, RowsFit, total_length}
+
+module _ (bytes offsets : List ℕ) (size : ℕ) where
+  -- the rows before row i are among those before the next one
+  fewer : (i limit : ℕ) → EndBy bytes offsets size (i + 1) limit → EndBy bytes offsets size i limit
+  fewer i limit by = λ j start end below is. by j start end (omega (arith, below)) is
+
+  -- so far the rows reach with a row that has bytes, where the greater end is told
+  pub reached : {i reach start end to : ℕ} → to ≡ max reach end → IsReach bytes offsets size i reach
+      → IsSpan bytes offsets size i start end → IsReach bytes offsets size (i + 1) to
+  reached {i} {reach} {start} {end} {to} to_is r own = record {
+    enough = λ j s e below is. below_more (λ j. (s e : ℕ) → IsSpan bytes offsets size j s e → e ≤ to) i
+        (λ j above s e is. omega (arith, r.enough j s e above is, to_is))
+        (λ s e is. omega (arith, is.end_is.number_is, own.end_is.number_is, to_is)) j below s e is;
+    least = λ limit by. omega (arith, r.least limit (fewer i limit by), by i start end (omega arith) own, to_is);
+  }
+
+  -- and with a row that has none
+  pub reach_same : {i reach : ℕ} → IsReach bytes offsets size i reach → HasNoSpan bytes offsets size i
+      → IsReach bytes offsets size (i + 1) reach
+  reach_same {i} {reach} r none = record {
+    enough = λ j s e below is. below_more (λ j. (s e : ℕ) → IsSpan bytes offsets size j s e → e ≤ reach) i
+        (λ j above s e is. r.enough j s e above is) (λ s e is. absurd (none s e is)) j below s e is;
+    least = λ limit by. r.least limit (fewer i limit by);
+  }
+
+-- without a span there is no slice
+pub no_span : {i : ℕ} (c : Column) → HasNoSpan c.bytes.now c.offsets.now c.offset_size i
+    → HasNoSlice c.bytes.now c.offsets.now c.offset_size i
+no_span c none = λ row is. none is.start is.end is.span
+
+pub rows_follow : RowsFollow
+rows_follow c i j row later below a b = b.slice.after i a.slice.start a.slice.end below a.slice.span
+
+module _ (c : Column) (row : ℕ → List ℕ) where
+  -- rows that end by here are together no longer
+  abbrev EndAndFit : ℕ → Type 0
+  EndAndFit n =
+      (limit : ℕ) → EndBy c.bytes.now c.offsets.now c.offset_size n limit → total_length row n ≤ limit
+
+  row_fits : (n : ℕ) → EndAndFit n → (row n ≡ []) ⊎ IsRow c n (row n) → EndAndFit (suc n)
+  row_fits n before (inl empty) limit by =
+      omega (arith, ap length empty, before limit (λ j s e below is. by j s e (omega (arith, below)) is))
+  row_fits n before (inr is) limit by =
+      let s = is.slice in
+      omega (
+        arith,
+        before s.start s.after,
+        by n s.start s.end (omega arith) s.span,
+        ap length s.row_is,
+        length-take (s.end - s.start) (drop s.start c.bytes.now),
+        s.span.rise,
+      )
+
+  rows_end_and_fit : (n : ℕ) → ((i : ℕ) → i < n → (row i ≡ []) ⊎ IsRow c i (row i)) → EndAndFit n
+  rows_end_and_fit zero rows = λ limit by. omega arith
+  rows_end_and_fit (suc n) rows =
+      row_fits n (rows_end_and_fit n (λ i below. rows i (omega (arith, below)))) (rows n (omega arith))
+
+pub rows_fit : RowsFit
+rows_fit c row n rows = rows_end_and_fit c row n rows (length c.bytes.now) (λ j s e below is. is.inside)

@@ -1,0 +1,115 @@
+-- What the C library reports of a result of the check.
+use Rattle.wkb_abi.proofs.Common.{◌≡◌, ◌≢◌, ℕ, List, refl, arith, sym, ap, subst, kind, dimension, Value}
+use Rattle.wkb_abi.proofs.Common.{header, Spelling, node, Spells}
+use Rattle.wkb_geom.specs.Fronts.{Front}
+use Rattle.wkb_geom.specs.Grammar.{Begins}
+use Rattle.wkb_geom.specs.declared.error.Cause.TheVariants.{General as general}
+use Rattle.wkb_geom.specs.declared.error.General.{General as Bad}
+use Rattle.wkb_geom.specs.declared.error.General.TheVariants.{InvalidByteOrder, CodeOutOfRange, UnsupportedDimensions}
+use Rattle.wkb_check.specs.Pieces.{leading, count_of, piece_of}
+use Rattle.wkb_check.specs.declared.pieces.Piece.{Piece}
+use Rattle.wkb_check.specs.Known.{HasGeometry}
+use Rattle.wkb_check.specs.Public.{DescribesFront, IsRefusedFor}
+use Rattle.wkb_check.specs.declared.answer.Refused.{Refused}
+use Rattle.wkb_check.specs.declared.answer.Summary.{Summary}
+use Rattle.wkb_rewrite.specs.Inputs.{IsAccepted, HaveOneValue, HaveTwoValues}
+use Rattle.wkb_abi.specs.Checks.{IsFound}
+use Rattle.wkb_abi.specs.declared.found.Found.{Found}
+use Rattle.wkb_abi.specs.Classes.{IsRefusalStatus, IsShortStatus}
+use Rattle.wkb_abi.specs.Columns.{IsRefusedWith}
+use Rattle.wkb_abi.specs.EnumNumbers.{AreRefusals, OthersTellNoEnd}
+use Rattle.wkb_abi.specs.Statuses.{general_status, general_fault, cause_status, cause_fault}
+
+general_is_refusal : (g : Bad) → IsRefusalStatus (general_status g)
+general_is_refusal InvalidByteOrder = omega arith
+general_is_refusal _ = omega arith
+
+-- each cause has a status of the class of refusals
+pub refusals : AreRefusals
+refusals (general g) = general_is_refusal g
+refusals _ = omega arith
+
+-- and only those of the last part tell where the input ends too early
+general_tells_end : (g : Bad) (part offset : ℕ) → (IsShortStatus (general_status g) → ⊥)
+    → ((general_fault (general_status g) part offset g).end ≡ 0)
+    × ((general_fault (general_status g) part offset g).len ≡ 0)
+general_tells_end InvalidByteOrder part offset long = (refl, refl)
+general_tells_end (CodeOutOfRange code) part offset long = (refl, refl)
+general_tells_end (UnsupportedDimensions n) part offset long = (refl, refl)
+general_tells_end _ part offset long = absurd (long (omega arith))
+
+pub others_tell_no_end : OthersTellNoEnd
+others_tell_no_end (general g) part offset long = general_tells_end g part offset long
+others_tell_no_end _ part offset long = (refl, refl)
+
+-- the status of its cause says why the bytes are rejected
+pub refused_with : (buf : List ℕ) (e : Refused) (status : ℕ) → IsRefusedFor buf e → status ≡ cause_status e.cause
+    → IsRefusedWith buf status
+refused_with buf e status r is = (
+  cause_fault e.part e.offset e.cause,
+  record {
+    cause = e.cause;
+    turns = e.part;
+    slots = r.slots;
+    refuses = r.refuses;
+    offset = e.offset;
+    status_is = is;
+    fault_is = refl;
+    begins = r.begins;
+  },
+)
+
+-- what is found is accepted
+pub found_is_accepted : (buf : List ℕ) (f : Summary) → DescribesFront buf f → IsAccepted buf
+found_is_accepted buf f d = record { s = d.spelled; t = d.value; rest = d.rest; front = d.front }
+
+pub found_accepted : (buf : List ℕ) (found : Found) → IsFound buf found → IsAccepted buf
+found_accepted buf found h = record { s = h.s; t = h.t; rest = h.rest; front = h.front }
+
+-- the bytes of what is in front
+abbrev pub begins : (buf : List ℕ) (s : Spelling) (t : Value) (rest : List ℕ) → Front buf s t rest
+    → Begins (Spells s t) buf rest
+begins buf s t rest f = record { front = f.front; whole = f.whole; first = f.spelled }
+
+-- what the first piece of a geometry says of it
+pub record FirstPiece (s : Spelling) (t : Value) (p : Piece) : Type 0 where
+  pub offset_is : p.offset ≡ leading (header s) t
+  pub count_is : p.count ≡ count_of t
+  pub kind_is : p.kind ≡ kind t
+  pub dimension_is : p.dimension ≡ dimension t
+  pub order_is : p.order ≡ (header s).order
+  pub srid_is : p.srid ≡ (header s).srid
+
+pub first_piece : (s : Spelling) (t : Value) {p : Piece} → p ≡ piece_of 0 s t → FirstPiece s t p
+first_piece (node h words ss) t is = record {
+  offset_is = omega (arith, ap (λ p. p.offset) is);
+  count_is = ap (λ p. p.count) is;
+  kind_is = ap (λ p. p.kind) is;
+  dimension_is = ap (λ p. p.dimension) is;
+  order_is = ap (λ p. p.order) is;
+  srid_is = ap (λ p. p.srid) is;
+}
+
+-- the geometry that is accepted
+abbrev pub accepted_there : (buf : List ℕ) → IsAccepted buf → HasGeometry buf
+accepted_there buf a =
+    record { spelled = a.s; value = a.t; rest = a.rest; begins = begins buf a.s a.t a.rest a.front }
+
+-- two that are accepted have one value, or two
+pub same_values : (a b : List ℕ) (x : IsAccepted a) (y : IsAccepted b) → x.t ≡ y.t → HaveOneValue a b
+same_values a b x y is =
+    let second = subst (λ t. Front b y.s t y.rest) (sym is) y.front in
+    record { s = x.s; u = y.s; t = x.t; rest = x.rest; more = y.rest; first = x.front; second = second }
+
+pub other_values : (a b : List ℕ) (x : IsAccepted a) (y : IsAccepted b) → x.t ≢ y.t → HaveTwoValues a b
+other_values a b x y differ = record {
+  s = x.s;
+  u = y.s;
+  t = x.t;
+  v = y.t;
+  rest = x.rest;
+  more = y.rest;
+  first = x.front;
+  second = y.front;
+  different = differ;
+}

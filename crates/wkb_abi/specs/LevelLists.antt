@@ -1,0 +1,63 @@
+-- The slices that the levels are written to, as the code has them.
+use Rattle.std.specs.Prelude.{◌≡◌, ℕ, List}
+use Rattle.wkb_geom.specs.declared.common.Dimension.{Dimension}
+use Rattle.wkb_check.specs.Known.{HasGeometry}
+use Rattle.wkb_check.specs.Public.{DescribesFront}
+use Rattle.wkb_check.specs.declared.answer.Summary.{Summary}
+use Rattle.wkb_abi.specs.Coordinates.{LevelLists, levels, HasRoomUpTo, totals_after, with_levels, IsCoordinatesRow}
+use Rattle.wkb_abi.specs.Coordinates.{ArePut, AreColumnCoordinates, LevelsSuffice}
+use Rattle.wkb_abi.specs.RowItems.{rows_of}
+use Rattle.wkb_check.specs.Subjects.{subjects}
+use Rattle.wkb_abi.specs.Columns.{IsRefusedWith}
+use Rattle.wkb_abi.specs.declared.column.Column.{Column}
+use Rattle.wkb_abi.specs.declared.level_slices.LevelSlices.{LevelSlices}
+use Rattle.wkb_abi.specs.declared.totals.Totals.{Totals}
+
+-- what they hold
+abbrev pub levels_of : LevelSlices → LevelLists
+levels_of out = levels out.words.now out.ring_ends.now out.single_ends.now
+
+-- both are over the same slices
+pub record AreSameSlices (before after : LevelSlices) : Type 0 where
+  pub words_stay : after.words.ghost_name ≡ before.words.ghost_name
+  pub ring_ends_stay : after.ring_ends.ghost_name ≡ before.ring_ends.ghost_name
+  pub single_ends_stay : after.single_ends.ghost_name ≡ before.single_ends.ghost_name
+
+-- the slices have room for the levels of the geometry that a row begins with, from these totals on
+abbrev pub HasRoomFor : Dimension → List ℕ → Totals → LevelSlices → Type 0
+HasRoomFor asked row from out =
+    (g : HasGeometry row) → HasRoomUpTo asked (levels_of out) (totals_after from (subjects g.spelled g.value))
+
+-- the levels of the geometry that a row begins with are written to the slices
+abbrev pub PutsLevels : Dimension → List ℕ → Totals → LevelSlices → LevelSlices → Type 0
+PutsLevels asked row from before after =
+    (g : HasGeometry row) → levels_of after ≡ with_levels asked (subjects g.spelled g.value) from (levels_of before)
+
+-- the levels of a row in which the check found this, where they begin and end, and what becomes of the slices
+abbrev pub PutsFound : Dimension → List ℕ → Summary → ℕ → Totals → Totals → LevelSlices → LevelSlices → Type 0
+PutsFound asked row found status from to before after =
+    (d : DescribesFront row found)
+    → ArePut asked (subjects d.spelled d.value) status from to (levels_of before) (levels_of after)
+
+-- the status of a row with any bytes, where its levels begin and end, and what becomes of the slices
+pub data PutsAny (asked : Dimension) (row : List ℕ) (status : ℕ) (from to : Totals) (before after : LevelSlices) : Type 0
+  where
+    accepted : (found : Summary) → DescribesFront row found → PutsFound asked row found status from to before after
+        → PutsAny asked row status from to before after
+    rejected : IsRefusedWith row status → to ≡ from → levels_of after ≡ levels_of before
+        → PutsAny asked row status from to before after
+
+-- the status of row i, where its levels begin and end, and what becomes of the slices
+abbrev pub PutsRow : Column → ℕ → ℕ → ℕ → Totals → Totals → LevelSlices → LevelSlices → Type 0
+PutsRow c dimension i status from to before after =
+    IsCoordinatesRow c dimension i status from to (levels_of before) (levels_of after)
+
+-- the levels of all rows are written to the slices, with a status and an end for each row
+abbrev pub AreLevels : Column → ℕ → List ℕ → List ℕ → Totals → LevelSlices → LevelSlices → Type 0
+AreLevels c dimension statuses row_ends at before now =
+    AreColumnCoordinates c dimension statuses row_ends (levels_of before) (rows_of statuses row_ends) at (levels_of now)
+
+-- with room up to here in the dimension of this number no row lacks room
+abbrev pub TotalsSuffice : ℕ → LevelSlices → Totals → List ℕ → List ℕ → Type 0
+TotalsSuffice dimension out to statuses row_ends =
+    LevelsSuffice dimension (levels_of out) to (rows_of statuses row_ends) statuses

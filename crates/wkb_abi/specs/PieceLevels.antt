@@ -1,0 +1,109 @@
+-- What one piece of a geometry gives each level: the code's step.
+use Rattle.std.specs.Prelude.{◌≡◌, ℕ, ◌+◌, ◌-◌, ◌*◌, ◌^◌, ◌<◌, ◌≤◌, List, [], ◌∷◌, length, drop, sum, flat_map, nat_lt}
+use Rattle.std.specs.Prelude.{◌&&◌, IsTrue, if◌then◌else◌}
+use lib.Seq.{sets}
+use Rattle.wkb_geom.specs.declared.common.Endianness.{Endianness}
+use Rattle.wkb_geom.specs.declared.common.Dimension.{Dimension}
+use Rattle.wkb_geom.specs.declared.code.TheConstants.{POLYGON}
+use Rattle.wkb_geom.specs.Dimensions.{width}
+use Rattle.wkb_geom.specs.Reading.{coordinate, coordinates}
+use Rattle.wkb_check.specs.declared.answer.Summary.{Summary}
+use Rattle.wkb_check.specs.declared.pieces.Piece.{Piece}
+use Rattle.wkb_check.specs.Known.{HasGeometry}
+use Rattle.wkb_check.specs.Pieces.{IsPieceAt}
+use Rattle.wkb_check.specs.Public.{DescribesFront}
+use Rattle.wkb_check.specs.Subjects.{subjects}
+use Rattle.wkb_abi.specs.Coordinates.{LevelLists, words_asked, ends, AreTotals}
+use Rattle.wkb_abi.specs.RowItems.{end_of}
+use Rattle.wkb_abi.specs.declared.totals.Totals.{Totals}
+
+-- how many coordinates it has, if it is a ring
+abbrev pub ring_sizes : Piece → List ℕ
+ring_sizes p = if nat_lt p.kind 3 then p.count ∷ [] else []
+
+-- how many coordinates there are up to its end, after so many before it
+abbrev pub coordinates_with : Piece → Totals → ℕ
+coordinates_with p at = at.coordinates + sum (ring_sizes p)
+
+-- how many rings it has, if it is a single
+abbrev pub single_sizes : Piece → List ℕ
+single_sizes p = if nat_lt 0 p.kind && nat_lt p.kind 4 then (if nat_lt p.kind 3 then 1 else p.count) ∷ [] else []
+
+-- how many rings a geometry has that is no collection and has so many parts, by its first piece
+abbrev pub ring_number : Piece → ℕ → ℕ
+ring_number p parts = if nat_lt p.kind 3 then 1 else (if nat_lt p.kind 6 then p.count else parts - (1 + p.count))
+
+-- how many singles it has
+abbrev pub single_number : Piece → ℕ
+single_number p = if nat_lt p.kind 4 then 1 else p.count
+
+-- a geometry in which the check found this, and whose first piece is this, has these totals
+abbrev pub AreTotalsOf : Summary → Piece → Totals → Type 0
+AreTotalsOf found first own =
+    (input : List ℕ) → DescribesFront input found → IsPieceAt input 0 first → (g : HasGeometry input)
+    → AreTotals own (subjects g.spelled g.value)
+
+-- the coordinates of a piece are inside the row, if they have this dimension
+abbrev pub AreInside : List ℕ → Dimension → Piece → Type 0
+AreInside row own p = p.offset + 8 * width own * p.count ≤ length row
+
+-- the coordinates of a piece that has some are inside the row
+abbrev pub IsRingInside : List ℕ → Piece → Type 0
+IsRingInside row p = IsTrue (nat_lt p.kind POLYGON) → AreInside row p.dimension p
+
+-- the words that are asked for of so many coordinates, read in this order and dimension
+abbrev pub words_from : Dimension → Endianness → Dimension → ℕ → List ℕ → List ℕ
+words_from asked order own count bytes = flat_map (words_asked asked own) (coordinates order own count bytes)
+
+-- the coordinates of a piece in the row, read in this order and dimension
+abbrev pub coordinates_as : Endianness → Dimension → List ℕ → Piece → List (List ℕ)
+coordinates_as order own row p = coordinates order own p.count (drop p.offset row)
+
+-- the words that are asked for of the coordinate that is read from here on in this order and dimension
+abbrev pub words_read : Dimension → Endianness → Dimension → List ℕ → ℕ → List ℕ
+words_read asked order own row from = words_asked asked own (coordinate order own (drop from row))
+
+-- the words that the dimension names, read in the order and dimension of the piece
+abbrev pub words_asked_of : Dimension → List ℕ → Piece → List ℕ
+words_asked_of asked row p = words_from asked p.order p.dimension p.count (drop p.offset row)
+
+-- the coordinates of a piece, if it has some
+abbrev pub piece_coordinates : List ℕ → Piece → List (List ℕ)
+piece_coordinates row p = if nat_lt p.kind 3 then coordinates_as p.order p.dimension row p else []
+
+-- the words that are asked for of these
+abbrev pub piece_words : Dimension → List ℕ → Piece → List ℕ
+piece_words asked row p = flat_map (words_asked asked p.dimension) (piece_coordinates row p)
+
+-- the list of words with its own, which begin here
+abbrev pub with_words : Dimension → List ℕ → Piece → Totals → List ℕ → List ℕ
+with_words asked row p at words = sets words (width asked * at.coordinates) (piece_words asked row p)
+
+-- the list of ring ends with its own, if it is a ring
+abbrev pub with_ring_end : Piece → Totals → List ℕ → List ℕ
+with_ring_end p at ring_ends = sets ring_ends at.rings (ends at.coordinates (ring_sizes p))
+
+-- the list of single ends with its own, if it is a single
+abbrev pub with_single_end : Piece → Totals → List ℕ → List ℕ
+with_single_end p at single_ends = sets single_ends at.singles (ends at.rings (single_sizes p))
+
+-- the row has the coordinates of a piece, and there is room for what it gives each level
+pub record PieceFits (asked : Dimension) (row : List ℕ) (p : Piece) (at : Totals) (out : LevelLists) : Type 0 where
+  pub inside : IsRingInside row p
+  pub words_fit : width asked * coordinates_with p at ≤ length out.words
+  pub ring_ends_fit : at.rings + length (ring_sizes p) ≤ length out.ring_ends
+  pub single_ends_fit : at.singles + length (single_sizes p) ≤ length out.single_ends
+  pub small : at.rings < 2 ^ 63
+
+-- what a piece gives each level is written
+pub record PutsPiece (asked : Dimension) (row : List ℕ) (p : Piece) (at : Totals) (before after : LevelLists) : Type 0
+  where
+    pub words : after.words ≡ with_words asked row p at before.words
+    pub ring_ends : after.ring_ends ≡ with_ring_end p at before.ring_ends
+    pub single_ends : after.single_ends ≡ with_single_end p at before.single_ends
+
+-- these are the totals after one more piece
+pub record AreTotalsWith (at : Totals) (p : Piece) (to : Totals) : Type 0 where
+  pub coordinates : to.coordinates ≡ end_of at.coordinates (sum (ring_sizes p))
+  pub rings : to.rings ≡ end_of at.rings (length (ring_sizes p))
+  pub singles : to.singles ≡ end_of at.singles (length (single_sizes p))

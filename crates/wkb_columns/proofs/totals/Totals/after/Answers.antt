@@ -1,8 +1,0 @@
-use Rattle.wkb_columns.proofs.KindTotals.{totals_and}
-use Rattle.wkb_columns.proofs.totals.Totals.after.Goals as goal
-
-pub returns-in-Some : goal.returns-in-Some
-returns-in-Some c = λ g.
-    let sums = c.and.ensures in
-    let row = c.in-Some.ensures.totals c.args.row.now c.requires.found c.requires.first g in
-    totals_and c.args.self row sums.coordinates sums.rings sums.singles

@@ -1,0 +1,46 @@
+-- What `buf` of every view says: the bytes that it lends, and all that reading found of their geometry.
+use Rattle.std.specs.Prelude.{◌≡◌, ℕ, ◌<◌, ◌^◌, List, length}
+use Rattle.wkb_geom.specs.declared.common.Form.TheVariants.{Iso}
+use Rattle.wkb_geom.specs.Encodings.{IsWritable}
+use Rattle.wkb_geom.specs.Fronts.{Front}
+use Rattle.wkb_geom.specs.Geometries.{Geometry, geometry_of, IsGeometry, normal}
+use Rattle.wkb_geom.specs.Values.{Value}
+use Rattle.wkb_view.specs.Fits.{fitted_geometry}
+use Rattle.wkb_view.specs.Prelude.{AreBytes, BytesSpell, Endianness, Item}
+
+-- the bytes of a slice
+pub record AreSlice (lent : List ℕ) : Type 0 where
+  pub bytes : AreBytes lent
+  pub fits : length lent < 2 ^ 64
+
+-- what a geometry means to a caller of the geometry traits
+abbrev pub geometry_seen : Item → Geometry
+geometry_seen w = fitted_geometry (geometry_of w.value)
+
+-- the input begins with the bytes of this geometry, which spell its value
+pub record IsFront (buf : List ℕ) (w : Item) : Type 0 where
+  pub rest : List ℕ
+  pub front : Front buf w.spelled w.value rest
+  pub encoding_is : front.front ≡ w.encoding
+
+-- the value can be written in either order
+abbrev pub CanBeWritten : Value → Type 0
+CanBeWritten t = (order : Endianness) → IsWritable order Iso (geometry_of t)
+
+-- What every geometry is that was read, wherever it is handed on, and every part of it: its bytes are those of a
+-- slice and begin with it, and its value is lawful, can be written, is its own normal value, and is what the traits show.
+pub record IsRead (w : Item) : Type 0 where
+  pub front : IsFront w.encoding w
+  pub bytes : AreBytes w.encoding
+  pub fits : length w.encoding < 2 ^ 64
+  pub lawful : IsGeometry (geometry_of w.value)
+  pub seen : geometry_seen w ≡ geometry_of w.value
+  pub normal : normal (geometry_of w.value) ≡ w.value
+  pub writable : CanBeWritten w.value
+
+-- the bytes that a view lends are its geometry's, spell it and begin with it, and it was read
+pub record Lends (w : Item) (lent : List ℕ) : Type 0 where
+  pub encoding : lent ≡ w.encoding
+  pub spells : BytesSpell w
+  pub front : IsFront lent w
+  pub read : IsRead w
