@@ -282,7 +282,8 @@ inline part::iterator part::end() const noexcept { return {input_, table_, table
 class reader {
  public:
   // Returns the input's geometry, or nothing if it is rejected. FAULT then says why, unless it is null.
-  [[nodiscard]] std::optional<part> try_read(bytes input WKB_LIFETIMEBOUND, wkb_fault *fault = nullptr) WKB_LIFETIMEBOUND {
+  [[nodiscard]] std::optional<part> try_read(bytes input WKB_LIFETIMEBOUND,
+                                             wkb_fault *fault = nullptr) WKB_LIFETIMEBOUND {
     count_ = 0;
     std::size_t count = 0;
     wkb_fault found{};
@@ -310,10 +311,12 @@ class reader {
 #endif
 
   // The table of the input that was read last, in preorder; empty if that was rejected, and in a reader moved from.
-  std::span<const wkb_part> table() const noexcept WKB_LIFETIMEBOUND { return {table_.data(), std::min(count_, table_.size())}; }
+  std::span<const wkb_part> table() const noexcept WKB_LIFETIMEBOUND {
+    return {table_.data(), std::min(count_, table_.size())};
+  }
 
  private:
-  std::vector<wkb_part> table_;
+  std::vector<wkb_part> table_{};
   std::size_t count_ = 0;
 };
 

@@ -69,10 +69,14 @@ static void put_line(dump *it, const char *format, ...) {
 /* Goes past the next COUNT bytes, or as many as there are, and shows them with their meaning. Returns whether all of
  * them are there. */
 static bool put_bytes(dump *it, size_t count, const char *format, ...) {
+  static const char DIGITS[] = "0123456789abcdef";
   char hex[3 * IN_A_LINE + 1] = "", says[SAYS_ROOM];
   size_t there = it->len - it->at < count ? it->len - it->at : count;
   if (there > 0 && is_shown(it)) {
-    for (size_t i = 0; i < there && i < IN_A_LINE; i++) snprintf(hex + 3 * i, 4, "%02x ", it->bytes[it->at + i]);
+    for (size_t i = 0; i < there && i < IN_A_LINE; i++) {
+      uint8_t byte = it->bytes[it->at + i];
+      hex[3 * i] = DIGITS[byte >> 4], hex[3 * i + 1] = DIGITS[byte & 15], hex[3 * i + 2] = ' ';
+    }
     va_list words;
     va_start(words, format);
     vsnprintf(says, sizeof says, format, words);
@@ -296,9 +300,10 @@ static bool put_whole(dump *it) {
   it->walk.end = it->at - it->front;
   if (!is_good) {
     char text[WKB_FAULT_TEXT_ROOM];
+    const char *other = wkb_dump_other(&fault, it->bytes + it->front, it->len - it->front);
     fault.offset += it->front;
     wkb_fault_text(&fault, text, sizeof text);
-    put_line(it, "%10srefused: %s", "", text);
+    put_line(it, "%10srefused: %s%s", "", text, other);
     put_path(it);
     return false;
   }
@@ -359,16 +364,15 @@ int wkb_dump(const void *buf, size_t len, const wkb_dump_options *options, wkb_d
 
 /* The value of a digit of hex, or -1. */
 static int digit_of(char letter) {
-  static const char DIGITS[] = "0123456789abcdef", CAPITALS[] = "0123456789ABCDEF";
-  for (int i = 0; i < 16; i++)
-    if (letter == DIGITS[i] || letter == CAPITALS[i]) return i;
-  return -1;
+  if (letter >= '0' && letter <= '9') return letter - '0';
+  char lower = (char)(letter | ' ');
+  return lower >= 'a' && lower <= 'f' ? lower - 'a' + 10 : -1;
 }
 
 static bool is_space(char letter) { return letter == ' ' || (letter >= '\t' && letter <= '\r'); }
 
 /* Goes through hex, and writes its bytes unless OUT is null. Returns how many there are, or WKB_DUMP_NOT_HEX. */
-static size_t read_hex(const char *text, size_t length, char *out) {
+static size_t read_hex(const char *text, size_t length, char *out, size_t *wrong) {
   size_t bytes = 0, i = 0;
   while (i < length && is_space(text[i])) i++;
   if (length - i >= 2 && (text[i] == '0' || text[i] == '\\') && (text[i + 1] == 'x' || text[i + 1] == 'X')) i += 2;
@@ -378,6 +382,7 @@ static size_t read_hex(const char *text, size_t length, char *out) {
       continue;
     }
     int high = digit_of(text[i]), low = i + 1 < length ? digit_of(text[i + 1]) : -1;
+    *wrong = high < 0 ? i : i + 1;
     if (high < 0 || low < 0) return WKB_DUMP_NOT_HEX;
     if (out != NULL) out[bytes] = (char)(high << 4 | low);
     bytes++, i += 2;
@@ -385,7 +390,40 @@ static size_t read_hex(const char *text, size_t length, char *out) {
   return bytes;
 }
 
-size_t wkb_dump_from_hex(char *text, size_t length) {
-  size_t bytes = read_hex(text, length, NULL);
-  return bytes == WKB_DUMP_NOT_HEX ? bytes : read_hex(text, length, text);
+size_t wkb_dump_from_hex(char *text, size_t length, size_t *wrong) {
+  size_t bytes = read_hex(text, length, NULL, wrong);
+  return bytes == WKB_DUMP_NOT_HEX ? bytes : read_hex(text, length, text, wrong);
+}
+
+/* Whether the first bytes, so many as a byte order and a code in hex have, can be printed. */
+static bool begins_as_text(const char *text, size_t length) {
+  for (size_t i = 0; i < length && i < 10; i++)
+    if (text[i] < ' ' || text[i] > '~') return false;
+  return length > 0;
+}
+
+/* Whether they are hex, which may have 0x before it. */
+static bool begins_as_hex(const char *text, size_t length) {
+  size_t i = length >= 2 && text[0] == '0' && text[1] == 'x' ? 2 : 0;
+  while (i < length && i < 10 && digit_of(text[i]) >= 0) i++;
+  return i == 10;
+}
+
+/* Whether these are the marks of SpatiaLite: 0, an order, 0x7c after the bounds and 0xfe, or, around a point of one of
+ * three sizes, 0, an order with the flag 0x80 and 0xfe. */
+static bool is_spatialite(const uint8_t *bytes, size_t len) {
+  enum { LEAST = 24, BOUNDS_END = 38, LEAST_WITH_BOUNDS = 44, POINT = 0x80 };
+  if (len < LEAST || bytes[0] != 0 || bytes[len - 1] != 0xfe) return false;
+  if (bytes[1] > 1) return (bytes[1] | 1) == (POINT | 1) && (len == 24 || len == 32 || len == 40);
+  return len >= LEAST_WITH_BOUNDS && bytes[BOUNDS_END] == 0x7c;
+}
+
+const char *wkb_dump_other(const wkb_fault *fault, const void *buf, size_t len) {
+  if (fault->part != 0) return "";
+  if (fault->status == WKB_STATUS_CODE_OUT_OF_RANGE && is_spatialite(buf, len))
+    return "; this is a blob of SpatiaLite, whose AsBinary(blob) is WKB";
+  if (fault->status != WKB_STATUS_INVALID_BYTE_ORDER) return "";
+  if (len >= 8 && memcmp(buf, "GP\0", 3) == 0) return "; this is the blob of a GeoPackage";
+  if (!begins_as_text(buf, len)) return "";
+  return begins_as_hex(buf, len) ? "; this is hexadecimal text" : "; this is text";
 }

@@ -48,10 +48,15 @@ typedef struct wkb_dump_walk {
 int wkb_dump(const void *buf, size_t len, const wkb_dump_options *options, wkb_dump_put *put, void *to,
              wkb_dump_walk *walk);
 
+/* Returns what an input is that wkb_check has rejected with this fault, if it is none of WKB from its first bytes on but
+ * text, the blob of a GeoPackage or one of SpatiaLite: words that follow those of the fault. Else "". */
+const char *wkb_dump_other(const wkb_fault *fault, const void *buf, size_t len);
+
 /* Decodes hex to bytes at the start of TEXT, and returns how many there are. Hex is an even number of digits of either
  * case, with white space anywhere between bytes, and optionally 0x or \x before it. If the text is something else it is
- * unchanged, and the result is WKB_DUMP_NOT_HEX. */
-size_t wkb_dump_from_hex(char *text, size_t length);
+ * unchanged, the result is WKB_DUMP_NOT_HEX, and WRONG is the index of the first character that isn't the digit that
+ * belongs there, or LENGTH. */
+size_t wkb_dump_from_hex(char *text, size_t length, size_t *wrong);
 #define WKB_DUMP_NOT_HEX SIZE_MAX
 
 #ifdef __cplusplus

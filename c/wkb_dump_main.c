@@ -3,7 +3,6 @@
 #include <stdbool.h>
 #include <stdio.h>
 #include <stdlib.h>
-
 #include <string.h>
 
 #include "wkb_dump.h"
@@ -71,21 +70,18 @@ static bool is_text(const char *bytes, size_t size) {
 }
 
 /* Prints which character of a text is no hex digit, or that a digit is alone. */
-static int fails_as_hex(const char *text, size_t size) {
-  static const char DIGITS[] = "0123456789abcdefABCDEF", SPACES[] = " \t\n\v\f\r";
-  char why[96];
-  size_t i = 0;
-  while (i < size && memchr(SPACES, text[i], sizeof SPACES - 1) != NULL) i++;
-  if (i + 1 < size && (text[i] == '0' || text[i] == '\\') && (text[i + 1] == 'x' || text[i + 1] == 'X')) i += 2;
-  while (i < size && (memchr(DIGITS, text[i], sizeof DIGITS - 1) != NULL || memchr(SPACES, text[i], sizeof SPACES - 1) != NULL)) i++;
-  if (i == size) return fails("this is not hex: a byte has only one digit", "");
-  snprintf(why, sizeof why, "character %zu is %.1s", i + 1, text + i);
+static int fails_as_hex(const char *text, size_t size, size_t wrong) {
+  char why[64];
+  if (wrong == size || strchr(" \t\n\v\f\r", text[wrong]) != NULL)
+    return fails("this is not hex: a byte has only one digit", "");
+  const char *format = is_text(text + wrong, 1) ? "character %zu is %c" : "character %zu is 0x%02x";
+  snprintf(why, sizeof why, format, wrong + 1, (unsigned char)text[wrong]);
   return fails("this is not hex: ", why);
 }
 
 static int show(const program *it, char *bytes, size_t size) {
-  size_t found = wkb_dump_from_hex(bytes, size);
-  if (found == WKB_DUMP_NOT_HEX && (it->has_lines || is_text(bytes, size))) return fails_as_hex(bytes, size);
+  size_t wrong, found = wkb_dump_from_hex(bytes, size, &wrong);
+  if (found == WKB_DUMP_NOT_HEX && (it->has_lines || is_text(bytes, size))) return fails_as_hex(bytes, size, wrong);
   return wkb_dump(bytes, found == WKB_DUMP_NOT_HEX ? size : found, &it->options, put, stdout, NULL);
 }
 

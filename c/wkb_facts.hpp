@@ -6,6 +6,7 @@
 
 #include "wkb.hpp"
 
+#if __cplusplus > 201703L
 #include <array>
 #include <cmath>
 #include <limits>
@@ -85,4 +86,5 @@ inline void sort_srids(std::vector<std::uint32_t> &srids) {
 
 }  // namespace wkb
 
+#endif  // C++20
 #endif

@@ -251,7 +251,10 @@ shape_times time_shape(const char *shape, const std::vector<row> &rows, std::vec
 std::vector<shape_times> time_shapes() {
   std::vector<shape_times> all;
   for (const shape &it : SHAPES) {
-    all.push_back(time_shape(it.name, rows_of(it), CALLS));
+    std::vector<timed> calls = CALLS;
+    if (!it.has_levels)
+      std::erase_if(calls, [](const timed &call) { return std::strstr(call.name, "coordinates") != nullptr; });
+    all.push_back(time_shape(it.name, rows_of(it), std::move(calls)));
   }
   return all;
 }

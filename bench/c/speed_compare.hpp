@@ -100,7 +100,7 @@ inline void compare_with_plain() {
     for (const shape &it : SHAPES) {
       std::vector<row> rows = rows_of(it);
       for (row &input : rows) compare_input(input = written(input, options));
-      compare_column(whole_column(rows));
+      if (it.has_levels) compare_column(whole_column(rows));
     }
   }
 }

@@ -7,6 +7,7 @@
 #include <algorithm>
 #include <cstdlib>
 #include <cstring>
+#include <limits>
 #include <random>
 
 namespace speed {
@@ -93,9 +94,65 @@ inline row multi_polygon() {
   return out;
 }
 
+inline row multi_point() {
+  row out;
+  put_header(out, WKB_KIND_MULTI_POINT);
+  put(out, 50);
+  for (int i = 0; i < 50; i++) {
+    put_header(out, WKB_KIND_POINT);
+    put_words(out, 2);
+  }
+  return out;
+}
+
+inline row collection_of(const std::vector<row> &members) {
+  row out;
+  put_header(out, WKB_KIND_GEOMETRY_COLLECTION);
+  put(out, static_cast<std::uint32_t>(members.size()));
+  for (const row &it : members) out.insert(out.end(), it.begin(), it.end());
+  return out;
+}
+
+inline row small_collection() { return collection_of({point(), line<10>(), polygon<1, 5>(), point()}); }
+
+inline row nested() {
+  row out = point();
+  for (int i = 0; i < 10; i++) out = collection_of({out});
+  return out;
+}
+
+// Makes a word of a line string a NaN.
+inline void put_nan(row &line_string, std::size_t word) {
+  const double nan = std::numeric_limits<double>::quiet_NaN();
+  std::memcpy(&line_string[9 + 8 * word], &nan, sizeof nan);
+}
+
+inline row line_with_nan() {
+  row out = line<100>();
+  put_nan(out, random_numbers() % 200);
+  return out;
+}
+
+inline row line_with_nans() {
+  row out = line<100>();
+  for (std::size_t word = 0; word < 200; word++)
+    if (random_numbers() % 10 == 0) put_nan(out, word);
+  return out;
+}
+
+inline row line_without_z_and_m() {
+  row out;
+  put_header(out, 1000 * WKB_DIM_XYZM + WKB_KIND_LINE_STRING);
+  put(out, 10);
+  put_words(out, 40);
+  for (std::size_t i = 0; i < 10; i++) put_nan(out, 4 * i + 2), put_nan(out, 4 * i + 3);
+  return out;
+}
+
 struct shape {
   const char *name;
   row (*make)();
+  bool has_levels = true;
 };
 
 constexpr shape SHAPES[] = {
@@ -107,26 +164,21 @@ constexpr shape SHAPES[] = {
     {"polygon of 20", polygon<1, 20>},
     {"polygon of 2 x 12", polygon<2, 12>},
     {"multi polygon of 5 x 12", multi_polygon},
+    {"multi point of 50", multi_point},
+    {"collection of 4", small_collection, false},
+    {"10 nested collections", nested, false},
+    {"line of 100, one NaN", line_with_nan},
+    {"line of 100, 10 % NaN", line_with_nans},
+    {"line of 10, z and m NaN", line_without_z_and_m},
 };
 
-// What isn't timed: all shapes, two points in a multi point, and an empty point, inside one collection.
+// What isn't timed: all shapes, and an empty point, inside one collection.
 inline row collection() {
-  row out;
-  put_header(out, WKB_KIND_GEOMETRY_COLLECTION);
-  put(out, std::size(SHAPES) + 2);
-  for (const shape &it : SHAPES) {
-    const row member = it.make();
-    out.insert(out.end(), member.begin(), member.end());
-  }
-  put_header(out, WKB_KIND_MULTI_POINT);
-  put(out, 2);
-  for (int i = 0; i < 2; i++) {
-    put_header(out, WKB_KIND_POINT);
-    put_words(out, 2);
-  }
-  put_header(out, WKB_KIND_POINT);
-  for (int i = 0; i < 4; i++) put(out, 0xfff12345);
-  return out;
+  std::vector<row> members(1);
+  put_header(members[0], WKB_KIND_POINT);
+  for (int i = 0; i < 4; i++) put(members[0], 0xfff12345);
+  for (const shape &it : SHAPES) members.push_back(it.make());
+  return collection_of(members);
 }
 
 inline std::vector<row> rows_of(const shape &of) {

@@ -1,31 +1,5 @@
-/* The calls for columns beside those for single inputs: statuses, ends, and what stays unchanged; offsets of both
- * sizes, bad ones, and bits of validity. */
-#define _GNU_SOURCE
+/* The calls for columns where offsets are bad, options unknown and pointers null; lasting_columns.c has the rest. */
 #include "shared.h"
-#include <math.h>
-
-enum { PART_ROOM = 64, BYTE_ROOM = 2048 };
-
-static const char *input_of(size_t row) { return row < ANSWER_COUNT ? ANSWERS[row].input : "no input"; }
-
-/* All rows have the statuses that are wanted. */
-static void statuses_are(const uint8_t *statuses, size_t rows, bool has_room, const char *what) {
-  for (size_t i = 0; i < rows; i++) expect(statuses[i] == status_of(i, has_room), what, input_of(i));
-}
-
-/* Each row has the status of its own input, and no status after the last is written. */
-static void columns_are_checked(void) {
-  static filled f;
-  uint8_t statuses[COLUMN_ROWS + 1];
-  fill(&f);
-  memset(statuses, 0x5a, sizeof statuses);
-  wkb_column_check(&f.column, statuses);
-  statuses_are(statuses, COLUMN_ROWS, true, "the status of a row");
-  expect(statuses[COLUMN_ROWS] == 0x5a, "a status more was written", "");
-  f.column.validity = NULL;
-  wkb_column_check(&f.column, statuses);
-  expect(statuses[ANSWER_COUNT] == WKB_STATUS_SHORT_HEADER, "an empty row", "no validity");
-}
 
 /* Offsets that decrease, pass the end, are negative or begin before a row ends, and good ones between them; the
  * statuses of their rows. */
@@ -108,28 +82,6 @@ static void offsets_have_a_sign(void) {
   release(data, size);
 }
 
-/* The same rows by offsets of four bytes, at any address, return the same. */
-static void narrow_offsets_are_the_same(void) {
-  static filled f;
-  static uint8_t bytes[4 * (COLUMN_ROWS + 1) + 1];
-  static wkb_part parts[PART_ROOM], wide[PART_ROOM];
-  uint64_t ends[COLUMN_ROWS], wide_ends[COLUMN_ROWS];
-  uint8_t statuses[COLUMN_ROWS];
-  fill(&f);
-  size_t all = wkb_column_parts(&f.column, wide, PART_ROOM, wide_ends, statuses);
-  for (size_t i = 0; i <= COLUMN_ROWS; i++) {
-    int32_t offset = (int32_t)f.offsets[i];
-    memcpy(bytes + 1 + 4 * i, &offset, sizeof offset);
-  }
-  f.column.offsets = bytes + 1, f.column.offset_size = 4;
-  memset(statuses, 0x5a, sizeof statuses);
-  wkb_column_check(&f.column, statuses);
-  statuses_are(statuses, COLUMN_ROWS, true, "narrow offsets");
-  expect(wkb_column_parts(&f.column, parts, PART_ROOM, ends, statuses) == all, "all parts", "narrow offsets");
-  expect(memcmp(ends, wide_ends, sizeof ends) == 0, "ends", "narrow offsets");
-  expect(memcmp(parts, wide, all * sizeof parts[0]) == 0, "parts", "narrow offsets");
-}
-
 /* With offsets of any other size no row that isn't null is read, and null rows are null. */
 static void other_offset_sizes_are_refused(void) {
   static const size_t SIZES[] = {0, 1, 2, 3, 5, 7, 16, SIZE_MAX};
@@ -150,145 +102,11 @@ static void other_offset_sizes_are_refused(void) {
       if (call == 3)
         expect(wkb_column_write(&column, &LITTLE_ISO, NULL, 0, ends, statuses) == 0, "bytes", "a bad size");
       for (size_t i = 0; i < COLUMN_ROWS; i++) {
-        wkb_status wanted = i == ANSWER_COUNT ? WKB_STATUS_NULL_ROW : WKB_STATUS_BAD_OFFSETS;
+        wkb_status wanted = i == SHORT_ROWS ? WKB_STATUS_NULL_ROW : WKB_STATUS_BAD_OFFSETS;
         expect(statuses[i] == wanted, "the status under a bad offset size", "");
         expect(call < 2 || ends[i] == 0, "an end under a bad offset size", "");
       }
     }
-  }
-}
-
-/* Bits of validity from any bit on: those before the first row and after the last don't matter. */
-static void validity_may_begin_anywhere(void) {
-  enum { ROWS = 19, MOST = 17 };
-  static const char PATTERN[] = "1101110010111011010";
-  uint8_t points[21 * ROWS], statuses[ROWS];
-  int64_t offsets[ROWS + 1] = {0};
-  for (size_t i = 0; i < ROWS; i++) offsets[i + 1] = offsets[i] + (int64_t)spelled("01 01000000 P", points + 21 * i);
-  for (size_t first = 0; first <= MOST; first++) {
-    for (int others = 0; others < 2; others++) {
-      uint8_t *bits = malloc((first + ROWS + 7) / 8);
-      expect(bits != NULL, "memory", "");
-      memset(bits, others ? 0xff : 0, (first + ROWS + 7) / 8);
-      for (size_t i = 0; i < ROWS; i++) {
-        uint8_t bit = (uint8_t)(1 << (first + i) % 8), *byte = &bits[(first + i) / 8];
-        *byte = (uint8_t)(PATTERN[i] == '1' ? *byte | bit : *byte & ~bit);
-      }
-      wkb_column column = {points, sizeof points, offsets, 8, bits, first, ROWS};
-      wkb_column_check(&column, statuses);
-      for (size_t i = 0; i < ROWS; i++)
-        expect(statuses[i] == (PATTERN[i] == '1' ? WKB_STATUS_OK : WKB_STATUS_NULL_ROW), "a validity bit", "");
-      free(bits);
-    }
-  }
-}
-
-/* Each row has what is found of its own input, or an entry of zeros, and no entry after the last is written. */
-static void columns_are_found(void) {
-  static filled f;
-  static wkb_found found[COLUMN_ROWS + 1], before;
-  static const wkb_found ZEROS = {0};
-  uint8_t statuses[COLUMN_ROWS + 1];
-  fill(&f);
-  memset(found, 0x5a, sizeof found), memset(&before, 0x5a, sizeof before), memset(statuses, 0x5a, sizeof statuses);
-  wkb_column_found(&f.column, found, statuses);
-  statuses_are(statuses, COLUMN_ROWS, true, "the status of what is found");
-  for (size_t i = 0; i < COLUMN_ROWS; i++) {
-    const wkb_found *wanted = i < ANSWER_COUNT && statuses[i] == WKB_STATUS_OK ? &ANSWERS[i].found : &ZEROS;
-    expect(memcmp(&found[i], wanted, sizeof *wanted) == 0, "what is found of a row", input_of(i));
-  }
-  expect(memcmp(&found[COLUMN_ROWS], &before, sizeof before) == 0, "an entry more was written", "");
-  expect(statuses[COLUMN_ROWS] == 0x5a, "a status more was written", "what is found");
-  memset(statuses, 0x5a, sizeof statuses);
-  wkb_column_found(&f.column, NULL, statuses);
-  statuses_are(statuses, COLUMN_ROWS, true, "the status of what nobody wants");
-}
-
-/* Each row has the bounds of its own input, or an empty box. */
-static void columns_are_bounded(void) {
-  static filled f;
-  static wkb_box boxes[COLUMN_ROWS + 1], before;
-  static const wkb_range NO_NUMBERS = {INFINITY, -INFINITY, 0};
-  const wkb_box no_bounds = {NO_NUMBERS, NO_NUMBERS, NO_NUMBERS, NO_NUMBERS};
-  uint8_t statuses[COLUMN_ROWS];
-  fill(&f);
-  memset(boxes, 0x5a, sizeof boxes), memset(&before, 0x5a, sizeof before);
-  wkb_column_bounds(&f.column, boxes, statuses);
-  statuses_are(statuses, COLUMN_ROWS, true, "the status of bounds");
-  for (size_t i = 0; i < COLUMN_ROWS; i++) {
-    if (statuses[i] == WKB_STATUS_OK) {
-      wkb_box own;
-      size_t len = (size_t)(f.offsets[i + 1] - f.offsets[i]);
-      expect(wkb_bounds(f.data + f.offsets[i], len, &own, NULL) == WKB_STATUS_OK, "a row's bounds", input_of(i));
-      expect(memcmp(&own, &boxes[i], sizeof own) == 0, "the bounds of a row", input_of(i));
-    } else {
-      expect(memcmp(&boxes[i], &no_bounds, sizeof no_bounds) == 0, "no bounds", input_of(i));
-    }
-  }
-  expect(memcmp(&boxes[COLUMN_ROWS], &before, sizeof before) == 0, "a box more was written", "");
-}
-
-/* Each row's table is after those before it, as far as there is room; else only ends and statuses change. */
-static void columns_are_listed(void) {
-  static filled f;
-  static wkb_part parts[PART_ROOM], before[PART_ROOM];
-  uint64_t ends[COLUMN_ROWS], total = 0;
-  uint8_t statuses[COLUMN_ROWS];
-  fill(&f);
-  for (size_t i = 0; i < ANSWER_COUNT; i++) total += ANSWERS[i].found.parts;
-  for (size_t room = 0; room <= total + 1; room++) {
-    memset(parts, 0x5a, sizeof parts), memset(before, 0x5a, sizeof before);
-    size_t all = wkb_column_parts(&f.column, room ? parts : NULL, room, ends, statuses);
-    expect(all == total && ends[COLUMN_ROWS - 1] == total, "all parts", "");
-    uint64_t start = 0, put = 0;
-    for (size_t i = 0; i < COLUMN_ROWS; i++) {
-      size_t count = i < ANSWER_COUNT ? ANSWERS[i].found.parts : 0, own_count = 0;
-      expect(statuses[i] == status_of(i, start + count <= room), "the status of a table", input_of(i));
-      expect(ends[i] == start + count, "the end of a table", input_of(i));
-      if (statuses[i] == WKB_STATUS_OK) {
-        wkb_part own[8];
-        size_t len = (size_t)(f.offsets[i + 1] - f.offsets[i]);
-        wkb_status status = wkb_parts(f.data + f.offsets[i], len, own, 8, &own_count, NULL);
-        expect(status == WKB_STATUS_OK && own_count == count, "a row's own table", input_of(i));
-        expect(memcmp(parts + start, own, count * sizeof own[0]) == 0, "a row's table", input_of(i));
-        put = ends[i];
-      }
-      start = ends[i];
-    }
-    expect(memcmp(parts + put, before, (PART_ROOM - put) * sizeof parts[0]) == 0, "more parts were written", "");
-  }
-}
-
-/* So is each row's encoding. */
-static void columns_are_written(void) {
-  static const wkb_options WITH_SRID = {WKB_ORDER_BIG, WKB_FORM_EWKB_WITH_SRID, 4326};
-  static filled f;
-  static uint8_t out[BYTE_ROOM], before[BYTE_ROOM];
-  uint64_t ends[COLUMN_ROWS];
-  uint8_t statuses[COLUMN_ROWS];
-  fill(&f);
-  memset(before, 0x5a, sizeof before);
-  size_t total = wkb_column_write(&f.column, &WITH_SRID, NULL, 0, ends, statuses);
-  for (size_t room = 0; room <= total + 1; room++) {
-    memset(out, 0x5a, sizeof out);
-    expect(wkb_column_write(&f.column, &WITH_SRID, out, room, ends, statuses) == total, "all bytes", "");
-    uint64_t start = 0, put = 0;
-    for (size_t i = 0; i < COLUMN_ROWS; i++) {
-      expect(statuses[i] == status_of(i, ends[i] <= room), "the status of an encoding", input_of(i));
-      bool has_size = statuses[i] == WKB_STATUS_OK || statuses[i] == WKB_STATUS_NO_ROOM;
-      expect(has_size ? ends[i] > start : ends[i] == start, "the end of an encoding", input_of(i));
-      if (statuses[i] == WKB_STATUS_OK) {
-        uint8_t own[128];
-        size_t own_size = 0, len = (size_t)(f.offsets[i + 1] - f.offsets[i]);
-        wkb_status status = wkb_write(f.data + f.offsets[i], len, &WITH_SRID, own, sizeof own, &own_size, NULL);
-        expect(status == WKB_STATUS_OK && own_size == ends[i] - start, "a row's own encoding", input_of(i));
-        expect(memcmp(out + start, own, own_size) == 0, "a row's encoding", input_of(i));
-        put = ends[i];
-      }
-      start = ends[i];
-    }
-    expect(start == total, "all bytes", "the last end");
-    expect(memcmp(out + put, before, sizeof out - put) == 0, "more bytes were written", "");
   }
 }
 
@@ -300,10 +118,8 @@ static void options_are_unknown_for_each_row(void) {
   uint64_t ends[COLUMN_ROWS];
   fill(&f);
   expect(wkb_column_write(&f.column, &UNKNOWN, out, sizeof out, ends, statuses) == 0, "no bytes", "no option");
-  for (size_t i = 0; i < COLUMN_ROWS; i++) {
-    wkb_status wanted = i < ANSWER_COUNT ? WKB_STATUS_UNKNOWN_OPTION : status_of(i, true);
-    expect(statuses[i] == wanted && ends[i] == 0, "the status of no option", input_of(i));
-  }
+  for (size_t i = 0; i < COLUMN_ROWS; i++)
+    expect(statuses[i] == status_in_vain(i) && ends[i] == 0, "the status of no option", "");
 }
 
 /* Without rows every pointer may be null, and without rooms those to the rooms. */
@@ -328,17 +144,10 @@ static void null_is_allowed(void) {
 }
 
 void columns_are_right(void) {
-  columns_are_checked();
   offsets_are_checked();
   overlapping_rows_are_refused();
   offsets_have_a_sign();
-  narrow_offsets_are_the_same();
   other_offset_sizes_are_refused();
-  validity_may_begin_anywhere();
-  columns_are_found();
-  columns_are_bounded();
-  columns_are_listed();
-  columns_are_written();
   options_are_unknown_for_each_row();
   null_is_allowed();
 }

@@ -1,15 +1,27 @@
-// Tries wkb.hpp over the inputs of test/lasting.rows, whose answers are those of a model: one by one, and as a column
-// with null rows. It prints nothing, and an error if there is one.
+// Tries wkb.hpp and wkb_facts.hpp over the inputs of test/lasting.rows, whose answers are those of a model: one by one, as a column with
+// null rows, and as coordinates of one's own. It prints nothing, and an error if there is one.
 #include "hpp.h"
 
+#include "wkb_facts.hpp"
+
 #include <algorithm>
+#include <array>
+#include <bit>
+#include <cmath>
 #include <cstring>
 #include <fstream>
+#include <set>
 #include <sstream>
 
 namespace {
 
-// An input, its status, what is found or the fault, and sums of what is written under each option and of the bounds.
+constexpr std::uint32_t NO_SUM = 0x811c9dc5;
+constexpr double NOT_A_NUMBER = std::numeric_limits<double>::quiet_NaN();
+constexpr std::size_t OPTIONS = 8, OF_BOUNDS = OPTIONS, OF_PARTS = 9, OF_LEVELS = 10, SUMS = 11;
+using ends = std::vector<std::uint64_t>;
+
+// An input, its status, what is found or the fault, and sums of what is written under each option, of the bounds, of the
+// parts and of the levels.
 struct row {
   std::string text;
   std::vector<std::byte> bytes;
@@ -37,15 +49,19 @@ row read_row(const std::string &line) {
   rest >> f.size >> f.parts >> f.coordinates >> f.offset >> f.count >> f.srid >> f.has_srid >> f.kind >> f.dimension >>
       f.width >> f.order >> std::hex;
   for (std::uint32_t sum = 0; rest >> sum;) it.sums.push_back(sum);
-  it.expect(it.sums.size() == 9, "a row with other sums");
+  it.expect(it.sums.size() == SUMS, "a row with other sums");
   return it;
 }
 
-// FNV-1a in 32 bits.
-std::uint32_t summed(wkb::bytes data) {
-  std::uint32_t sum = 0x811c9dc5;
+// FNV-1a in 32 bits, from a sum on.
+std::uint32_t summed(wkb::bytes data, std::uint32_t sum = NO_SUM) {
   for (const std::byte byte : data) sum = (sum ^ std::to_integer<std::uint32_t>(byte)) * 0x01000193;
   return sum;
+}
+
+template <typename Number>
+std::uint32_t summed(std::span<const Number> numbers, std::uint32_t sum = NO_SUM) {
+  return summed(std::as_bytes(numbers), sum);
 }
 
 template <typename Record>
@@ -53,7 +69,103 @@ bool is_same(const Record &a, const Record &b) {
   return std::memcmp(&a, &b, sizeof a) == 0;
 }
 
-std::uint32_t sum_of(const wkb_box &box) { return summed(std::as_bytes(std::span(&box, 1))); }
+std::uint32_t sum_of(const wkb_box &box) { return summed(std::span(&box, 1)); }
+
+// The levels of a row: its words under each dimension, and the ends of its rings and singles.
+struct levels {
+  std::array<std::vector<double>, 4> words{};
+  ends ring_ends{}, single_ends{};
+
+  std::uint32_t sum() const {
+    std::uint32_t sum = NO_SUM;
+    for (const auto &all : words) sum = summed(std::span(all), sum);
+    return summed(std::span(single_ends), summed(std::span(ring_ends), sum));
+  }
+  // Puts the words of coordinates, which are in a dimension.
+  void put(wkb_dim from, const std::vector<double> &all) {
+    const std::size_t width = wkb::width_of(from);
+    for (std::size_t at = 0; at < all.size(); at += width)
+      for (wkb_dim to = WKB_DIM_XY; to <= WKB_DIM_XYZM; to++) {
+        words[to].insert(words[to].end(), {all[at], all[at + 1]});
+        if (to & 1) words[to].push_back(from & 1 ? all[at + 2] : NOT_A_NUMBER);
+        if (to & 2) words[to].push_back(from & 2 ? all[at + width - 1] : NOT_A_NUMBER);
+      }
+  }
+};
+
+bool are_same(std::span<const double> a, std::span<const double> b) {
+  return std::ranges::equal(std::as_bytes(a), std::as_bytes(b));
+}
+
+// A walk over the parts of a row, each by all of its calls.
+struct walk {
+  const row &it;
+  std::vector<wkb_part> entries{};
+  levels found{};
+
+  void visit(const wkb::part &part) {
+    const wkb_part &e = part.entry();
+    entries.push_back(e);
+    it.expect(part.kind() == e.kind && part.dimension() == e.dimension && part.order() == e.order, "what a part is");
+    it.expect(part.width() == e.width && part.size() == e.count && part.empty() == (e.count == 0), "its numbers");
+    it.expect(part.srid() == (e.has_srid ? std::optional(e.srid) : std::nullopt), "its SRID");
+    it.expect(part.encoding().data() == it.bytes.data() + e.begin, "where its bytes are");
+    it.expect(part.encoding().size() == e.end - e.begin, "how many these are");
+    it.expect(part.has_coordinates() == (e.kind <= WKB_KIND_LINE_STRING), "whether it has coordinates");
+    it.expect(part.kind() == WKB_KIND_RING || wkb::check(part.encoding())->size == e.end - e.begin, "its geometry");
+    if (part.has_coordinates()) put_coordinates(part);
+    std::size_t members = 0;
+    for (const wkb::part member : part) visit(member), members++;
+    it.expect(members == (part.has_coordinates() ? 0 : e.count), "how many parts it has");
+    if (part.kind() == WKB_KIND_POLYGON) found.single_ends.push_back(found.ring_ends.size());
+  }
+  void put_coordinates(const wkb::part &part) {
+    const auto words = part.words();
+    const std::size_t width = part.width(), first = part.size() / 2;
+    for (std::size_t i = 0; i < words.size(); i++) {
+      const double word = part.word(i / width, static_cast<unsigned>(i % width));
+      it.expect(are_same(std::span(&word, 1), std::span(words).subspan(i, 1)), "a word");
+    }
+    for (std::size_t room = 0; room <= 2 * width; room++) {
+      std::vector<double> out(room, -1), expected = out;
+      const std::size_t count = std::min(part.size() - first, room / width);
+      std::copy_n(words.begin() + static_cast<std::ptrdiff_t>(width * first), width * count, expected.begin());
+      it.expect(part.copy(out, first) == count && are_same(out, expected), "words that are copied");
+      it.expect(part.copy(out, part.size() + 1) == 0, "words after the last");
+    }
+    found.put(part.dimension(), words);
+    found.ring_ends.push_back(found.words[0].size() / 2);
+    if (part.kind() != WKB_KIND_RING) found.single_ends.push_back(found.ring_ends.size());
+  }
+};
+
+// A part is a view, so that an adaptor keeps a copy of it.
+static_assert(std::ranges::view<wkb::part> && std::ranges::borrowed_range<wkb::part>);
+static_assert(std::ranges::forward_range<wkb::part>);
+
+// What an adaptor makes of a part that is gone when that is read. clang before 16 has no adaptors by the library of gcc.
+auto adapted(const wkb::part &whole) {
+  wkb::part gone = whole;
+#if defined __clang__ && __clang_major__ < 16
+  return std::views::all(gone);
+#else
+  return gone | std::views::filter([](wkb::part member) { return member.size() < 100; });
+#endif
+}
+
+void reads(const row &it) {
+  wkb::reader reader;
+  std::vector<wkb_part> table(it.found.parts);
+  for (const auto &whole : {reader.try_read(it.bytes), wkb::try_read(it.bytes, table)}) {
+    walk over{it};
+    over.visit(*whole);
+    it.expect(summed(std::span(std::as_const(over.entries))) == it.sums[OF_PARTS], "the parts");
+    it.expect(over.found.sum() == it.sums[OF_LEVELS], "the words of parts");
+    auto member = whole->begin();
+    for (const wkb::part kept : adapted(*whole)) it.expect(&kept.entry() == &(*member++).entry(), "a part that is gone");
+  }
+  it.expect(reader.table().size() == table.size() && reader.table().back().end == table.back().end, "the tables");
+}
 
 wkb_options options_of(std::size_t number) {
   return {static_cast<wkb_order>(number / 4), static_cast<wkb_form>(number % 4), 4326};
@@ -70,8 +182,8 @@ void refuses(const row &it) {
 void accepts(const row &it) {
   const auto found = wkb::check(it.bytes);
   it.expect(found && is_same(*found, it.found), "check");
-  it.expect(sum_of(wkb::bounds(it.bytes)) == it.sums[8], "bounds");
-  for (std::size_t number = 0; number < 8; number++) {
+  it.expect(sum_of(wkb::bounds(it.bytes)) == it.sums[OF_BOUNDS], "bounds");
+  for (std::size_t number = 0; number < OPTIONS; number++) {
     const auto out = wkb::write(it.bytes, options_of(number));
     std::vector<std::byte> room(out.size());
     const std::span<std::byte> all(room);
@@ -86,36 +198,145 @@ void accepts(const row &it) {
   it.expect(!wkb::try_bounds(cut, &fault) && wkb_status_is_early_end(fault.status), "a byte less");
 }
 
-// All inputs, with a null row behind each.
+// All inputs, and a null row behind each four of them, with bits that begin in the second byte.
+template <typename Offset>
+struct filled {
+  static constexpr std::size_t FIRST_BIT = 11;
+  std::vector<const row *> rows{};
+  std::vector<std::byte> data{};
+  std::vector<Offset> offsets{0};
+  std::vector<std::uint8_t> validity{};
+
+  explicit filled(const std::vector<row> &inputs) : validity(inputs.size() / 6 + 3) {
+    for (std::size_t i = 0; i < inputs.size(); i++) {
+      add(&inputs[i]);
+      if (i % 4 == 3) add(nullptr);
+    }
+  }
+  void add(const row *it) {
+    const auto &bytes = it ? it->bytes : spelled("0101000000000000000000f03f0000000000000040");
+    const std::size_t bit = FIRST_BIT + rows.size();
+    if (it) validity[bit / 8] = static_cast<std::uint8_t>(validity[bit / 8] | 1u << bit % 8);
+    data.insert(data.end(), bytes.begin(), bytes.end());
+    offsets.push_back(static_cast<Offset>(data.size()));
+    rows.push_back(it);
+  }
+  wkb_column column() const {
+    return wkb::column(data, std::span<const Offset>(offsets), validity.data(), FIRST_BIT);
+  }
+};
+
+wkb_status status_of(const row *it) { return it ? it->status : wkb_status{WKB_STATUS_NULL_ROW}; }
+
+void checks(const auto &it) {
+  const auto found = wkb::found_of_rows(it.column());
+  const auto boxes = wkb::bounds_of_rows(it.column());
+  expect(found.statuses == wkb::check_rows(it.column()) && boxes.statuses == found.statuses, "the statuses of a column");
+  const std::uint32_t nothing = sum_of(boxes.boxes[4]);
+  for (std::size_t i = 0; i < it.rows.size(); i++) {
+    const row *of = it.rows[i];
+    const bool is_ok = of && of->status == WKB_STATUS_OK;
+    expect(found.statuses[i] == status_of(of), "the status of a row");
+    expect(is_same(found.found[i], of ? of->found : wkb_found{}), "what is found of a row");
+    expect(sum_of(boxes.boxes[i]) == (is_ok ? of->sums[OF_BOUNDS] : nothing), "the bounds of a row");
+  }
+}
+
+// The sum of the items of each row, or nothing of a row that has none.
+void are_put(const auto &it, const auto &found, const auto &items, std::size_t sum) {
+  std::uint64_t begin = 0;
+  for (std::size_t i = 0; i < it.rows.size(); begin = found.ends[i++]) {
+    const row *of = it.rows[i];
+    const auto own = std::span(items).subspan(begin, found.ends[i] - begin);
+    expect(found.statuses[i] == status_of(of), "the status of a row's items");
+    expect(own.empty() ? !of || of->sums.empty() : summed(own) == of->sums[sum], "the items of a row");
+  }
+  expect(begin == items.size(), "how many items there are");
+}
+
+void splits(const auto &it) {
+  std::vector<levels> all(it.rows.size());
+  for (wkb_dim dimension = WKB_DIM_XY; dimension <= WKB_DIM_XYZM; dimension++) {
+    const auto found = wkb::coordinates_of_rows(it.column(), dimension);
+    std::uint64_t coordinates = 0, rings = 0, singles = 0;
+    for (std::size_t i = 0; i < all.size(); i++) {
+      levels own{.words = std::move(all[i].words)};
+      const std::uint64_t first = coordinates, first_ring = rings;
+      for (; singles < found.row_ends[i]; own.single_ends.push_back(rings - first_ring), singles++)
+        for (; rings < found.single_ends[singles]; own.ring_ends.push_back(coordinates - first))
+          coordinates = found.ring_ends[rings++];
+      const std::size_t width = wkb::width_of(dimension);
+      const auto words = std::span(found.words).subspan(width * first, width * (coordinates - first));
+      own.words[dimension].assign(words.begin(), words.end());
+      all[i] = std::move(own);
+    }
+    expect(found.statuses == wkb::check_rows(it.column()), "the statuses of levels");
+    expect(coordinates * wkb::width_of(dimension) == found.words.size(), "how many words there are");
+  }
+  for (std::size_t i = 0; i < all.size(); i++) {
+    const row *of = it.rows[i];
+    expect(of && of->status == WKB_STATUS_OK ? all[i].sum() == of->sums[OF_LEVELS] : all[i].single_ends.empty(), "levels");
+  }
+}
+
+// Numbers have no NaN among them, and -0 is below +0.
+void join(wkb_range &all, const wkb_range &own) {
+  const auto is_less = [](double a, double b) { return a < b || (a == b && std::signbit(a) > std::signbit(b)); };
+  all = {std::min(all.least, own.least, is_less), std::max(all.greatest, own.greatest, is_less), all.count + own.count};
+}
+
+void joins(const auto &it) {
+  const auto facts = wkb::facts_of_rows(it.column());
+  wkb::column_facts all{it.rows.size(), 0, 0, 0, {}, 0, {}, wkb::facts_of_rows({}).box};
+  std::set<std::uint32_t> srids;
+  for (const row *of : it.rows) {
+    all.null_rows += !of, all.refused += of && of->status != WKB_STATUS_OK;
+    if (status_of(of) != WKB_STATUS_OK) continue;
+    const wkb_box box = wkb::bounds(of->bytes);
+    join(all.box.x, box.x), join(all.box.y, box.y), join(all.box.z, box.z), join(all.box.m, box.m);
+    all.accepted++, all.of_kind[of->found.kind][of->found.dimension]++;
+    if (of->found.has_srid) srids.insert(of->found.srid);
+    else all.without_srid++;
+  }
+  expect(facts.rows == all.rows && facts.null_rows == all.null_rows, "how many rows there are");
+  expect(facts.accepted == all.accepted && facts.refused == all.refused, "how many are accepted and refused");
+  expect(facts.of_kind == all.of_kind && facts.without_srid == all.without_srid, "kinds and rows without an SRID");
+  expect(std::ranges::equal(facts.srids, srids) && is_same(facts.box, all.box), "the SRIDs and the box");
+}
+
+template <typename Offset>
 void as_a_column(const std::vector<row> &rows) {
-  std::vector<std::byte> data;
-  std::vector<std::int64_t> offsets{0};
-  for (const row &it : rows) {
-    data.insert(data.end(), it.bytes.begin(), it.bytes.end());
-    offsets.insert(offsets.end(), 2, static_cast<std::int64_t>(data.size()));
+  const filled<Offset> it(rows);
+  checks(it);
+  joins(it);
+  splits(it);
+  const auto listed = wkb::parts_of_rows(it.column());
+  are_put(it, listed, listed.parts, OF_PARTS);
+  for (std::size_t number = 0; number < OPTIONS; number++) {
+    const auto written = wkb::write_rows(it.column(), options_of(number));
+    are_put(it, written, written.data, number);
   }
-  const std::vector<std::uint8_t> validity(rows.size() / 4 + 1, 0x55);
-  const wkb_column column = wkb::column(data, std::span<const std::int64_t>(offsets), validity.data());
-  const auto found = wkb::found_of_rows(column);
-  const auto boxes = wkb::bounds_of_rows(column);
-  expect(found.statuses == wkb::check_rows(column) && boxes.statuses == found.statuses, "the statuses of a column");
-  const std::uint32_t nothing = sum_of(boxes.boxes[1]);
-  for (std::size_t i = 0; i < rows.size(); i++) {
-    const bool is_ok = rows[i].status == WKB_STATUS_OK;
-    rows[i].expect(found.statuses[2 * i] == rows[i].status, "the status of a row");
-    rows[i].expect(found.statuses[2 * i + 1] == WKB_STATUS_NULL_ROW, "the status of a null row");
-    rows[i].expect(is_same(found.found[2 * i], rows[i].found), "what is found of a row");
-    rows[i].expect(sum_of(boxes.boxes[2 * i]) == (is_ok ? rows[i].sums[8] : nothing), "the bounds of a row");
-    rows[i].expect(sum_of(boxes.boxes[2 * i + 1]) == nothing, "the bounds of a null row");
+}
+
+// From its levels a row is written as it is, with the ends of all levels and with no more than its kind needs. An empty
+// point is of quiet NaNs first.
+void from_levels(const row &it) {
+  const wkb_kind kind = it.found.kind;
+  const std::array<std::int64_t, 2> offsets{0, static_cast<std::int64_t>(it.bytes.size())};
+  const auto column = wkb::column(it.bytes, std::span<const std::int64_t>(offsets));
+  auto found = wkb::coordinates_of_rows(column, it.found.dimension);
+  for (std::size_t at = 0, width = it.found.width; kind % 3 == 1 && at < found.words.size(); at += width) {
+    const auto words = std::span(found.words).subspan(at, width);
+    if (std::ranges::all_of(words, [](double word) { return std::isnan(word); })) std::ranges::fill(words, NOT_A_NUMBER);
   }
-  for (std::size_t number = 0; number < 8; number++) {
-    const auto out = wkb::write_rows(column, options_of(number));
-    std::uint64_t begin = 0;
-    for (std::size_t i = 0; i < rows.size(); i++) {
-      const auto encoding = wkb::bytes(out.data).subspan(begin, out.ends[2 * i] - begin);
-      rows[i].expect(rows[i].sums.empty() ? encoding.empty() : summed(encoding) == rows[i].sums[number], "a row");
-      rows[i].expect(out.ends[2 * i] == out.ends[2 * i + 1], "a null row is empty");
-      begin = out.ends[2 * i];
+  wkb::levels levels{found.words, found.ring_ends, found.single_ends, found.row_ends};
+  for (const bool has_all : {true, false}) {
+    if (!has_all && kind % 3 == 1) levels.ring_ends.reset();
+    if (!has_all && kind % 3 != 0) levels.single_ends.reset();
+    if (!has_all && kind < WKB_KIND_MULTI_POINT) levels.row_ends.reset();
+    for (const std::size_t number : {0u, 2u, 3u, 4u, 6u, 7u}) {
+      const auto out = wkb::rows_from_coordinates(levels, kind, it.found.dimension, options_of(number));
+      it.expect(out.statuses == wkb::statuses{WKB_STATUS_OK} && summed(out.data) == it.sums[number], "from levels");
     }
   }
 }
@@ -128,6 +349,18 @@ int main() {
   for (std::string line; std::getline(file, line);)
     if (!line.starts_with('#')) rows.push_back(read_row(line));
   expect(std::count_if(rows.begin(), rows.end(), [](const row &it) { return !it.sums.empty(); }) > 1000, "the rows");
-  for (const row &it : rows) it.sums.empty() ? refuses(it) : accepts(it);
-  as_a_column(rows);
+  const row *before = nullptr;
+  for (const row &it : rows) {
+    if (it.sums.empty()) {
+      refuses(it);
+      continue;
+    }
+    accepts(it);
+    reads(it);
+    if (it.found.kind != WKB_KIND_GEOMETRY_COLLECTION) from_levels(it);
+    it.expect(!before || wkb::same(it.bytes, before->bytes) == (it.sums[0] == before->sums[0]), "a comparison");
+    before = &it;
+  }
+  as_a_column<std::int32_t>(rows);
+  as_a_column<std::int64_t>(rows);
 }

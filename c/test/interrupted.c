@@ -56,7 +56,7 @@ static void call_all(results *r, size_t first) {
   wkb_column column = inputs.column;
   column.offsets = inputs.offsets + first, column.validity_offset = first, column.rows -= first;
   memset(r, 0, sizeof *r);
-  for (size_t i = first; i < ANSWER_COUNT; i++)
+  for (size_t i = first; i < SHORT_ROWS; i++)
     call_for_one(r, inputs.data + inputs.offsets[i], (size_t)(inputs.offsets[i + 1] - inputs.offsets[i]));
   wkb_column_check(&column, r->statuses[0]);
   wkb_column_bounds(&column, r->boxes, r->statuses[1]);
@@ -74,7 +74,7 @@ static void call_all(results *r, size_t first) {
 
 /* Calls that interrupt others, or run beside them, are over other inputs. */
 enum { INTERRUPTING, OTHERS, GROUPS };
-static const size_t FIRST[GROUPS] = {ANSWER_COUNT / 2, 0};
+static const size_t FIRST[GROUPS] = {SHORT_ROWS / 2, 0};
 static results expected[GROUPS];
 
 static bool all_return_the_same(int group, results *r) {

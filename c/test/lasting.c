@@ -1,18 +1,11 @@
-/* The library beside test/lasting.rows, whose form `checks/library/lasting --help` tells: which inputs it accepts, and each byte
- * that it writes. Neither changes within version 1. A status inside its class changes only with the file. */
-#include "shared.h"
+/* The library beside test/lasting.rows, whose form `checks/library/lasting --help` tells: which inputs it accepts,
+ * and each byte that it writes, one by one and as a column. Neither changes within version 1. A status inside its
+ * class changes only with the file. */
+#include "lasting.h"
 
-enum { FOUND_COUNT = 11, FAULT_COUNT = 5, OPTION_COUNT = 8, INPUT_MOST = 4096, LINE_MOST = 12000, CALLER_SRID = 4326 };
-
-/* A row: an input, its status, what is found or the fault, the sums of what is written under each option, and that of
- * the bounds. */
-typedef struct row {
-  uint8_t bytes[INPUT_MOST];
-  size_t len;
-  uint32_t status;
-  uint64_t fields[FOUND_COUNT];
-  uint32_t sums[OPTION_COUNT + 1];
-} row;
+static lasting table[LASTING_MOST];
+static uint8_t bytes[BYTES_MOST];
+static size_t rows, used;
 
 /* The next number of a line, which is moved behind it. */
 static uint64_t number(char **line, int base, const char *input) {
@@ -23,32 +16,68 @@ static uint64_t number(char **line, int base, const char *input) {
   return found;
 }
 
-static void read_row(char *line, row *to) {
+static void read_row(char *line, lasting *to) {
   char *fields = strchr(line, ' ');
-  expect(fields && (size_t)(fields - line) <= 2 * sizeof to->bytes, "a row", line);
+  expect(fields && used + (size_t)(fields - line) / 2 <= BYTES_MOST, "a row", line);
   *fields++ = '\0';
-  to->len = spelled(line, to->bytes);
+  to->bytes = bytes + used, to->len = spelled(line, bytes + used), used += to->len;
   to->status = (uint32_t)number(&fields, 10, line);
   bool is_refused = to->status != WKB_STATUS_OK;
   for (int i = 0; i < (is_refused ? FAULT_COUNT : FOUND_COUNT); i++) to->fields[i] = number(&fields, 10, line);
-  for (int i = 0; i < (is_refused ? 0 : OPTION_COUNT + 1); i++) to->sums[i] = (uint32_t)number(&fields, 16, line);
+  for (int i = 0; i < (is_refused ? 0 : SUM_COUNT); i++) to->sums[i] = (uint32_t)number(&fields, 16, line);
   expect(strspn(fields, " \r\n") == strlen(fields), "a row with more numbers", line);
 }
 
-/* FNV-1a in 32 bits. */
-static uint32_t summed(const uint8_t *bytes, size_t len) {
-  uint32_t sum = 0x811c9dc5;
-  for (size_t i = 0; i < len; i++) sum = (sum ^ bytes[i]) * 0x01000193;
+size_t lasting_rows(const lasting **to) {
+  static char line[LINE_MOST];
+  *to = table;
+  if (rows > 0) return rows;
+  FILE *file = fopen("test/lasting.rows", "rb");
+  expect(file != NULL, "test/lasting.rows is not here", "the folder of the library's sources is where the tests run");
+  while (fgets(line, sizeof line, file)) {
+    if (line[0] == '#') continue;
+    expect(rows < LASTING_MOST, "too many rows", "test/lasting.rows");
+    read_row(line, &table[rows++]);
+  }
+  fclose(file);
+  return rows;
+}
+
+/* Of all over the table. */
+void fill(filled *f) {
+  memset(f->offsets, 0, sizeof f->offsets), memset(f->validity, 0xff, sizeof f->validity);
+  const lasting *r;
+  for (size_t row = 0; row < SHORT_ROWS; row++) {
+    size_t i = row * 1009 % lasting_rows(&r);
+    while (r[i].len > SHORT_MOST) i++;
+    memcpy(f->data + f->offsets[row], r[i].bytes, r[i].len);
+    f->offsets[row + 1] = f->offsets[row] + (int64_t)r[i].len, f->statuses[row] = r[i].status;
+  }
+  const int64_t size = f->offsets[SHORT_ROWS];
+  f->offsets[SHORT_ROWS + 1] = size, f->offsets[SHORT_ROWS + 2] = size + 1;
+  f->validity[SHORT_ROWS / 8] &= (uint8_t)~(1 << SHORT_ROWS % 8);
+  const wkb_column column = {f->data, (size_t)size, f->offsets, sizeof f->offsets[0], f->validity, 0, COLUMN_ROWS};
+  f->column = column;
+}
+
+wkb_status status_in_vain(size_t row) {
+  if (row < SHORT_ROWS) return WKB_STATUS_UNKNOWN_OPTION;
+  return row == SHORT_ROWS ? WKB_STATUS_NULL_ROW : WKB_STATUS_BAD_OFFSETS;
+}
+
+uint32_t summed(uint32_t sum, const void *of, size_t len) {
+  const uint8_t *from = of;
+  for (size_t i = 0; i < len; i++) sum = (sum ^ from[i]) * 0x01000193;
   return sum;
 }
 
-static bool is_found(const row *r, const wkb_found *f) {
+bool is_found(const lasting *r, const wkb_found *f) {
   const uint64_t found[FOUND_COUNT] = {f->size, f->parts,    f->coordinates, f->offset,    f->count, f->srid,
                                        f->has_srid, f->kind, f->dimension,   f->width, f->order};
   return memcmp(found, r->fields, sizeof found) == 0;
 }
 
-static bool is_fault(const row *r, const wkb_fault *f) {
+static bool is_fault(const lasting *r, const wkb_fault *f) {
   const uint64_t fault[FAULT_COUNT] = {f->part, f->offset, f->end, f->len, f->code};
   return memcmp(fault, r->fields, sizeof fault) == 0 && f->status == r->status;
 }
@@ -56,105 +85,150 @@ static bool is_fault(const row *r, const wkb_fault *f) {
 /* Where a call has a pointer to a size, of whichever type. */
 static void *size_at(size_t *size) { return size; }
 
-/* What is wrong with what is written of a row, or NULL. */
-static const char *wrong_writing(const row *r) {
-  for (uint32_t i = 0; i < OPTION_COUNT; i++) {
-    const wkb_options options = {i / 4, i % 4, CALLER_SRID};
-    uint8_t out[INPUT_MOST + 4];
-    wkb_fault fault;
-    size_t size = 0;
-    uint32_t status = wkb_write(r->bytes, r->len, &options, out, r->len + 4, size_at(&size), &fault);
-    if (status != r->status) return "wkb_write has another status than wkb_check";
-    if (status != WKB_STATUS_OK && !is_fault(r, &fault)) return "wkb_write has another fault than wkb_check";
-    if (status == WKB_STATUS_OK && summed(out, size) != r->sums[i]) return "a byte that is written changes";
-    if (status == WKB_STATUS_OK &&
-        wkb_write(r->bytes, r->len, &options, out, size - 1, NULL, NULL) != WKB_STATUS_NO_ROOM)
-      return "room for all bytes but one is enough";
-  }
-  return NULL;
+bool is_kept(const void *from, size_t len) {
+  for (size_t i = 0; i < len; i++)
+    if (((const uint8_t *)from)[i] != UNTOUCHED) return false;
+  return true;
+}
+
+/* What is wrong with what is written of a row under these options, or NULL. */
+static const char *wrong_writing(const lasting *r, uint32_t number) {
+  const wkb_options options = {number / 4, number % 4, CALLER_SRID};
+  uint8_t out[INPUT_MOST + 5];
+  wkb_fault fault;
+  uint32_t equal = 0;
+  size_t size = 0, needed = 0;
+  memset(out, UNTOUCHED, r->len + 5);
+  uint32_t status = wkb_write(r->bytes, r->len, &options, out, r->len + 4, size_at(&size), &fault);
+  if (status != r->status) return "wkb_write has another status than wkb_check";
+  if (!is_kept(out + size, r->len + 5 - size)) return "bytes after the encoding are written";
+  if (status != WKB_STATUS_OK)
+    return size == 0 && is_fault(r, &fault) ? NULL : "wkb_write has another fault than wkb_check";
+  if (summed(NO_SUM, out, size) != r->sums[number]) return "a byte that is written changes";
+  wkb_same(r->bytes, r->len, out, size, &equal, NULL, NULL);
+  if (!equal) return "what is written has another value";
+  memset(out, UNTOUCHED, size);
+  status = wkb_write(r->bytes, r->len, &options, out, size - 1, size_at(&needed), NULL);
+  const bool is_left = status == WKB_STATUS_NO_ROOM && needed == size && is_kept(out, size);
+  return is_left ? NULL : "room for all bytes but one is enough";
 }
 
 /* What is wrong with the bounds of a row, and with what is said of its bytes without the last, or NULL. */
-static const char *wrong_bounds(const row *r) {
+static const char *wrong_bounds(const lasting *r) {
   wkb_box box;
   wkb_fault fault;
+  memset(&box, UNTOUCHED, sizeof box);
   uint32_t status = wkb_bounds(r->bytes, r->len, &box, &fault);
   if (status != r->status) return "wkb_bounds has another status than wkb_check";
+  if (status != WKB_STATUS_OK && !is_kept(&box, sizeof box)) return "bounds of a refused input";
   if (status != WKB_STATUS_OK) return is_fault(r, &fault) ? NULL : "wkb_bounds has another fault than wkb_check";
-  if (summed((const uint8_t *)&box, sizeof box) != r->sums[OPTION_COUNT]) return "a bound changes";
+  if (summed(NO_SUM, &box, sizeof box) != r->sums[OF_BOUNDS]) return "a bound changes";
   status = wkb_bounds(r->bytes, (size_t)r->fields[0] - 1, &box, NULL);
   return wkb_status_is_early_end(status) ? NULL : "a byte less is no early end";
 }
 
-/* What is wrong with what is found of a column of one row that has the input, or NULL. */
-static const char *wrong_entry(const row *r) {
-  const int64_t offsets[2] = {0, (int64_t)r->len};
-  const wkb_column column = {r->bytes, r->len, offsets, sizeof offsets[0], NULL, 0, 1};
-  static const wkb_found NOTHING;
-  wkb_found entry;
-  uint8_t status;
-  memset(&entry, 0x5a, sizeof entry);
-  wkb_column_found(&column, &entry, &status);
-  if (status != r->status) return "a row of a column has another status than its bytes";
-  if (status != WKB_STATUS_OK) return memcmp(&entry, &NOTHING, sizeof entry) ? "a refused row has an entry" : NULL;
-  return is_found(r, &entry) ? NULL : "what is found of a row of a column changes";
+/* Whether the bytes of a part are a geometry by themselves, if it is one. */
+static bool is_slice(const uint8_t *bytes, const wkb_part *p) {
+  const size_t size = (size_t)(p->end - p->begin);
+  wkb_found f;
+  if (p->kind == WKB_KIND_RING) return true;
+  return wkb_check(bytes + p->begin, size, &f, NULL) == WKB_STATUS_OK && f.size == size && f.kind == p->kind &&
+         f.order == p->order && f.srid == p->srid && f.has_srid == p->has_srid;
 }
 
-/* What is wrong with the library's answer for a row, or NULL. */
-static const char *wrong_answer(const row *r) {
+/* What is wrong with the table of a row, or NULL. */
+static const char *wrong_parts(const lasting *r) {
+  wkb_part parts[ROW_PARTS_MOST + 1];
+  wkb_fault fault;
+  size_t count = 0, wanted = r->status == WKB_STATUS_OK ? (size_t)r->fields[1] : ROW_PARTS_MOST;
+  memset(parts, UNTOUCHED, sizeof parts);
+  uint32_t status = wkb_parts(r->bytes, r->len, parts, wanted, size_at(&count), &fault);
+  if (status != r->status) return "wkb_parts has another status than wkb_check";
+  if (!is_kept(parts + count, sizeof parts - count * sizeof parts[0])) return "more parts are written";
+  if (status != WKB_STATUS_OK)
+    return count == 0 && is_fault(r, &fault) ? NULL : "wkb_parts has another fault than wkb_check";
+  if (count != wanted || summed(NO_SUM, parts, count * sizeof parts[0]) != r->sums[OF_PARTS]) return "a part changes";
+  for (size_t i = 0; i < count; i++)
+    if (!is_slice(r->bytes, &parts[i])) return "the bytes of a part are another geometry";
+  wkb_found found;
+  wkb_check(r->bytes, r->len, &found, NULL);
+  const wkb_part whole = wkb_whole(&found);
+  if (memcmp(&whole, &parts[0], sizeof whole) != 0) return "the whole is another part";
+  memset(parts, UNTOUCHED, sizeof parts);
+  status = wkb_parts(r->bytes, r->len, parts, wanted - 1, size_at(&count), NULL);
+  if (status != WKB_STATUS_NO_ROOM || count != wanted) return "room for all parts but one is enough";
+  return is_kept(parts, sizeof parts) ? NULL : "parts are written without room";
+}
+
+/* What is wrong with the comparison of a row with an accepted one, or NULL. They are one value where one is written as
+ * the other. */
+static const char *wrong_comparison(const lasting *r, const lasting *other) {
+  wkb_fault fault;
+  uint32_t equal = 2, which = 0;
+  uint32_t status = wkb_same(other->bytes, other->len, r->bytes, r->len, &equal, &fault, &which);
+  if (status != r->status) return "wkb_same has another status than wkb_check";
+  if (status == WKB_STATUS_OK) return equal == (other->sums[0] == r->sums[0]) ? NULL : "a comparison changes";
+  if (!is_fault(r, &fault) || which != 2 || equal != 2) return "wkb_same has another fault than wkb_check";
+  status = wkb_same(r->bytes, r->len, r->bytes, r->len, &equal, &fault, &which);
+  return status == r->status && which == 1 && is_fault(r, &fault) ? NULL : "wkb_same refuses the second of two first";
+}
+
+const char *wrong_answer(const lasting *r, const lasting *other) {
   wkb_found found;
   wkb_fault fault;
+  memset(&found, UNTOUCHED, sizeof found), memset(&fault, UNTOUCHED, sizeof fault);
   uint32_t status = wkb_check(r->bytes, r->len, &found, &fault);
-  if ((status == WKB_STATUS_OK) != (r->status == WKB_STATUS_OK)) return "what is accepted changes";
+  const bool is_refused = status != WKB_STATUS_OK;
+  if (is_refused != (r->status != WKB_STATUS_OK)) return "what is accepted changes";
   if (status / 16 != r->status / 16) return "a status changes its class";
   if (status != r->status) return "a status changes inside its class";
-  if (status == WKB_STATUS_OK && !is_found(r, &found)) return "what is found changes";
-  if (status != WKB_STATUS_OK && !is_fault(r, &fault)) return "a fault changes";
-  const char *wrong = wrong_entry(r);
-  if (!wrong) wrong = wrong_writing(r);
-  return wrong ? wrong : wrong_bounds(r);
+  if (!is_refused && !is_found(r, &found)) return "what is found changes";
+  if (is_refused && !is_fault(r, &fault)) return "a fault changes";
+  if (is_refused ? !is_kept(&found, sizeof found) : !is_kept(&fault, sizeof fault))
+    return "the other output is written";
+  const char *wrong = wrong_bounds(r);
+  for (uint32_t i = 0; i < OPTION_COUNT && !wrong; i++) wrong = wrong_writing(r, i);
+  if (!wrong) wrong = wrong_comparison(r, other);
+  return wrong ? wrong : wrong_parts(r);
 }
 
 /* With these bits of a byte changed, this is what is wrong with a row. */
-static void is_seen(const row *r, void *byte, uint8_t bits, const char *what) {
+static void is_seen(const lasting *r, void *byte, uint8_t bits, const char *what) {
+  const lasting other = *r;
   *(uint8_t *)byte ^= bits;
-  const char *wrong = wrong_answer(r);
+  const char *wrong = wrong_answer(r, &other);
   expect(wrong && strcmp(wrong, what) == 0, "a wrong row is taken", what);
   *(uint8_t *)byte ^= bits;
 }
 
 /* A row with a wrong answer of each sort is seen. Numbers have their lowest byte first. */
-static void wrong_rows_are_seen(row *r) {
+static void wrong_rows_are_seen(lasting *r) {
   bool is_refused = r->status != WKB_STATUS_OK;
   is_seen(r, &r->status, is_refused ? (uint8_t)r->status : 32, "what is accepted changes");
   for (int i = 0; i < (is_refused ? FAULT_COUNT : FOUND_COUNT); i++)
     is_seen(r, &r->fields[i], 1, is_refused ? "a fault changes" : "what is found changes");
   for (int i = 0; i < (is_refused ? 0 : OPTION_COUNT); i++)
     is_seen(r, &r->sums[i], 1, "a byte that is written changes");
-  if (!is_refused) is_seen(r, &r->sums[OPTION_COUNT], 1, "a bound changes");
+  if (!is_refused) is_seen(r, &r->sums[OF_BOUNDS], 1, "a bound changes");
+  if (!is_refused) is_seen(r, &r->sums[OF_PARTS], 1, "a part changes");
   if (!is_refused) return;
   is_seen(r, &r->status, 16, "a status changes its class");
   is_seen(r, &r->status, 2, "a status changes inside its class");
 }
 
 void what_lasts_is_as_it_was(void) {
-  static char line[LINE_MOST];
-  static row r;
+  const lasting *r;
   bool has_tried[2] = {false, false};
-  FILE *file = fopen("test/lasting.rows", "rb");
-  expect(file != NULL, "test/lasting.rows is not here", "the folder of the library's sources is where the tests run");
-  unsigned rows = 0;
-  while (fgets(line, sizeof line, file)) {
-    if (line[0] == '#') continue;
-    read_row(line, &r);
-    const char *wrong = wrong_answer(&r);
-    expect(!wrong, wrong ? wrong : "", line);
-    rows++;
-    if (has_tried[r.status != WKB_STATUS_OK]) continue;
-    wrong_rows_are_seen(&r);
-    has_tried[r.status != WKB_STATUS_OK] = true;
+  for (size_t i = 0, other = 0; i < lasting_rows(&r); i++) {
+    const char *wrong = wrong_answer(&r[i], &r[other]);
+    if (r[i].status == WKB_STATUS_OK) other = i;
+    if (wrong) printf("row %u\n", (unsigned)i);
+    expect(!wrong, wrong, "test/lasting.rows");
+    if (has_tried[r[i].status != WKB_STATUS_OK]) continue;
+    wrong_rows_are_seen(&table[i]);
+    has_tried[r[i].status != WKB_STATUS_OK] = true;
   }
-  fclose(file);
   expect(has_tried[0] && has_tried[1], "no rows", "test/lasting.rows");
-  printf("%u rows of what lasts have their answers\n", rows);
+  what_lasts_is_as_it_was_in_columns();
+  printf("%u rows of what lasts have their answers\n", (unsigned)rows);
 }

@@ -1,5 +1,5 @@
-/* wkb_column_from_coordinates on a column of each kind, with each status, smaller rooms, and back by
- * wkb_column_coordinates. */
+/* wkb_column_from_coordinates on a column of each kind, with each status and smaller rooms; lasting_columns.c has the
+ * way back and all options. */
 #include "shared.h"
 
 enum { ROWS_MOST = 6, OUT_MOST = 512, ALIKE = 0x5a };
@@ -66,7 +66,6 @@ static const worked WORKED[] = {
     {"WXYZ ZYX", WKB_KIND_LINE_STRING, WKB_DIM_XYZM, 2, 2, 2, ENDS(1, 2), NULL, NULL,
      {"01 ba0b0000 01000000 WXYZ", NULL}, {OK, BAD}},
 };
-static const size_t WIDTHS[4] = {2, 3, 3, 4};
 
 static wkb_levels levels_of(const worked *w, double *words) {
   size_t count = spelled(w->words, (uint8_t *)words) / sizeof words[0];
@@ -96,29 +95,6 @@ static size_t rows_are_written(const worked *w, size_t room) {
   for (uint64_t k = last; k <= OUT_MOST; k++) expect(out[k] == ALIKE, "bytes more", w->words);
   expect(statuses[w->rows] == ALIKE && ends[w->rows] == ends[ROWS_MOST], "a row more", w->words);
   return total;
-}
-
-/* What was written has the levels that it was written from. */
-static void levels_come_back(const worked *w) {
-  double words[32], again[32];
-  uint8_t out[OUT_MOST], statuses[ROWS_MOST];
-  uint64_t ends[ROWS_MOST + 1] = {0}, rings[8], singles[8], rows[ROWS_MOST];
-  wkb_levels levels = levels_of(w, words);
-  wkb_column_from_coordinates(&levels, w->kind, w->dimension, &LITTLE_ISO, out, OUT_MOST, ends + 1, statuses);
-  wkb_column column = {out, ends[w->rows], ends, 8, NULL, 0, w->rows};
-  wkb_coordinates found = {again, 32, rings, 8, singles, 8, rows, 0, 0, 0};
-  wkb_column_coordinates(&column, w->dimension, &found, statuses);
-  for (size_t i = 0; i < w->rows && w->statuses[i] == OK; i++) {
-    uint64_t single = w->row_ends ? w->row_ends[i] : i + 1;
-    expect(rows[i] == single, "the end of a row", w->words);
-    if (single == 0) continue;
-    uint64_t ring = w->single_ends ? w->single_ends[single - 1] : single;
-    expect(singles[single - 1] == ring, "the end of a single", w->words);
-    if (ring == 0) continue;
-    uint64_t coordinates = w->ring_ends ? w->ring_ends[ring - 1] : ring;
-    expect(rings[ring - 1] == coordinates, "the end of a ring", w->words);
-    expect(memcmp(again, words, 8 * WIDTHS[w->dimension] * coordinates) == 0, "the words", w->words);
-  }
 }
 
 /* A null row isn't written, but the rows after it begin where it ends or later. */
@@ -154,22 +130,6 @@ static void no_meaning_is_reported(void) {
     expect(statuses[1] == WKB_STATUS_NULL_ROW, "a null row without a meaning", "levels");
     expect(total == 0 && ends[0] == 0 && ends[1] == 0, "the ends without a meaning", "levels");
   }
-}
-
-/* The options are kept: an SRID is written where one is given, and EWKB with the own SRID has none. */
-static void options_are_kept(void) {
-  static const double WORDS[2] = {1, 2};
-  static const wkb_options WITH = {WKB_ORDER_LITTLE, WKB_FORM_EWKB_WITH_SRID, 4326};
-  static const wkb_options OWN = {WKB_ORDER_BIG, WKB_FORM_EWKB_OWN_SRID, 4326};
-  const wkb_levels levels = {WORDS, 2, NULL, 1, NULL, 1, NULL, 1, NULL, 0};
-  uint8_t out[32], wanted[32], status;
-  uint64_t end;
-  wkb_column_from_coordinates(&levels, WKB_KIND_POINT, WKB_DIM_XY, &WITH, out, 32, &end, &status);
-  expect(status == OK && end == spelled("01 01000020 e6100000 WX", wanted), "with an SRID", "levels");
-  expect(memcmp(out, wanted, end) == 0, "the bytes with an SRID", "levels");
-  wkb_column_from_coordinates(&levels, WKB_KIND_POINT, WKB_DIM_XY, &OWN, out, 32, &end, &status);
-  expect(status == OK && end == spelled("00 00000001 3ff0000000000000 4000000000000000", wanted), "no SRID", "levels");
-  expect(memcmp(out, wanted, end) == 0, "the bytes without an SRID", "levels");
 }
 
 /* The levels of a rejected row, and of collections of a point and of an empty line string, given on as if they were rows
@@ -214,11 +174,9 @@ void levels_are_right(void) {
   for (size_t i = 0; i < sizeof WORKED / sizeof WORKED[0]; i++) {
     size_t total = rows_are_written(&WORKED[i], OUT_MOST);
     for (size_t room = 0; room <= total; room++) rows_are_written(&WORKED[i], room);
-    levels_come_back(&WORKED[i]);
   }
   null_rows_are_passed();
   no_meaning_is_reported();
-  options_are_kept();
   rows_without_levels_come_back();
   no_rows_are_written();
 }

@@ -1,7 +1,8 @@
-/* Tries each call on worked cases, and tests facts that no proof covers: that no byte after the input is read, that an
- * error leaves its outputs, that null may be given for an empty or unwanted buffer, and that calls may run at the same
- * time, in signal handlers and in forked children, take little stack and don't allocate. checks/library/run compares
- * the output with expected. */
+/* Tries each call on the inputs of lasting.rows, and tests facts that no proof covers: that no byte after the input
+ * is read, that an error leaves its outputs, that null may be given for an empty or unwanted buffer, and that calls
+ * may run at the same time, in signal handlers and in forked children, and take little stack. checks/library/run
+ * compares the output with expected. That they don't allocate is seen by alone/symbols: they call nothing that
+ * could. */
 #include "shared.h"
 
 int main(int count, char **words) {
@@ -19,16 +20,12 @@ int main(int count, char **words) {
   columns_are_right();
   coordinates_are_right();
   levels_are_right();
-  levels_come_back_from_rows();
   collections_are_right();
-  random_collections_are_right();
   printf("columns return what they must\n");
   what_lasts_is_as_it_was();
   printf("20000 random inputs have the answers %016llx\n", (unsigned long long)answers_over(0, 20000));
   nothing_is_read_after_the_input();
   printf("no byte after the input is read, and refusals leave their outputs\n");
-  no_memory_is_asked_for();
-  printf("no call allocates\n");
   little_stack_is_taken();
   printf("calls take little stack\n");
   calls_run_at_the_same_time();

@@ -1,63 +1,64 @@
 /* Inputs at the end of a page that nothing may be read after, and that can't be written to, and calls from several
  * threads. */
-#include "shared.h"
+#include "lasting.h"
 #include <pthread.h>
 
-/* An input that is cut off, so that it ends where the page does, is rejected by all calls alike. */
-static void cut_is_refused(const answer *a, const uint8_t *bytes, size_t len, uint8_t *page_end, size_t cut) {
-  uint8_t *start = page_end - cut, out[128];
-  wkb_fault fault, again[4];
-  wkb_part parts[8];
-  wkb_box box;
-  size_t size, count;
-  uint32_t equal, which = 0;
-  memcpy(start, bytes, cut);
+/* A row whose bytes end where the page does, or the first of them. Those can't be written to meanwhile. */
+static void ends_at_page(const lasting *r, size_t len, uint8_t *page_end, const lasting *other) {
+  lasting it = *r;
+  wkb_fault f;
+  memcpy(page_end - len, r->bytes, len);
   can_be_written(page_end, false);
-  wkb_status status = wkb_check(start, cut, NULL, &fault);
-  expect(wkb_status_is_refusal(status), "a cut is refused", a->input);
-  expect(wkb_bounds(start, cut, &box, &again[0]) == status, "bounds of a cut", a->input);
-  expect(wkb_write(start, cut, &LITTLE_ISO, out, sizeof out, &size, &again[1]) == status, "a cut written", a->input);
-  expect(wkb_same(bytes, len, start, cut, &equal, &again[2], &which) == status && which == 2, "a cut second", a->input);
-  expect(wkb_parts(start, cut, parts, 8, &count, &again[3]) == status, "the parts of a cut", a->input);
-  for (int i = 0; i < 4; i++) expect(is_same_fault(&again[i], &fault), "the fault of a cut", a->input);
+  it.bytes = page_end - len, it.len = len;
+  if (len < r->len) {
+    it.status = wkb_check(it.bytes, len, NULL, &f);
+    const uint64_t fault[FAULT_COUNT] = {f.part, f.offset, f.end, f.len, f.code};
+    memcpy(it.fields, fault, sizeof fault);
+    expect(wkb_status_is_early_end(it.status) && wkb_status_is_refusal(it.status), "a cut geometry", "");
+    expect(it.status < 48 ? f.end + f.len == 0 : f.end > f.len && f.offset + f.len == len, "what is missing", "");
+  }
+  const char *wrong = wrong_answer(&it, other);
+  expect(!wrong, wrong, "at the end of a page");
   can_be_written(page_end, true);
 }
 
 /* A column of one row, whose offsets and validity are at the end of a page as well. */
-static void column_ends_at_page(const answer *a, uint8_t *page_end, uint8_t *other_end, size_t len) {
+static void column_ends_at_page(const lasting *r, uint8_t *page_end, uint8_t *other_end) {
+  const size_t len = r->len;
+  memcpy(page_end - len, r->bytes, len);
   for (size_t offset_size = 4; offset_size <= 8; offset_size += 4) {
     uint8_t status = 0x5a;
     uint64_t end;
     wkb_box box;
     wkb_found found;
-    memset(other_end - 2 * offset_size - 1, 0, 2 * offset_size + 1);
+    memset(other_end - 2 * offset_size, 0, 2 * offset_size);
     memcpy(other_end - offset_size, &(uint64_t){len}, offset_size);
     wkb_column column = {page_end - len, len, other_end - 2 * offset_size, offset_size, NULL, 0, 1};
     wkb_column_check(&column, &status);
-    expect(status == a->status, "a column at the end of a page", a->input);
+    expect(status == r->status, "a column at the end of a page", "");
     wkb_column_found(&column, &found, &status);
-    expect(status == a->status, "what is found at the end of a page", a->input);
+    expect(status == r->status, "what is found at the end of a page", "");
     wkb_column_bounds(&column, &box, &status);
-    expect(status == a->status, "bounds at the end of a page", a->input);
+    expect(status == r->status, "bounds at the end of a page", "");
     wkb_column_parts(&column, NULL, 0, &end, &status);
-    const wkb_status without_room = a->status == WKB_STATUS_OK ? WKB_STATUS_NO_ROOM : a->status;
-    expect(status == without_room, "parts at the end", a->input);
+    const wkb_status without_room = r->status == WKB_STATUS_OK ? WKB_STATUS_NO_ROOM : r->status;
+    expect(status == without_room, "parts at the end", "");
     wkb_column_write(&column, &LITTLE_ISO, NULL, 0, &end, &status);
-    expect(status == without_room, "an encoding at the end", a->input);
+    expect(status == without_room, "an encoding at the end", "");
     double words[64];
     uint64_t ring_ends[8], single_ends[8];
     wkb_coordinates levels = {words, 64, ring_ends, 8, single_ends, 8, &end, 0, 0, 0};
     wkb_column_coordinates(&column, WKB_DIM_XYZM, &levels, &status);
-    expect(status == a->status, "coordinates at the end", a->input);
+    expect(status == r->status, "coordinates at the end", "");
     wkb_status of_all = wkb_collect(&column, WKB_KIND_GEOMETRY_COLLECTION, 0, &LITTLE_ISO, NULL, 0, NULL, NULL, NULL);
-    expect(of_all == without_room, "a collection at the end", a->input);
+    expect(of_all == without_room, "a collection at the end", "");
   }
   uint8_t status = 0x5a;
   int64_t offsets[2] = {0, (int64_t)len};
   other_end[-1] = 0x80;
   wkb_column column = {page_end - len, len, offsets, 8, other_end - 1, 7, 1};
   wkb_column_check(&column, &status);
-  expect(status == a->status, "validity at the end of a page", a->input);
+  expect(status == r->status, "validity at the end of a page", "");
 }
 
 /* Words and ends of levels, and a validity, each at the end of a page. */
@@ -111,41 +112,30 @@ static void rows_without_bytes_are_not_read(const uint8_t *unreadable) {
     expect(statuses[i / ROWS][i % ROWS] == (i % ROWS ? WKB_STATUS_BAD_OFFSETS : WKB_STATUS_NULL_ROW), "a row", "");
 }
 
+/* All rows, and those that are short cut anywhere. */
 void nothing_is_read_after_the_input(void) {
   uint8_t *end = end_of_a_page(), *other_end = end_of_a_page();
+  const lasting *r;
   rows_without_bytes_are_not_read(end);
   levels_end_at_page(end, other_end);
-  for (int i = 0; i < ANSWER_COUNT; i++) {
-    uint8_t bytes[128];
-    size_t len = spelled(ANSWERS[i].input, bytes);
-    memcpy(end - len, bytes, len);
-    can_be_written(end, false);
-    check_is_as_expected(&ANSWERS[i], end - len, len);
-    refusal_leaves_outputs(&ANSWERS[i], end - len, len);
-    parts_are_as_expected(&ANSWERS[i], end - len, len);
-    column_ends_at_page(&ANSWERS[i], end, other_end, len);
-    can_be_written(end, true);
-    if (ANSWERS[i].status != WKB_STATUS_OK) continue;
-    for (size_t cut = 0; cut < ANSWERS[i].found.size; cut++) cut_is_refused(&ANSWERS[i], bytes, len, end, cut);
+  for (size_t i = 0, other = 0; i < lasting_rows(&r); i++) {
+    ends_at_page(&r[i], r[i].len, end, &r[other]);
+    if (r[i].len <= SHORT_MOST) column_ends_at_page(&r[i], end, other_end);
+    if (r[i].status != WKB_STATUS_OK) continue;
+    other = i;
+    for (size_t cut = 0; cut < r[i].fields[0] && r[i].len <= SHORT_MOST; cut++) ends_at_page(&r[i], cut, end, &r[i]);
   }
 }
 
-/* All inputs many times over, as each of several threads does. */
-static void *many_times(void *unused) {
-  for (int n = 0; n < 2000; n++) {
-    for (int i = 0; i < ANSWER_COUNT; i++) {
-      uint8_t bytes[128];
-      size_t len = spelled(ANSWERS[i].input, bytes);
-      check_is_as_expected(&ANSWERS[i], bytes, len);
-      refusal_leaves_outputs(&ANSWERS[i], bytes, len);
-      parts_are_as_expected(&ANSWERS[i], bytes, len);
-    }
-  }
+/* All rows, as each of several threads has them. */
+static void *all_rows(void *unused) {
+  const lasting *r;
+  for (size_t i = 0; i < lasting_rows(&r); i++) expect(!wrong_answer(&r[i], &r[0]), "a row", "several threads");
   return unused;
 }
 
 void calls_run_at_the_same_time(void) {
   pthread_t threads[4];
-  for (int i = 0; i < 4; i++) expect(pthread_create(&threads[i], NULL, many_times, NULL) == 0, "a thread", "");
+  for (int i = 0; i < 4; i++) expect(pthread_create(&threads[i], NULL, all_rows, NULL) == 0, "a thread", "");
   for (int i = 0; i < 4; i++) expect(pthread_join(threads[i], NULL) == 0, "a thread's end", "");
 }

@@ -171,10 +171,13 @@ void little_stack_is_taken(void) {
   all_take_little(WKB_STATUS_OK, without, stack);
   len--, collected[1]--;
   all_take_little(WKB_STATUS_SHORT_POINT, without, stack);
-  for (int i = 0; i < ANSWER_COUNT; i++) {
-    len = spelled(ANSWERS[i].input, bytes);
+  static filled inputs;
+  fill(&inputs);
+  for (int i = 0; i < SHORT_ROWS; i++) {
+    len = (size_t)(inputs.offsets[i + 1] - inputs.offsets[i]);
+    memcpy(bytes, inputs.data + inputs.offsets[i], len);
     collected[0] = 0, collected[1] = (int64_t)len;
-    all_take_little(ANSWERS[i].status, without, stack);
+    all_take_little(inputs.statuses[i], without, stack);
   }
   release(stack, STACK_SIZE);
 }

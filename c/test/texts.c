@@ -147,48 +147,10 @@ static void longest_texts_fit(void) {
   }
 }
 
-/* Geometries of each kind in both byte orders, with each sort of header, and inside one another. */
-static const char *const WHOLE[] = {
-    "01 01000000 P",
-    "00 00000001 P",
-    "01 01000020 e6100000 P",
-    "00 a0000001 000010e6 P W",
-    "01 02000000 02000000 P P",
-    "00 60000bba 000010e6 00000001 P P",
-    "01 03000000 02000000 01000000 P 02000000 P P",
-    "00 00000003 00000002 00000000 00000001 P",
-    "01 04000000 02000000 01 01000000 P 00 00000001 P",
-    "00 00000004 00000001 01 01000000 P",
-    "01 05000000 02000000 00 00000002 00000000 01 02000000 01000000 P",
-    "00 20000005 000010e6 00000001 00 20000002 000010e6 00000001 P",
-    "01 06000000 01000000 00 00000003 00000001 00000001 P",
-    "00 00000006 00000002 01 03000000 00000000 01 03000000 01000000 01000000 P",
-    "01 07000000 00000000",
-    "01 07000000 02000000 00 00000007 00000001 01 05000000 01000000 01 02000000 01000000 P 01 e9030000 P W",
-    "00 00000007 00000002 00 00000006 00000001 00 00000003 00000001 00000001 P 01 04000000 01000000 00 00000001 P",
-};
-
-/* Each geometry that is cut anywhere ends too early, and from 48 on the fault says how much is missing. */
-static void cut_inputs_end_too_early(void) {
-  for (size_t i = 0; i < sizeof WHOLE / sizeof WHOLE[0]; i++) {
-    uint8_t bytes[256];
-    wkb_fault fault;
-    size_t size = spelled(WHOLE[i], bytes);
-    expect(wkb_check(bytes, size, NULL, NULL) == WKB_STATUS_OK, "a whole geometry", WHOLE[i]);
-    for (size_t len = 0; len < size; len++) {
-      wkb_status status = wkb_check(bytes, len, NULL, &fault);
-      expect(wkb_status_is_early_end(status) && wkb_status_is_refusal(status), "a cut geometry", WHOLE[i]);
-      expect(status < 48 ? fault.end + fault.len == 0 : fault.end > fault.len, "what is missing", WHOLE[i]);
-      expect(status < 48 || fault.offset + fault.len == len, "where the input ends", WHOLE[i]);
-    }
-  }
-}
-
 void texts_are_right(void) {
   statuses_are_told();
   kinds_have_names();
   faults_have_texts();
   longest_texts_fit();
-  cut_inputs_end_too_early();
   expect(wkb_version() == WKB_VERSION, "the version", "");
 }

@@ -1,12 +1,18 @@
 // Tries wkb.hpp. It prints nothing, and an error if there is one.
 #include "test/hpp.h"
 
+#include "wkb_facts.hpp"
+
 #include <cstring>
 #include <utility>
 
 static_assert(std::forward_iterator<wkb::part::iterator>);
-static_assert(std::ranges::forward_range<wkb::part>);
-static_assert(std::ranges::borrowed_range<wkb::part>);
+
+// Offsets are those that Arrow has.
+template <typename Offset>
+concept is_offset = requires(std::span<const Offset> offsets) { wkb::column(wkb::bytes(), offsets); };
+static_assert(is_offset<std::int32_t> && is_offset<std::int64_t>);
+static_assert(!is_offset<std::uint32_t> && !is_offset<std::uint64_t> && !is_offset<std::int16_t>);
 
 static const std::string ONE_AND_TWO = "000000000000f03f0000000000000040";
 static const auto POINT = spelled("0101000020e6100000" + ONE_AND_TWO);
@@ -84,21 +90,13 @@ static void reads() {
   wkb::reader reader;
   expect(reader.table().empty(), "no table yet");
   wkb::part point = reader.read(POINT);
-  expect(point.kind() == WKB_KIND_POINT && point.srid() == 4326u && point.width() == 2, "a point");
-  expect(point.words() == std::vector<double>{1, 2} && point.word(0, 1) == 2, "its words");
   expect(point.begin() == point.end() && point.size() == 1, "a point has no parts");
   wkb::part whole = reader.read(POLYGONS);
-  expect(reader.table().size() == 5 && whole.size() == 2 && whole.order() == WKB_ORDER_BIG, "a longer table");
-  expect(std::distance(whole.begin(), whole.end()) == 2 && !whole.srid() && !whole.has_coordinates(), "two polygons");
+  expect(reader.table().size() == 5 && whole.size() == 2, "a longer table");
   auto polygon = whole.begin();
   expect((*polygon).empty() && (*polygon).begin() == (*polygon).end(), "a polygon without rings");
   wkb::part second = *++polygon;
   expect(second.encoding().size() == 33 && std::distance(second.begin(), second.end()) == 2, "a polygon with rings");
-  wkb::part ring = *second.begin();
-  double out[5] = {7, 7, 7, 7, 7};
-  expect(ring.copy(std::span(out, 1)) == 0 && ring.copy(out, 1) == 0 && out[0] == 7, "no room, no coordinate");
-  expect(ring.copy(out) == 1 && out[0] == 1 && out[1] == 2 && out[2] == 7, "the words of a ring");
-  expect((*std::next(second.begin())).words().empty(), "an empty ring");
   expect(polygon++ != whole.end() && polygon == whole.end(), "the end");
   try {
     reader.read({});
@@ -161,32 +159,6 @@ static void long_inputs() {
   expect(little == POINT && little.capacity() < 100, "no more memory than these take");
 }
 
-// A column of the two inputs, a null row and one without bytes.
-static void columns() {
-  std::vector<std::byte> data = POINT;
-  data.insert(data.end(), POLYGONS.begin(), POLYGONS.end());
-  const std::int64_t end = static_cast<std::int64_t>(data.size());
-  const std::int64_t offsets[] = {0, 25, end, end, end};
-  const std::uint8_t validity = 0x0b;
-  const wkb_column column = wkb::column(data, std::span<const std::int64_t>(offsets), &validity);
-  const wkb::statuses expected = {WKB_STATUS_OK, WKB_STATUS_OK, WKB_STATUS_NULL_ROW, WKB_STATUS_SHORT_HEADER};
-  expect(wkb::check_rows(column) == expected, "a column's statuses");
-  const auto bounds = wkb::bounds_of_rows(column);
-  expect(bounds.statuses == expected && bounds.boxes[1].y.greatest == 2 && bounds.boxes[3].x.count == 0, "its bounds");
-  const auto parts = wkb::parts_of_rows(column);
-  expect(parts.statuses == expected && parts.parts.size() == 6 && parts.ends[0] == 1 && parts.ends[3] == 6, "parts");
-  expect(parts.parts[1].kind == WKB_KIND_MULTI_POLYGON, "the first part of a row");
-  const auto written = wkb::write_rows(column, {WKB_ORDER_LITTLE, WKB_FORM_EWKB_OWN_SRID, 0});
-  expect(written.statuses == expected && written.ends[0] == 25 && written.data.size() == data.size(), "encodings");
-  expect(std::equal(POINT.begin(), POINT.end(), written.data.begin()), "the first encoding");
-  const auto levels = wkb::coordinates_of_rows(column, WKB_DIM_XY);
-  expect(levels.statuses == expected && levels.words == std::vector<double>{1, 2, 1, 2}, "words of a column");
-  expect(levels.ring_ends == std::vector<std::uint64_t>{1, 2, 2}, "ends of rings");
-  expect(levels.single_ends == std::vector<std::uint64_t>{1, 1, 3}, "ends of singles");
-  expect(levels.row_ends == std::vector<std::uint64_t>{1, 3, 3, 3}, "ends of rows");
-  expect(wkb::check_rows(wkb::column({}, std::span<const std::int32_t>())).empty(), "no rows");
-}
-
 // Rows as one geometry, and the row that can't be a member.
 static void collects() {
   const auto big = spelled("000000000400000001" "0000000001" "3ff00000000000004000000000000000");
@@ -234,7 +206,7 @@ static void collects() {
   expect(fault.status == WKB_STATUS_UNKNOWN_OPTION && !wkb::try_collect(of(3), 7, 0, options, out), "why");
 }
 
-// Coordinates of one's own: levels with ends and without, null rows, bad ones, and back.
+// Coordinates of one's own: levels with ends and without, null rows and bad ones.
 static void rows_of_ones_own() {
   const wkb_options little = {WKB_ORDER_LITTLE, WKB_FORM_ISO, 0};
   const std::vector<double> words = {1, 2, 1, 2};
@@ -251,14 +223,61 @@ static void rows_of_ones_own() {
                                                   little);
   expect(several.statuses == wkb::statuses(3), "the statuses of multi points");
   expect(several.ends == std::vector<std::uint64_t>{30, 39, 69}, "the ends of multi points");
-  const std::int32_t offsets[] = {0, static_cast<std::int32_t>(POLYGONS.size())};
-  const auto column = wkb::column(POLYGONS, std::span<const std::int32_t>(offsets));
-  const auto found = wkb::coordinates_of_rows(column, WKB_DIM_XY);
-  const wkb::levels levels = {found.words, found.ring_ends, found.single_ends, found.row_ends};
-  const auto again = wkb::rows_from_coordinates(levels, WKB_KIND_MULTI_POLYGON, WKB_DIM_XY,
-                                                {WKB_ORDER_BIG, WKB_FORM_ISO, 0});
-  expect(again.statuses == wkb::statuses(1) && again.data == POLYGONS, "polygons and back");
   expect(wkb::rows_from_coordinates({}, WKB_KIND_POINT, WKB_DIM_XY, little).ends.empty(), "no rows of one's own");
+  expect(wkb::check_rows(wkb::column({}, std::span<const std::int32_t>())).empty(), "no rows");
+}
+
+// Words that are no whole number of coordinates: no row is written, whichever levels have ends.
+static void words_without_a_whole_coordinate() {
+  const std::vector<std::uint64_t> one{1};
+  const std::uint8_t validity = 0xfe;
+  const wkb_options options = {WKB_ORDER_LITTLE, WKB_FORM_ISO, 0};
+  for (wkb_dim dimension = WKB_DIM_XY; dimension <= WKB_DIM_XYZM; dimension++) {
+    const std::size_t width = wkb::width_of(dimension);
+    const std::vector<double> words(3 * width);
+    for (std::size_t count = 1; count < words.size(); count += 1 + ((count + 1) % width == 0)) {
+      wkb::levels levels{.words = std::span(words).first(count), .validity = &validity};
+      const auto points = wkb::rows_from_coordinates(levels, WKB_KIND_POINT, dimension, options);
+      wkb::statuses expected(count / width + 1, WKB_STATUS_BAD_LEVELS);
+      expected[0] = WKB_STATUS_NULL_ROW;
+      expect(points.statuses == expected && points.data.empty(), "points of words that are no whole coordinates");
+      levels.ring_ends = one, levels.validity = nullptr;
+      const auto line = wkb::rows_from_coordinates(levels, WKB_KIND_LINE_STRING, dimension, options);
+      expect(line.statuses == wkb::statuses{WKB_STATUS_BAD_LEVELS} && line.data.empty(), "a line string of such words");
+    }
+  }
+}
+
+// Facts of no rows, of rows that are none, and of zeros of both signs, infinities and NaNs in any order.
+static void facts() {
+  const auto of = [](const std::vector<std::string> &rows) {
+    std::vector<std::byte> data;
+    std::vector<std::int32_t> offsets{0};
+    for (const std::string &it : rows) {
+      const auto row = spelled(it);
+      data.insert(data.end(), row.begin(), row.end());
+      offsets.push_back(static_cast<std::int32_t>(data.size()));
+    }
+    return wkb::facts_of_rows(wkb::column(data, std::span<const std::int32_t>(offsets)));
+  };
+  constexpr double INFINITE = std::numeric_limits<double>::infinity();
+  for (const auto &none : {of({}), of({"", "0201000000"}), wkb::facts_of_rows(wkb_column{})}) {
+    expect(none.accepted == 0 && none.refused == none.rows && none.srids.empty(), "rows without facts");
+    for (const wkb_range &it : {none.box.x, none.box.y, none.box.z, none.box.m})
+      expect(it.count == 0 && it.least == INFINITE && it.greatest == -INFINITE, "the box of no rows");
+  }
+  const std::int32_t offsets[] = {21, 0, 0, 5};
+  const auto bad = wkb::facts_of_rows(wkb::column(POINT, std::span<const std::int32_t>(offsets)));
+  expect(bad.rows == 3 && bad.accepted == 0 && bad.refused == 2, "an offset that decreases is no refusal");
+  const auto x_of = [&](std::vector<std::string> words) {
+    for (std::string &it : words) it = "0101000000" + it + "0000000000000000";
+    return of(words).box.x;
+  };
+  const std::string zero = "0000000000000000", minus = "0000000000000080";
+  for (const wkb_range &x : {x_of({zero, minus}), x_of({minus, zero})})
+    expect(x.least == 0 && std::signbit(x.least) && x.greatest == 0 && !std::signbit(x.greatest), "zeros");
+  const wkb_range x = x_of({"000000000000f03f", "000000000000f0ff", "000000000000f87f", "000000000000f07f", zero});
+  expect(x.least == -INFINITE && x.greatest == INFINITE && x.count == 4, "infinities");
 }
 
 int main() {
@@ -270,7 +289,8 @@ int main() {
   reader_moves();
   refusals_without_exceptions();
   long_inputs();
-  columns();
   collects();
   rows_of_ones_own();
+  words_without_a_whole_coordinate();
+  facts();
 }

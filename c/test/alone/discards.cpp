@@ -1,5 +1,6 @@
-// Drops the result of each call that says by it whether it worked, or what became of each row. A compiler has to warn of
-// each line that ends in `dropped`, and of no other.
+// Drops the result of each call that says by it whether it worked, or what became of each row, and keeps results for
+// longer than what they refer to. A compiler has to warn of each line that ends in `dropped`, clang also of each that ends
+// in `outlived`, and none of any other.
 #include "wkb_facts.hpp"
 
 void drop(wkb::bytes in, const wkb_options &options, std::vector<std::byte> &out, std::span<wkb_part> table,
@@ -24,4 +25,15 @@ void drop(wkb::bytes in, const wkb_options &options, std::vector<std::byte> &out
   wkb::facts_of_rows(rows);  // dropped
   wkb::write(in, options, out);
   reader.read(in);
+}
+
+wkb::part kept(wkb::bytes in, wkb::reader &reader);
+wkb::part kept(wkb::bytes in, wkb::reader &reader) {
+  wkb::reader own;
+  auto part = wkb::reader{}.read(in);  // outlived
+  auto tried = wkb::reader{}.try_read(in);  // outlived
+  auto table = wkb::reader{}.table();  // outlived
+  auto read = reader.read(in);
+  if (!tried || table.empty() || part.empty() || read.empty()) return reader.read(in);
+  return own.read(in);  // outlived
 }

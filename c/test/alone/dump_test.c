@@ -1,13 +1,15 @@
-/* The dump over worked cases, whose lines are in test/dump.cases; and over random inputs, of which half are broken: its
- * walk ends at the part and the byte that wkb_check rejects, or at the size that it finds, and it puts no more lines
- * than its options say. With a seed and a number it tries so many random inputs. */
+/* The dump over worked cases, whose lines are in test/dump.cases; over the inputs of test/lasting.rows, in its first lines
+ * and its last one; and over random inputs, of which half are broken: its walk ends at the part and the byte that
+ * wkb_check rejects, or at the size that it finds, and it puts no more lines than its options say. With a seed and a
+ * number it tries so many random inputs. */
 #include "../../wkb_dump.h"
 #include "../generated.h"
+#include "../lasting.h"
 
-enum { INPUTS = 20000, LINE_ROOM = 2048, CASES = 30 };
+enum { INPUTS = 20000, LINE_ROOM = 2048, CASES = 46 };
 
-static const wkb_dump_options OPTIONS[] = {{3, 1000}, {0, 0}, {1, 1}, {2, 20}, {0, 40}, {4, 0}};
-enum { OPTION_COUNT = sizeof OPTIONS / sizeof OPTIONS[0] };
+static const wkb_dump_options LIMITS[] = {{3, 1000}, {0, 0}, {1, 1}, {2, 20}, {0, 40}, {4, 0}};
+enum { LIMITS_COUNT = sizeof LIMITS / sizeof LIMITS[0] };
 
 /* What was put. */
 typedef struct output {
@@ -100,6 +102,7 @@ static int is_wanted(void *to, const char *line, size_t length) {
 static int try_cases(void) {
   static char head[LINE_ROOM], hex[LINE_ROOM];
   int tried = 0, status, used = 0;
+  size_t wrong;
   cases = fopen("test/dump.cases", "rb");
   if (cases == NULL) return 0;
   for (bool is_there = next_line(); is_there; is_there = next_line(), tried++) {
@@ -108,7 +111,7 @@ static int try_cases(void) {
     if (sscanf(head, "> %d %u %u %n", &status, &items, &lines, &used) != 3) exit(5);
     const wkb_dump_options options = {items, lines};
     snprintf(hex, sizeof hex, "%s", head + used);
-    size_t len = wkb_dump_from_hex(hex, strlen(hex));
+    size_t len = wkb_dump_from_hex(hex, strlen(hex), &wrong);
     if (len == WKB_DUMP_NOT_HEX || wkb_dump(hex, len, &options, is_wanted, head, NULL) != status) {
       printf("%s: another status\n", head);
       exit(1);
@@ -118,23 +121,79 @@ static int try_cases(void) {
   return tried;
 }
 
-/* Texts and the bytes that they are, in hex; NULL if they are no hex. */
+/* Texts and the bytes that they are, in hex; NULL if they are no hex, and the character that isn't. */
 static void try_hex(void) {
-  static const struct { const char *text, *bytes; } TEXTS[] = {
-      {"", ""}, {" \n", ""}, {"0x", ""}, {"\\x0aF0", "0af0"}, {"0XfF 00\r\n01\t", "ff0001"}, {" \n0x01", "01"},
-      {"0", NULL}, {"0g", NULL}, {"0 1", NULL}, {"x01", NULL}, {"0x0x01", NULL}, {"\\", NULL}, {"01 0", NULL}};
+  static const struct { const char *text, *bytes; size_t wrong; } TEXTS[] = {
+      {"", "", 0}, {" \n", "", 0}, {"0x", "", 0}, {"\\x0aF0", "0af0", 0}, {"0XfF 00\r\n01\t", "ff0001", 0},
+      {" \n0x01", "01", 0}, {"0", NULL, 1}, {"0g", NULL, 1}, {"0 1", NULL, 1}, {"x01", NULL, 0}, {"0x0x01", NULL, 3},
+      {"\\", NULL, 0}, {"01 0", NULL, 4}, {"01@1", NULL, 2}, {"01`1", NULL, 2}, {"01G1", NULL, 2}, {"/1", NULL, 0},
+      {"0:", NULL, 1}, {"\x10\x11", NULL, 0}};
   for (size_t i = 0; i < sizeof TEXTS / sizeof TEXTS[0]; i++) {
     char text[32], bytes[64] = "";
-    size_t length = strlen(TEXTS[i].text);
+    size_t length = strlen(TEXTS[i].text), wrong = 0;
     memcpy(text, TEXTS[i].text, length + 1);
-    size_t count = wkb_dump_from_hex(text, length);
+    size_t count = wkb_dump_from_hex(text, length, &wrong);
     bool is_hex = count != WKB_DUMP_NOT_HEX;
     for (size_t k = 0; is_hex && k < count; k++) snprintf(bytes + 2 * k, 3, "%02x", (unsigned char)text[k]);
     const char *meant = is_hex ? TEXTS[i].bytes : TEXTS[i].text;
-    if (is_hex != (TEXTS[i].bytes != NULL) || strcmp(is_hex ? bytes : text, meant) != 0) {
+    if (is_hex != (TEXTS[i].bytes != NULL) || strcmp(is_hex ? bytes : text, meant) != 0 ||
+        (!is_hex && wrong != TEXTS[i].wrong)) {
       printf("hex: %s\n", TEXTS[i].text);
       exit(1);
     }
+  }
+}
+
+/* How the first lines of a dump end, and one of all, and which of these were put. */
+typedef struct told {
+  char first[3][64], one[WKB_FAULT_TEXT_ROOM + 64];
+  unsigned lines, put;
+} told;
+
+static bool ends_so(const char *line, size_t length, const char *with) {
+  const size_t size = strlen(with);
+  return size <= length && memcmp(line + length - size, with, size) == 0;
+}
+
+static int hear(void *to, const char *line, size_t length) {
+  told *it = to;
+  if (it->lines < 3 && ends_so(line, length, it->first[it->lines])) it->put |= 1u << it->lines;
+  if (ends_so(line, length, it->one)) it->put |= 8;
+  it->lines++;
+  return 0;
+}
+
+/* What the dump of an accepted row says of its order, kind, dimension, SRID and size. */
+static void tell_of_accepted(const lasting *r, told *to) {
+  static const char *const KINDS[] = {"", "point", "linestring", "polygon", "multipoint", "multilinestring",
+                                      "multipolygon", "geometrycollection"};
+  static const char *const DIMENSIONS[] = {"xy", "xyz", "xym", "xyzm"};
+  const unsigned long long size = r->fields[0], srid = r->fields[5], more = r->len - r->fields[0];
+  snprintf(to->first[0], sizeof to->first[0], "  %s endian\n", r->fields[10] == WKB_ORDER_BIG ? "big" : "little");
+  snprintf(to->first[1], sizeof to->first[1], ": %s, %s\n", KINDS[r->fields[7]], DIMENSIONS[r->fields[8]]);
+  if (r->fields[6]) snprintf(to->first[2], sizeof to->first[2], "  SRID %llu\n", srid);
+  snprintf(to->one, sizeof to->one, "%8llu  the end\n", size);
+  if (more > 0)
+    snprintf(to->one, sizeof to->one, "%8llu  the end of the geometry, and %llu more byte%s\n", size, more,
+             more == 1 ? "" : "s");
+}
+
+static void try_lasting(void) {
+  const lasting *r;
+  const size_t rows = lasting_rows(&r);
+  for (size_t i = 0; i < rows; i++) {
+    told it = {0};
+    const uint64_t *f = r[i].fields;
+    const wkb_fault fault = {f[0], f[1], f[2], f[3], (uint32_t)f[4], r[i].status};
+    const size_t begin = (size_t)snprintf(it.one, sizeof it.one, "%10srefused: ", "");
+    wkb_fault_text(&fault, it.one + begin, sizeof it.one - begin - 1);
+    strcat(it.one, "\n");
+    if (r[i].status == WKB_STATUS_OK) tell_of_accepted(&r[i], &it);
+    wkb_dump(r[i].bytes, r[i].len, NULL, hear, &it, NULL);
+    if (r[i].status == WKB_STATUS_OK ? it.put == 15 : it.put >= 8) continue;
+    printf("row %u of test/lasting.rows is not shown with\n%s%s%s%s", (unsigned)i, it.first[0], it.first[1], it.first[2],
+           it.one);
+    exit(1);
   }
 }
 
@@ -143,6 +202,7 @@ int main(int count, char **words) {
   uint64_t seed = count == 3 ? strtoull(words[1], NULL, 10) : 1;
   uint64_t inputs = count == 3 ? strtoull(words[2], NULL, 10) : INPUTS, refused = 0;
   try_hex();
+  try_lasting();
   int tried = try_cases();
   if (tried < CASES) return 6;
   begin_numbers(seed);
@@ -152,7 +212,7 @@ int main(int count, char **words) {
     uint8_t *bytes = malloc(it.len > 0 ? it.len : 1);
     if (bytes == NULL) return 3;
     memcpy(bytes, it.bytes, it.len);
-    const char *wrong = wrong_dump(bytes, it.len, &OPTIONS[i % OPTION_COUNT]);
+    const char *wrong = wrong_dump(bytes, it.len, &LIMITS[i % LIMITS_COUNT]);
     if (wrong != NULL) fail(wrong, &it, i);
     if (i % 16 == 0 && !stops(bytes, it.len)) fail("it goes on", &it, i);
     if (!walks_behind_a_header(&it)) fail("it walks another way behind a header", &it, i);

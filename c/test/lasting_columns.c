@@ -1,0 +1,326 @@
+/* The inputs of test/lasting.rows as one column, between null rows, in each call for columns: its answers are those of
+ * the rows, which come back from their levels, and are the members of collections. Validity begins at some bit, and
+ * offsets have either size and any address. */
+#include "lasting.h"
+#include <math.h>
+
+/* The rows of the column, with the null ones. Levels have at most a coordinate for 16 bytes. */
+enum { ROWS = LASTING_MOST + 2, DATA_MOST = BYTES_MOST + 2 * 21, OUT_MOST = 2 * DATA_MOST, PARTS_MOST = 20000 };
+enum { WORDS_MOST = 40000, ENDS_MOST = 20000 };
+
+static const lasting *of;
+static size_t rows, size;
+static uint8_t data[DATA_MOST], narrow[4 * (ROWS + 1) + 1], wide[8 * (ROWS + 1) + 1], validity[ROWS / 8 + 4];
+static uint8_t statuses[ROWS + 1], out[OUT_MOST];
+static uint64_t ends[ROWS + 1], ring_ends[ENDS_MOST], single_ends[ENDS_MOST];
+static wkb_found found[ROWS + 1];
+static wkb_box boxes[ROWS + 1];
+static wkb_part parts[PARTS_MOST];
+static double words[WORDS_MOST];
+
+static bool is_null(size_t row) { return row == 0 || row == rows - 1; }
+static bool is_good(size_t row) { return !is_null(row) && of[row - 1].status == WKB_STATUS_OK; }
+
+/* A row's status where what is made of it ends at this place of a room. */
+static uint32_t status_in(size_t row, uint64_t end, size_t room) {
+  if (is_null(row)) return WKB_STATUS_NULL_ROW;
+  return is_good(row) && end > room ? WKB_STATUS_NO_ROOM : of[row - 1].status;
+}
+
+static void statuses_are(const char *what) {
+  for (size_t i = 0; i < rows; i++) expect(statuses[i] == status_in(i, 0, 0), "the status of a row", what);
+  expect(statuses[rows] == UNTOUCHED, "a status more was written", what);
+}
+
+static void put_offset(size_t row) {
+  const int64_t offset = (int64_t)size;
+  const int32_t as_narrow = (int32_t)size;
+  memcpy(wide + 1 + 8 * row, &offset, sizeof offset);
+  memcpy(narrow + 1 + 4 * row, &as_narrow, sizeof as_narrow);
+}
+
+/* The null rows have the bytes of a point. */
+static void fill_data(void) {
+  rows = lasting_rows(&of) + 2, size = 0;
+  for (size_t i = 0; i < rows; put_offset(++i)) {
+    put_offset(i);
+    if (is_null(i)) size += spelled("01 01000000 P", data + size);
+    else memcpy(data + size, of[i - 1].bytes, of[i - 1].len), size += of[i - 1].len;
+  }
+}
+
+/* The bits before the first row and after the last are as those of the null rows are not. */
+static wkb_column column_from(size_t first_bit, bool is_narrow) {
+  memset(validity, 0xff, sizeof validity);
+  validity[first_bit / 8] &= (uint8_t)~(1u << first_bit % 8);
+  validity[(first_bit + rows - 1) / 8] &= (uint8_t)~(1u << (first_bit + rows - 1) % 8);
+  const wkb_column column = {data, size, (is_narrow ? narrow : wide) + 1, is_narrow ? 4 : 8, validity, first_bit, rows};
+  return column;
+}
+
+static void clear(void *of_call, size_t len) {
+  memset(of_call, UNTOUCHED, len);
+  memset(statuses, UNTOUCHED, sizeof statuses), memset(ends, UNTOUCHED, sizeof ends);
+}
+
+static void are_checked(const wkb_column *column) {
+  static const wkb_found ZEROS;
+  static const wkb_range NO_NUMBERS = {INFINITY, -INFINITY, 0};
+  const wkb_box no_bounds = {NO_NUMBERS, NO_NUMBERS, NO_NUMBERS, NO_NUMBERS};
+  clear(found, sizeof found), wkb_column_found(column, NULL, statuses), statuses_are("what nobody wants");
+  clear(found, sizeof found), wkb_column_check(column, statuses), statuses_are("wkb_column_check");
+  clear(found, sizeof found), wkb_column_found(column, found, statuses), statuses_are("wkb_column_found");
+  clear(boxes, sizeof boxes), wkb_column_bounds(column, boxes, statuses), statuses_are("wkb_column_bounds");
+  for (size_t i = 0; i < rows; i++) {
+    const bool is_empty = memcmp(&found[i], &ZEROS, sizeof ZEROS) == 0;
+    expect(is_good(i) ? is_found(&of[i - 1], &found[i]) : is_empty, "what is found of a row", "");
+    const uint32_t wanted = is_good(i) ? of[i - 1].sums[OF_BOUNDS] : summed(NO_SUM, &no_bounds, sizeof no_bounds);
+    expect(summed(NO_SUM, &boxes[i], sizeof boxes[i]) == wanted, "the bounds of a row", "");
+  }
+  expect(is_kept(&found[rows], sizeof found[0]) && is_kept(&boxes[rows], sizeof boxes[0]), "a row more", "");
+}
+
+/* The items of rows, of a size each, that a call has put into a room, of which it tells the ends. */
+static void are_put(const uint8_t *items, size_t item, size_t room, size_t total, int sum) {
+  uint64_t start = 0, put = 0;
+  for (size_t i = 0; i < rows; start = ends[i++]) {
+    expect(statuses[i] == status_in(i, ends[i], room), "the status of a row in a room", "");
+    expect(is_good(i) ? ends[i] > start : ends[i] == start, "the end of a row", "");
+    if (statuses[i] != WKB_STATUS_OK) continue;
+    const uint32_t found_sum = summed(NO_SUM, items + item * start, item * (size_t)(ends[i] - start));
+    expect(found_sum == of[i - 1].sums[sum], "the items of a row", sum == OF_PARTS ? "parts" : "bytes");
+    put = ends[i];
+  }
+  expect(start == total && statuses[rows] == UNTOUCHED && is_kept(&ends[rows], sizeof ends[0]), "the last end", "");
+  expect(is_kept(items + item * put, item * (total + 1 - put)), "more was written", "");
+}
+
+/* In room for all, for all but the last item, for half of them, and in none. */
+static void are_listed(const wkb_column *column) {
+  const size_t total = wkb_column_parts(column, NULL, 0, ends, statuses), rooms[] = {total, total - 1, total / 2, 0};
+  expect(total < PARTS_MOST, "too many parts", "");
+  for (int k = 0; k < 4; k++) {
+    clear(parts, sizeof parts);
+    size_t all = wkb_column_parts(column, rooms[k] ? parts : NULL, rooms[k], ends, statuses);
+    expect(all == total, "all parts", "");
+    are_put((const uint8_t *)parts, sizeof parts[0], rooms[k], total, OF_PARTS);
+  }
+}
+
+static void are_written(const wkb_column *column) {
+  for (uint32_t i = 0; i < OPTION_COUNT; i++) {
+    const wkb_options options = {i / 4, i % 4, CALLER_SRID};
+    const size_t total = wkb_column_write(column, &options, NULL, 0, ends, statuses);
+    const size_t rooms[] = {total, total - 1, total / 2, 0};
+    expect(total < OUT_MOST, "too many bytes", "");
+    for (int k = 0; k < 4; k++) {
+      clear(out, sizeof out);
+      size_t all = wkb_column_write(column, &options, rooms[k] ? out : NULL, rooms[k], ends, statuses);
+      expect(all == total, "all bytes", "");
+      are_put(out, 1, rooms[k], total, (int)i);
+    }
+  }
+}
+
+/* What a row has, up to its end: coordinates, rings and singles. */
+typedef struct level_ends {
+  uint64_t coordinates, rings, singles;
+} level_ends;
+
+static level_ends ends_of(size_t row) {
+  level_ends it = {0, 0, ends[row]};
+  if (it.singles > 0) it.rings = single_ends[it.singles - 1];
+  if (it.rings > 0) it.coordinates = ring_ends[it.rings - 1];
+  return it;
+}
+
+/* Ends as they are counted from the end of the row before. */
+static uint32_t summed_from(uint32_t sum, const uint64_t *all, uint64_t begin, uint64_t end, uint64_t first) {
+  for (uint64_t i = begin; i < end; i++) {
+    const uint64_t own = all[i] - first;
+    sum = summed(sum, &own, sizeof own);
+  }
+  return sum;
+}
+
+/* Whether a row is a geometry of this kind and dimension. */
+static bool is_of(size_t row, uint32_t kind, uint32_t dimension) {
+  return is_good(row) && of[row - 1].fields[7] == kind && of[row - 1].fields[8] == dimension;
+}
+
+/* Coordinates that have no number have quiet NaNs alone, as empty points are written. */
+static void quiet(size_t count, size_t width) {
+  for (size_t i = 0; i < count; i += width) {
+    size_t numbers = 0;
+    for (size_t k = 0; k < width; k++) numbers += !isnan(words[i + k]);
+    for (size_t k = 0; k < width && numbers == 0; k++) words[i + k] = NAN;
+  }
+}
+
+/* What is written of levels whose rows are null but for those of a kind. */
+static void are_back(uint32_t kind, uint32_t dimension, uint32_t number) {
+  uint64_t start = 0;
+  for (size_t i = 0; i < rows; start = ends[i++]) {
+    const bool is_own = is_of(i, kind, dimension);
+    const uint32_t sum = summed(NO_SUM, out + start, (size_t)(ends[i] - start));
+    expect(statuses[i] == (is_own ? WKB_STATUS_OK : WKB_STATUS_NULL_ROW), "the status of levels", "");
+    expect(sum == (is_own ? of[i - 1].sums[number] : NO_SUM), "a row of levels", "");
+  }
+}
+
+/* The rows of each kind come back from the levels of all. Those that have points are the last. */
+static void come_back(const wkb_coordinates *it, uint32_t dimension) {
+  static const uint32_t KINDS[] = {2, 3, 5, 6, 1, 4}, NUMBERS[] = {0, 2, 3, 4, 6, 7};
+  static uint64_t row_ends[ROWS];
+  static uint8_t own[ROWS / 8 + 1];
+  memcpy(row_ends, ends, sizeof row_ends);
+  const wkb_levels levels = {words, it->words_room, ring_ends, it->ring_room, single_ends, it->single_room,
+                             row_ends, rows, own, 0};
+  for (int k = 0; k < 36; k++) {
+    const uint32_t kind = KINDS[k / 6], number = NUMBERS[k % 6];
+    const wkb_options options = {number / 4, number % 4, CALLER_SRID};
+    memset(own, 0, sizeof own), clear(out, sizeof out);
+    for (size_t i = 0; i < rows; i++) own[i / 8] |= (uint8_t)(is_of(i, kind, dimension) << i % 8);
+    if (kind == WKB_KIND_POINT) quiet(levels.word_count, it->coordinates ? levels.word_count / it->coordinates : 1);
+    const size_t total =
+        wkb_column_from_coordinates(&levels, kind, dimension, &options, out, OUT_MOST, ends, statuses);
+    are_back(kind, dimension, number);
+    expect(ends[rows - 1] == total && is_kept(out + total, 1), "all rows of levels", "");
+  }
+}
+
+/* The levels under each dimension, in just enough room. */
+static void are_split(const wkb_column *column) {
+  static const uint64_t WIDTHS[] = {2, 3, 3, 4};
+  static uint32_t sums[ROWS];
+  for (size_t i = 0; i < rows; i++) sums[i] = NO_SUM;
+  for (uint32_t dimension = WKB_DIM_XY; dimension <= WKB_DIM_XYZM; dimension++) {
+    wkb_coordinates it = {NULL, 0, NULL, 0, NULL, 0, ends, 0, 0, 0};
+    wkb_column_coordinates(column, dimension, &it, statuses);
+    it.words = words, it.words_room = (size_t)(WIDTHS[dimension] * it.coordinates);
+    it.ring_ends = ring_ends, it.ring_room = (size_t)it.rings;
+    it.single_ends = single_ends, it.single_room = (size_t)it.singles;
+    expect(it.words_room < WORDS_MOST && it.ring_room < ENDS_MOST, "too many levels", "");
+    clear(words, sizeof words);
+    wkb_column_coordinates(column, dimension, &it, statuses);
+    statuses_are("wkb_column_coordinates");
+    level_ends start = {0, 0, 0}, end = start;
+    for (size_t i = 0; i < rows; i++, start = end) {
+      end = ends_of(i);
+      const uint64_t width = WIDTHS[dimension], count = end.coordinates - start.coordinates;
+      sums[i] = summed(sums[i], words + width * start.coordinates, (size_t)(8 * width * count));
+      if (dimension < WKB_DIM_XYZM) continue;
+      sums[i] = summed_from(sums[i], ring_ends, start.rings, end.rings, start.coordinates);
+      sums[i] = summed_from(sums[i], single_ends, start.singles, end.singles, start.rings);
+      expect(is_good(i) ? sums[i] == of[i - 1].sums[OF_LEVELS] : end.singles == start.singles, "the levels of a row", "");
+    }
+    expect(end.coordinates == it.coordinates && end.rings == it.rings && end.singles == it.singles, "the totals", "");
+    expect(is_kept(words + it.words_room, sizeof words[0]), "words more", "");
+    come_back(&it, dimension);
+  }
+}
+
+/* The status and the fault of a row as a member: those of a collection of it, whose fault is a part and nine bytes
+ * farther. */
+enum { FRONT = 9, MEMBERS_MOST = 3, WHOLE_MOST = FRONT + 4 + MEMBERS_MOST * INPUT_MOST };
+static uint32_t status_as_member(const lasting *r, uint32_t kind, uint32_t dimension, wkb_fault *fault) {
+  static const wkb_fault OTHER = {0, 0, 0, 0, 0, WKB_STATUS_INCORRECT_TYPE};
+  static uint8_t whole[FRONT + INPUT_MOST] = {1, WKB_KIND_GEOMETRY_COLLECTION, 0, 0, 0, 1, 0, 0, 0};
+  memcpy(whole + FRONT, r->bytes, r->len);
+  const uint32_t status = wkb_check(whole, FRONT + r->len, NULL, fault);
+  fault->part -= 1, fault->offset -= FRONT;
+  if (status != WKB_STATUS_OK || kind == WKB_KIND_GEOMETRY_COLLECTION) return status;
+  if (r->fields[7] == kind - 3 && r->fields[8] == dimension) return status;
+  *fault = OTHER;
+  return OTHER.status;
+}
+
+static size_t put_header(uint8_t *to, uint32_t kind, uint32_t dimension, const wkb_options *options, size_t members) {
+  const bool is_iso = options->form == WKB_FORM_ISO, has_srid = options->form == WKB_FORM_EWKB_WITH_SRID;
+  const uint32_t flags = dimension % 2 * 0x80000000 + dimension / 2 * 0x40000000 + has_srid * 0x20000000;
+  const uint32_t numbers[] = {kind + (is_iso ? 1000 * dimension : flags), options->srid, (uint32_t)members};
+  size_t size = 0;
+  to[size++] = (uint8_t)options->order;
+  for (int i = 0; i < 3; i++)
+    for (int k = 0; k < 4 && (i != 1 || has_srid); k++)
+      to[size++] = (uint8_t)(numbers[i] >> 8 * (options->order == WKB_ORDER_LITTLE ? k : 3 - k));
+  return size;
+}
+
+/* A collection of these rows, which have a row's answers in turn, has their encodings behind a header. */
+static void has_members(const lasting *r, size_t members, size_t size, size_t at, uint32_t number) {
+  const uint32_t inner = number % 4 == WKB_FORM_ISO ? number : number / 4 * 4 + WKB_FORM_EWKB_WITHOUT_SRID;
+  for (size_t i = 0; i < members; i++) {
+    wkb_found member = {0};
+    wkb_check(out + at, size - at, &member, NULL);
+    expect(summed(NO_SUM, out + at, (size_t)member.size) == r[i].sums[inner], "a member of a collection", "");
+    at += (size_t)member.size;
+  }
+  expect(at == size && is_kept(out + size, WHOLE_MOST - size), "the end of a collection", "");
+}
+
+static void is_collected(const wkb_column *column, const lasting *r, uint32_t kind, uint32_t dimension,
+                         uint32_t number) {
+  const wkb_options options = {number / 4, number % 4, CALLER_SRID};
+  wkb_fault fault = {0}, wanted = {0};
+  size_t size = 0, row = 0, bad = 0;
+  uint32_t status = WKB_STATUS_OK;
+  uint8_t header[FRONT + 4];
+  for (; bad < column->rows && status == WKB_STATUS_OK; bad++)
+    status = status_as_member(&r[bad], kind, dimension, &wanted);
+  memset(out, UNTOUCHED, WHOLE_MOST);
+  uint32_t found = wkb_collect(column, kind, dimension, &options, out, WHOLE_MOST, &size, &fault, &row);
+  expect(found == status, "the status of a collection", "");
+  if (status != WKB_STATUS_OK) {
+    expect(row == bad - 1 && memcmp(&fault, &wanted, sizeof fault) == 0, "the fault of a collection", "");
+    expect(size == 0 && is_kept(out, WHOLE_MOST), "a collection without members is written", "");
+    return;
+  }
+  const size_t front = put_header(header, kind, dimension, &options, column->rows);
+  expect(memcmp(out, header, front) == 0, "the header of a collection", "");
+  has_members(r, column->rows, size, front, number);
+  memset(out, UNTOUCHED, size);
+  found = wkb_collect(column, kind, dimension, &options, out, size - 1, &row, NULL, NULL);
+  expect(found == WKB_STATUS_NO_ROOM && row == size && is_kept(out, size), "a collection without room", "");
+}
+
+/* Up to three rows from each on as one geometry of each kind, also in another dimension than theirs. */
+static void are_collected(const wkb_column *column) {
+  for (size_t i = 1; i + MEMBERS_MOST < rows; i++) {
+    wkb_column some = *column;
+    some.offsets = (const uint8_t *)column->offsets + i * column->offset_size, some.validity_offset += i;
+    for (some.rows = 0; some.rows <= MEMBERS_MOST; some.rows++)
+      for (uint32_t kind = WKB_KIND_MULTI_POINT; kind <= WKB_KIND_GEOMETRY_COLLECTION; kind++) {
+        const uint32_t dimension = (uint32_t)of[i - 1].fields[8] + (some.rows == 2);
+        is_collected(&some, &of[i - 1], kind, of[i - 1].status ? kind % 4 : dimension % 4, (i + kind) % OPTION_COUNT);
+      }
+  }
+}
+
+/* Each row as a slice of the column. */
+static void are_sliced(const wkb_column *column) {
+  for (size_t i = 0; i < rows; i++) {
+    wkb_column slice = *column;
+    slice.offsets = (const uint8_t *)column->offsets + i * column->offset_size, slice.rows = 1;
+    slice.validity_offset += i;
+    memset(statuses, UNTOUCHED, sizeof statuses);
+    wkb_column_check(&slice, &statuses[0]);
+    wkb_column_found(&slice, found, &statuses[1]);
+    wkb_column_bounds(&slice, boxes, &statuses[2]);
+    for (int k = 0; k < 3; k++) expect(statuses[k] == status_in(i, 0, 0), "the status of a slice", "");
+  }
+}
+
+void what_lasts_is_as_it_was_in_columns(void) {
+  static const size_t FIRST_BITS[] = {0, 3, 11};
+  fill_data();
+  for (int i = 0; i < 6; i++) {
+    const wkb_column column = column_from(FIRST_BITS[i / 2], i % 2);
+    are_checked(&column);
+    are_listed(&column);
+    are_written(&column);
+    are_split(&column);
+    are_sliced(&column);
+    if (i >= 4) are_collected(&column);
+  }
+}
