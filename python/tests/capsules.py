@@ -1,5 +1,6 @@
 """Arrow's capsule protocol, as packages that hand out arrays have it."""
 import ctypes
+import mmap
 import struct
 
 from samples import ROWS
@@ -44,6 +45,16 @@ def memory_of(data):
 def pointers(addresses):
     """An array of pointers, as Arrow has it."""
     return ctypes.cast(memory_of(struct.pack(f"={len(addresses)}Q", *(it or 0 for it in addresses))), POINTERS)
+
+
+def address_at_an_end(data):
+    """The address of these bytes, behind which nothing can be read."""
+    memory = mmap.mmap(-1, 2 * mmap.PAGESIZE)
+    KEPT.append(memory)
+    end = ctypes.addressof(ctypes.c_char.from_buffer(memory)) + mmap.PAGESIZE
+    assert ctypes.CDLL(None).mprotect(ctypes.c_void_p(end), ctypes.c_size_t(mmap.PAGESIZE), 0) == 0
+    ctypes.memmove(end - len(data), data, len(data))
+    return end - len(data)
 
 
 NOWHERE = 8  # an address that can't be read

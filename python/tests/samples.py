@@ -41,3 +41,13 @@ def geometry(kind, dimension=0, order="<", form=1000):
 def flat(numbers):
     """Numbers as text, since a NaN isn't equal to itself."""
     return " ".join(repr(float(number)) for number in memoryview(numbers).cast("B").cast("d"))
+
+
+def values_of(record):
+    """The values of a record by their names."""
+    return {name: getattr(record, name) for name in record.__match_args__}
+
+
+def changed(record, **values):
+    """A record with other values in the place of some."""
+    return type(record)(**{**values_of(record), **values})

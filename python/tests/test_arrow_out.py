@@ -12,7 +12,7 @@ import unittest
 
 import porchsorrel_wkb as wkb
 from capsules import Arrow, Array, Lists, Schema, address_of, memory_of
-from samples import BIG_POINT, EMPTY_POINT, ISO_POLYGON, LINE as LINE_WITH_Z, POINT, POLYGON, ROWS, STATUSES
+from samples import BIG_POINT, EMPTY_POINT, ISO_POLYGON, POINT, POLYGON, ROWS, STATUSES
 from porchsorrel_wkb import Column, Dimension, Form, Kind, Order, Status, column_from_coordinates
 
 try:
@@ -426,21 +426,10 @@ class Tried(unittest.TestCase):
         self.assertRaisesRegex(ValueError, "from 0 to 4294967295", wkb.write, POINT, srid=-1)
 
     def test_hexadecimal(self):
-        """PostGIS's text is rejected by errors that say what to call."""
-        for text in (POINT.hex(), POLYGON.hex().upper(), LINE_WITH_Z.hex(), LINE_WITH_Z.hex().upper()):
-            for call in (wkb.check, wkb.bounds, wkb.write, wkb.parts, lambda it: wkb.same(POINT, it)):
-                self.assertRaisesRegex(TypeError, "bytes.fromhex", call, text)
-                with self.assertRaisesRegex(wkb.Refused, "bytes.fromhex") as raised:
-                    call(text.encode())
-                self.assertEqual(raised.exception.text, wkb.status_text(Status.INVALID_BYTE_ORDER))
-                again = pickle.loads(pickle.dumps(raised.exception))
-                self.assertEqual(str(again), str(raised.exception))
-            self.assertRaisesRegex(TypeError, "row 0 is of type str.*bytes.fromhex", Column.of, [text])
-        for other in (b"0101", b"01x1000000", b"2101000000", b"01 1000000", b"01\x001000000",
-                      memoryview(POINT.hex().encode())[:9]):
-            with self.assertRaises(wkb.Refused) as raised:
-                wkb.check(other)
-            self.assertNotIn("fromhex", str(raised.exception))
+        """Text is rejected by errors that say what to call."""
+        for call in (wkb.check, wkb.bounds, wkb.write, wkb.parts, lambda it: wkb.same(POINT, it)):
+            self.assertRaisesRegex(TypeError, "bytes.fromhex", call, POINT.hex())
+        self.assertRaisesRegex(TypeError, "row 0 is of type str.*bytes.fromhex", Column.of, [POINT.hex()])
 
     def test_ones(self):
         """Validity of ones is no null row, whether the nulls are counted or not."""

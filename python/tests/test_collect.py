@@ -6,16 +6,11 @@ import re
 import struct
 import unittest
 
-from samples import BIG_POINT, EMPTY_POINT, ISO_POLYGON, LINE, POINT, POINTS, POLYGON, rows_of
-from porchsorrel_wkb import Column, Dimension, Fault, Form, Kind, Order, Refused, Status, check, collect, parts, write
+from samples import BIG_POINT, EMPTY_POINT, LINE, POINT, POINTS, POLYGON, rows_of
+from porchsorrel_wkb import Column, Dimension, Form, Kind, Order, Refused, Status, check, collect
 
 # As PostGIS has it, with an SRID.
 SRID_POINT = bytes.fromhex("0101000020e6100000") + POINT[5:]
-
-
-def nested(depth):
-    """So many collections inside one another."""
-    return (depth - 1) * bytes.fromhex("010700000001000000") + bytes.fromhex("010700000000000000")
 
 
 class Collected(unittest.TestCase):
@@ -32,17 +27,6 @@ class Collected(unittest.TestCase):
         self.assertEqual(line, bytes.fromhex("01ed03000001000000") + LINE)
         self.assertEqual(type(line), bytes)
 
-    def test_collections(self):
-        rows = [POINT, POLYGON, LINE, POINTS]
-        whole = collect(Column.of(rows), Kind.GEOMETRY_COLLECTION, Dimension.XYM)
-        self.assertEqual(whole, bytes.fromhex("01d707000004000000") + b"".join(map(write, rows)))
-        table = parts(whole)
-        members, i = [], 1
-        while i < len(table):
-            members.append(whole[table[i].begin : table[i].end])
-            i = table[i].next
-        self.assertEqual(members, [POINT, ISO_POLYGON, LINE, POINTS])
-
     def test_no_rows(self):
         for column in (Column(b"", array.array("q")), Column(POINT, array.array("i", [21]), b"\0")):
             for kind in (Kind.MULTI_POINT, Kind.GEOMETRY_COLLECTION):
@@ -58,14 +42,6 @@ class Collected(unittest.TestCase):
         count = 100_000
         whole = collect(Column.of(count * [BIG_POINT]), Kind.MULTI_POINT, srid=7)
         self.assertEqual(whole, bytes.fromhex("010400002007000000") + struct.pack("<I", count) + count * POINT)
-
-    def test_depth(self):
-        self.assertEqual(check(collect(Column.of([nested(127)]), Kind.GEOMETRY_COLLECTION)).parts, 128)
-        with self.assertRaises(Refused) as raised:
-            collect(Column.of([POINT, nested(128)]), Kind.GEOMETRY_COLLECTION)
-        self.assertEqual(raised.exception.row, 1)
-        fault = Fault(127, 9 * 127, 0, 0, 0, Status.NESTING_DEPTH_EXCEEDED)
-        self.assertEqual(raised.exception.fault, fault)
 
 
 class Refusals(unittest.TestCase):

@@ -8,7 +8,7 @@ import unittest
 
 from capsules import Arrow
 from samples import BIG_POINT, EMPTY_POINT, ISO_POLYGON, LINE, POINT, POINTS, POLYGON, STATUSES, flat, rows_of
-from porchsorrel_wkb import Column, Dimension, Fault, Form, Kind, Order, Range, Status
+from porchsorrel_wkb import Column, Fault, Kind, Status
 
 try:
     import numpy
@@ -113,19 +113,6 @@ class Taken(unittest.TestCase):
                 self.assertRaises(TypeError, Column, POINT, raw, offset_size=wrong)
             self.assertRaises(ValueError, Column, POINT, raw[:-1], offset_size=size)
 
-    def test_hostile_offsets(self):
-        lowest, highest = -(2**63), 2**63 - 1
-        rows = (0, 21), (-1, 21), (0, 22), (21, 0), (lowest, highest), (highest, lowest), (21, 21), (22, 22), (-1, -1)
-        expected = [Status.OK] + [Status.BAD_OFFSETS] * 5 + [Status.SHORT_HEADER] + [Status.BAD_OFFSETS] * 2
-        for (begin, end), status in zip(rows, expected):
-            column = Column(POINT, array.array("q", [begin, end]))
-            results = [column.check()] + [
-                call().statuses for call in (column.bounds, column.parts, column.write, column.coordinates)
-            ]
-            self.assertEqual([list(it) for it in results], [[status]] * 5, (begin, end))
-        for begin, end in ((-1, 21), (0, 22), (21, 0), (-(2**31), 2**31 - 1)):
-            self.assertEqual(statuses(Column(POINT, array.array("i", [begin, end]))), [Status.BAD_OFFSETS])
-
     def test_no_rows(self):
         for offsets in (array.array("q"), array.array("q", [0]), array.array("i"), array.array("i", [5])):
             column = Column(b"", offsets)
@@ -215,51 +202,10 @@ class Taken(unittest.TestCase):
 
 
 class Results(unittest.TestCase):
-    def test_check(self):
-        data, offsets = POLYGON + ISO_POLYGON, array.array("q", [0, 33, 62, 99, 62])
-        found = statuses(Column(data, offsets, b"\x0d"))
-        self.assertEqual([Status(it).name for it in found], ["OK", "NULL_ROW", "BAD_OFFSETS", "BAD_OFFSETS"])
-
-    def test_bounds(self):
-        found, boxes = Column(*rows_of(LINE, b"", POINTS)).bounds()
-        self.assertEqual(list(found), [0, Status.SHORT_HEADER, 0])
-        none = Range(float("inf"), float("-inf"), 0)
-        self.assertEqual([box.x for box in boxes], [Range(1, 5, 2), none, Range(1, 1, 1)])
-        self.assertEqual([(box.y.count, box.z.count, box.m.count) for box in boxes], [(1, 2, 0), (0, 0, 0), (1, 0, 0)])
-
-    def test_write(self):
-        column = Column(*rows_of(POLYGON, b"\2", POINT))
-        written = column.write(Order.BIG, Form.EWKB_WITH_SRID, 4326)
-        big = bytes.fromhex("0020000001000010e6") + BIG_POINT[5:]
-        self.assertEqual(list(written.statuses), [0, Status.INVALID_BYTE_ORDER, 0])
-        self.assertEqual(list(written.offsets), [0, 33, 33, 58])
-        self.assertEqual(bytes(written.data), POLYGON + big)
-        again = Column(written.data, written.offsets).write()
-        self.assertEqual(bytes(again.data), ISO_POLYGON + POINT)
-
-    def test_rows_that_overlap(self):
-        """No byte is read for two rows: a row that begins before an earlier one ends has bad offsets."""
-        column, bad = Column(2 * POINT, array.array("q", [0, 21, 0, 21, 42, 0])), Status.BAD_OFFSETS
-        written = column.write()
-        self.assertEqual(list(written.statuses), [0, bad, bad, 0, bad])
-        self.assertEqual((list(written.offsets), bytes(written.data)), ([0, 21, 21, 21, 42, 42], 2 * POINT))
-
     def test_coordinates(self):
-        column = Column(*rows_of(POINTS, POLYGON, b"\2", LINE, bytes.fromhex("010300000000000000")))
-        it = column.coordinates()
-        self.assertEqual(list(it.statuses), [0, 0, Status.INVALID_BYTE_ORDER, 0, 0])
-        levels = [list(offsets) for offsets in it[1:4]]
-        self.assertEqual(levels, [[0, 2, 3, 3, 4, 5], [0, 1, 2, 3, 4, 4], [0, 1, 2, 3, 5]])
-        self.assertEqual(flat(it.coordinates), "1.0 2.0 nan nan 1.0 2.0 1.0 2.0 5.0 nan")
-        self.assertEqual(flat(column.coordinates(Dimension.XYZ).coordinates),
-                         "1.0 2.0 nan nan nan nan 1.0 2.0 nan 1.0 2.0 3.0 5.0 nan -7.0")
-        self.assertEqual(flat(Column(*rows_of(LINE)).coordinates(Dimension.XYM).coordinates),
-                         "1.0 2.0 nan 5.0 nan nan")
-        self.assertEqual(flat(Column(*rows_of(LINE)).coordinates(1).coordinates), "1.0 2.0 3.0 5.0 nan -7.0")
         for dimension in (4, -1, "XY", None):
-            self.assertRaises(ValueError, column.coordinates, dimension)
-        empty = Column.of([LINE[:5] + bytes(4), b"\1\3\0\0\0" + bytes(4), b"\1\4\0\0\0" + bytes(4)]).coordinates()
-        self.assertEqual([list(offsets) for offsets in empty[1:4]], [[0, 1, 2, 2], [0, 1, 1], [0, 0]])
+            self.assertRaises(ValueError, Column.of([LINE]).coordinates, dimension)
+        self.assertEqual(flat(Column.of([LINE]).coordinates(1).coordinates), "1.0 2.0 3.0 5.0 nan -7.0")
 
     @unittest.skipUnless(numpy, "numpy is not here")
     def test_geoarrow_offsets(self):

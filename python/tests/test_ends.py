@@ -7,8 +7,9 @@ import subprocess
 import sys
 import sysconfig
 import tempfile
-import textwrap
 import unittest
+
+import porchsorrel_wkb as wkb
 
 # Programs that hold what a call has made, in a cycle that is there until the interpreter ends.
 BEGIN = """
@@ -40,13 +41,13 @@ HOLDERS = {
               "layer = Layer(of=[c.write().__arrow_c_array__(), wkb.Column.from_arrow(c.write())]); del c",
 }
 
-# A program in which Python begins and ends several times, with a sub-interpreter each time. Arrays that both have
-# handed out are released by a thread that holds no lock: at once, when both interpreters have ended, or when others are
-# there.
+# A program in which Python begins and ends several times, with a sub-interpreter each time. An array that was handed
+# out is released by a thread that holds no lock: at once, when the interpreter has ended, or when another is there.
 HOST = r"""
 #define PY_SSIZE_T_CLEAN
 #include <Python.h>
 #include <stdint.h>
+#include <stdlib.h>
 #include <string.h>
 struct Array {
   int64_t length, null_count, offset, n_buffers, n_children;
@@ -71,40 +72,42 @@ static int end(struct Array *it) {
   return is_right;
 }
 int main(int count, char **words) {
-  struct Array before[2] = {{0}, {0}};
-  int failures = 0;
-  for (int round = 0; round < 4; round++) {
-    struct Array held[2];
+  struct Array held, before = {0};
+  int failures = 0, rounds = atoi(words[2]);
+  for (int round = 0; round < rounds; round++) {
     Py_Initialize();
     PyThreadState *own = PyThreadState_Get();
-    held[0] = handed_out(words[2]);
+    held = handed_out(words[3]);
     PyThreadState *sub = Py_NewInterpreter();
-    held[1] = handed_out(words[2]);
+    failures += PyRun_SimpleString(words[4]) < 0;
     PyThreadState *unlocked = PyEval_SaveThread();
-    for (int i = 0; i < 2 && words[1][0] == 'l' && round > 0; i++) failures += !end(&before[i]);
-    for (int i = 0; i < 2 && words[1][0] == 'n'; i++) failures += !end(&held[i]);
+    if (words[1][0] == 'l' && round > 0) failures += !end(&before);
+    if (words[1][0] == 'n') failures += !end(&held);
     PyEval_RestoreThread(unlocked);
     Py_EndInterpreter(sub);
     PyThreadState_Swap(own);
     if (Py_FinalizeEx() < 0) failures++;
-    for (int i = 0; i < 2 && words[1][0] == 'e'; i++) failures += !end(&held[i]);
-    memcpy(before, held, sizeof held);
+    if (words[1][0] == 'e') failures += !end(&held);
+    before = held;
   }
-  return count == 3 ? failures : 99;
+  return count == 5 ? failures : 99;
 }
 """
-# numpy can't be imported a second time.
+# What runs in a sub-interpreter, and what in the main one besides. numpy can't be imported a second time.
 INSIDE = """
 import sys
-sys.path[:0], sys.modules["numpy"] = {path!r}, None
+sys.path[:0] = {path!r}
+if not {has_numpy}: sys.modules["numpy"] = None
 import porchsorrel_wkb as wkb
 point = bytes.fromhex("0101000000000000000000f03f0000000000000040")
 column = wkb.Column.of(3 * [point])
-out = column.write().__arrow_c_array__()[1]
 class Holder: pass
 holder = Holder()
-holder.me, holder.z, holder.column = holder, wkb.bounds(point).z, wkb.Column.from_arrow(column.write())
-holder.out = column.coordinates().__arrow_c_array__(), column.faults(), column.facts()
+holder.me, holder.z, holder.out = holder, wkb.bounds(point).z, [column.faults(), column.facts(), column.coordinates()]
+"""
+OUTSIDE = INSIDE + """
+out = column.write().__arrow_c_array__()[1]
+holder.out += [column.coordinates().__arrow_c_array__(), wkb.Column.from_arrow(column.write())]
 """
 ENVIRONMENT = dict(os.environ, PYTHONDEVMODE="1", PYTHONPATH=os.pathsep.join(filter(None, sys.path)))
 
@@ -115,7 +118,7 @@ class Processes(unittest.TestCase):
             for name, code in HOLDERS.items():
                 with self.subTest(name, before=before):
                     ran = subprocess.run([sys.executable, "-c", before + BEGIN + code], env=ENVIRONMENT,
-                                         stderr=subprocess.PIPE, timeout=120)
+                                         stderr=subprocess.PIPE, timeout=300)
                     self.assertEqual((ran.returncode, ran.stderr.decode()), (0, ""))
 
 
@@ -139,8 +142,10 @@ class Interpreters(unittest.TestCase):
             program = host_in(folder)
             if program is None:
                 self.skipTest("there is no compiler, or no library of this Python")
-            code = textwrap.dedent(INSIDE.format(path=[it for it in sys.path if it]))
-            home = dict(ENVIRONMENT, PYTHONHOME=sys.base_prefix)
-            for when in ("now", "ended", "later", "kept"):
-                ran = subprocess.run([program, when, code], env=home, stderr=subprocess.PIPE, timeout=120)
-                self.assertEqual((ran.returncode, ran.stderr.decode()), (0, ""), when)
+            home, path = dict(ENVIRONMENT, PYTHONHOME=sys.base_prefix), [it for it in sys.path if it]
+            for has_numpy in {False, wkb._buffers.has_numpy}:
+                inside, outside = (it.format(path=path, has_numpy=has_numpy) for it in (INSIDE, OUTSIDE))
+                for when in ("now", "ended", "later", "kept"):
+                    words = [program, when, "1" if has_numpy else "4", outside, inside.replace("True", "False")]
+                    ran = subprocess.run(words, env=home, stderr=subprocess.PIPE, timeout=300)
+                    self.assertEqual((ran.returncode, ran.stderr.decode()), (0, ""), (when, has_numpy))

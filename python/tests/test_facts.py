@@ -1,4 +1,5 @@
 """What is found in each row of a column, what rows have together, and what GeoParquet says of them."""
+import array
 import itertools
 import json
 import math
@@ -45,7 +46,8 @@ class Found(unittest.TestCase):
 class Together(unittest.TestCase):
     def test_facts(self):
         facts = Column.of([*ROWS, LINE, EMPTY_POINT, wkb.write(POINT, srid=7), geometry(1, 3)]).facts()
-        self.assertEqual((facts.rows, facts.nulls, facts.refused, facts.srids), (9, 1, 2, {None, 4326, 7}))
+        self.assertEqual((facts.rows, facts.accepted, facts.nulls, facts.refused), (9, 6, 1, 2))
+        self.assertEqual(facts.srids, {None, 4326, 7})
         self.assertEqual(facts.types, [(Kind.POINT, Dimension.XY), (Kind.POLYGON, Dimension.XY),
                                        (Kind.LINE_STRING, Dimension.XYZ), (Kind.POINT, Dimension.XYZM)])
         # Points of (1, 2) three times, the polygon's, and (1, 2, 3), (5, NaN, -7) of the line.
@@ -53,6 +55,11 @@ class Together(unittest.TestCase):
         self.assertEqual(facts.box.y, Range(2.0, 2.0, 5))
         self.assertEqual(facts.box.z, Range(-7.0, 3.0, 3))
         self.assertEqual(facts.box.m, Range(4.0, 4.0, 1))
+
+    def test_bad_offsets(self):
+        """A row with bad offsets is neither accepted nor refused."""
+        facts = Column(POINT + b"\2", array.array("q", [0, 21, 0, 21, 22])).facts()
+        self.assertEqual((facts.rows, facts.accepted, facts.nulls, facts.refused), (4, 1, 0, 1))
 
     def test_none(self):
         for rows in ([], [None], [b""]):

@@ -13,7 +13,8 @@ import weakref
 import porchsorrel_wkb as wkb
 from capsules import NOWHERE, Arrow, pointers
 from porchsorrel_wkb import Kind, _columns, _wkb
-from samples import LINE, POINT, POLYGON
+from porchsorrel_wkb._records import SIZES
+from samples import LINE, POINT, POLYGON, changed
 
 OFFSETS = array.array("q", [0, 21, 42])
 TWO = (2 * POINT, OFFSETS, None, 8, 0, 2)
@@ -52,7 +53,7 @@ class Results(unittest.TestCase):
 
     def test_faults(self):
         """As many as there is room for, and none of a row that isn't in the data, or is OK."""
-        one = wkb.Fault.LAYOUT.size
+        one = SIZES[wkb.Fault]
         both = b"\x21\x21"
         for statuses, size, offsets, count in (
             (both, 2 * one, [0, 20, 41], 2), (both, 2 * one - 1, [0, 20, 41], 1), (b"\0\x21", one, [0, 20, 41], 1),
@@ -101,14 +102,14 @@ class Inputs(unittest.TestCase):
             self.assertRaises(TypeError, call, of)
 
     def test_records(self):
-        table = bytes(2 * wkb.Part.LAYOUT.size - 1)
+        table = bytes(2 * SIZES[wkb.Part] - 1)
         for index in (-1, 1, 2**62):
             self.assertRaises(IndexError, _wkb.read_record, wkb.Part, table, index)
-        for other in (wkb.Range, wkb.Status, None):
+        for other in (wkb.Status, None):
             self.assertRaises(IndexError, _wkb.read_record, other, table, 0)
         # Numbers that nothing has, as a table that was pickled may have them.
         for record in (wkb.Found, wkb.Part, wkb.Fault):
-            self.assertRaises(IndexError, _wkb.read_record, record, b"\xff" * record.LAYOUT.size, 0)
+            self.assertRaises(ValueError, _wkb.read_record, record, b"\xff" * SIZES[record], 0)
 
     def test_rows(self):
         """Rows that are not where their offsets say are none."""
@@ -130,27 +131,22 @@ class Inputs(unittest.TestCase):
                 call(data, part)
 
     def test_parts(self):
-        """A part may have any values, and the bytes have those of one."""
+        """A part may have other values, and the bytes have those of one."""
         ring = wkb.parts(POLYGON)[1]
-        values = {name: getattr(ring, name) for name in ring.__match_args__}
-        numbers = -1, 0, 5, 2**31, 2**32, 2**63, 2**64, None
-        for name, value in itertools.product(("begin", "offset", "count"), numbers):
-            if value != values[name]:
-                self.no_coordinates(POLYGON, wkb.Part(**dict(values, **{name: value})))
-        for name, value in (("kind", 9), ("kind", -1), ("dimension", 4), ("order", 2), ("order", None)):
-            self.no_coordinates(POLYGON, wkb.Part(**dict(values, **{name: value})))
+        for name, value in itertools.product(("begin", "offset", "count"), (-1, 0, 5, 2**31, 2**32, 2**63 - 1)):
+            if value != getattr(ring, name):
+                self.no_coordinates(POLYGON, changed(ring, **{name: value}))
         for size in range(len(POLYGON)):
             self.no_coordinates(POLYGON[:size], ring)
         for data in (POINT, LINE, wkb.write(LINE, srid=7)):
             (part,) = wkb.parts(data)
-            values = {name: getattr(part, name) for name in part.__match_args__}
             for name, others in (("kind", Kind), ("dimension", wkb.Dimension), ("order", wkb.Order),
                                  ("srid", (None, 0, 7)), ("count", (0, 1, 2, 3)), ("offset", (0, 5, 9, 13))):
                 for other in others:
-                    if other == values[name]:
+                    if other == getattr(part, name):
                         self.assertEqual(len(_wkb.coordinates(data, part)), part.count)
                     else:
-                        self.no_coordinates(data, wkb.Part(**dict(values, **{name: other})))
+                        self.no_coordinates(data, changed(part, **{name: other}))
         self.assertEqual(_wkb.place_of_words(POLYGON + b"\0", ring), (17, 33))
         for other in (None, 1, POLYGON, wkb.Range(1.0, 2.0, 3)):
             self.assertRaisesRegex(TypeError, "a Part of parts", _wkb.coordinates, POLYGON, other)
@@ -214,50 +210,14 @@ class Structs(unittest.TestCase):
 
 
 class Late(unittest.TestCase):
-    """An extension that the package has given no types yet, and one that gets others."""
-
-    @staticmethod
-    def fresh():
-        loader = importlib.machinery.ExtensionFileLoader("_wkb", _wkb.__file__)
-        return importlib.util.module_from_spec(importlib.util.spec_from_loader("_wkb", loader))
-
-    def test_without_types(self):
-        other = self.fresh()
-        other.__loader__.exec_module(other)
-        for call in (other.check, other.bounds):
-            for data in (POINT, b""):
-                self.assertRaisesRegex(RuntimeError, "not given its types", call, data)
-        self.assertEqual(other.write(POINT, 1, None, None), POINT)
-        for options in ((9, None, None), (-1, None, None), (1, 4, None), (1, 2, None), (1, 0, 7), (1, None, 2**32)):
-            self.assertRaises(SystemError, other.write, POINT, *options)
-        self.assertRaises(TypeError, other.coordinates, POINT, wkb.check(POINT))
-        self.assertRaises(IndexError, other.read_record, wkb.Part, bytes(80), 0)
-
-    def test_other_types(self):
-        other = self.fresh()
-        other.__loader__.exec_module(other)
-        for given in ((), (1,), 6 * (int,) + (int,), 6 * (int,) + 5 * ((),) + (1,)):
-            self.assertRaises((TypeError, IndexError), other.give, *given)
-        types, own = (wkb.Found, wkb.Fault, wkb.Part, wkb.Range, wkb.Box, wkb.Table), self.types(other)
-        for given in (types, own[:1] + types[1:], [it.__base__ for it in own], own[:5] + (own[5].__base__,),
-                      self.types(other, __slots__="more"), self.types(other, __slots__="__dict__"),
-                      self.types(other, __slots__="__weakref__"), own[:3] + self.types(other, __doc__="")[3:]):
-            with self.subTest(given):
-                self.assertRaisesRegex(TypeError, "inherit those of this module", other.give, *given)
-
-    @staticmethod
-    def types(other, **fields):
-        """Types of records for another extension, without a field if none is given."""
-        names, fields = ("Found", "Fault", "Part", "Range", "Box", "Table"), fields or {"__slots__": ()}
-        return tuple(type(name, (getattr(other, f"{name}Values"),), dict(fields)) for name in names)
+    """Another extension than that of the package, and calls with other arguments."""
 
     def ended(self, kept):
         """End an extension that has made records, of which so many are kept until it should have ended."""
-        other = self.fresh()
-        other.__loader__.exec_module(other)
-        members = 2 * (256 * ("",),) + (tuple(Kind), tuple(wkb.Dimension), tuple(wkb.Order))
-        other.give(*self.types(other), wkb.Refused, *members, len, len)
-        made = [it for _ in range(25) for it in (other.check(POINT), other.bounds(POINT))]
+        loader = importlib.machinery.ExtensionFileLoader("_wkb", _wkb.__file__)
+        other = importlib.util.module_from_spec(importlib.util.spec_from_loader("_wkb", loader))
+        loader.exec_module(other)
+        made = [it for _ in range(25) for it in (other.check(POINT), other.bounds(POINT), other.new_block(9))]
         ending = weakref.ref(other)
         del made[kept:], other
         gc.collect()
@@ -267,12 +227,27 @@ class Late(unittest.TestCase):
         self.assertIsNone(ending())
 
     def test_ends(self):
-        """An extension ends with the memory of records that it keeps, and not before its records."""
+        """An extension ends with its records, and not before."""
         self.ended(0)
         before = sys.getallocatedblocks()
         for kept in 10 * (0, 1, 40):
             self.ended(kept)
         self.assertLess(sys.getallocatedblocks() - before, 30 * 10)
+
+    def test_blocks(self):
+        """Memory that is shown keeps its length."""
+        block = _wkb.new_block(9)
+        with memoryview(block):
+            self.assertRaises(ValueError, _wkb.shorten, block, 3)
+        for size in (-1, 10):
+            self.assertRaises(ValueError, _wkb.shorten, block, size)
+        for size in (9, 3, 0):
+            _wkb.shorten(block, size)
+            self.assertEqual(len(bytes(block)), size)
+        self.assertRaises(TypeError, _wkb.shorten, b"", 0)
+        self.assertRaises(OverflowError, _wkb.new_block, -1)
+        for size in (2**62, 2**63):
+            self.assertRaises(MemoryError, _wkb.new_block, size)
 
     def test_arguments(self):
         for call in (_wkb.same, _wkb.write, _wkb.coordinates, _wkb.place_of_words):

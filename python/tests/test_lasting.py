@@ -1,11 +1,13 @@
 """The inputs of c/test/lasting.rows, whose answers are those of a model: one by one, and as a column with null rows."""
+import array
 import pathlib
 import struct
 import unittest
 from typing import NamedTuple
 
 import porchsorrel_wkb as wkb
-from porchsorrel_wkb import Column, Dimension, Fault, Form, Found, Kind, Order, Status
+from samples import flat
+from porchsorrel_wkb import Column, Dimension, Fault, Form, Found, Kind, Order, Status, column_from_coordinates
 
 FILE = pathlib.Path(__file__).resolve().parents[2] / "c/test/lasting.rows"
 # The options of the sums.
@@ -14,7 +16,7 @@ NOTHING = struct.pack("<" + 4 * "2dQ", *4 * (float("inf"), float("-inf"), 0))
 
 
 class Row(NamedTuple):
-    """An input and its answer: what is found, or the fault; sums of what is written, and of the bounds."""
+    """An input and its answer: what is found, or the fault; sums of what is written, the bounds, parts and levels."""
 
     data: bytes
     answer: object
@@ -44,7 +46,7 @@ def summed(data):
 
 def packed(box):
     ranges = box.x, box.y, box.z, box.m
-    return struct.pack("<" + 4 * "2dQ", *(number for it in ranges for number in vars(it).values()))
+    return struct.pack("<" + 4 * "2dQ", *(number for it in ranges for number in (it.least, it.greatest, it.count)))
 
 
 def answer_of(call, data):
@@ -85,7 +87,11 @@ class Lasting(unittest.TestCase):
 
     def test_parts_and_cuts(self):
         for it in self.accepted:
-            self.assertEqual(len(wkb.parts(it.data)), it.answer.parts)
+            self.assertEqual(summed(wkb.parts(it.data)._memory), it.sums[9], it.data.hex())
+            numbers = [number for part in wkb.parts(it.data) if part.kind <= Kind.LINE_STRING
+                       for point in wkb.coordinates(it.data, part) for number in point[:2]]
+            found = Column.of([it.data]).coordinates().coordinates
+            self.assertEqual(flat(array.array("d", numbers)), flat(found) if len(found) else "")
             cut = answer_of(wkb.bounds, it.data[: it.answer.size - 1])
             self.assertTrue(wkb.is_early_end(cut.status), it.data.hex())
 
@@ -117,3 +123,34 @@ class Lasting(unittest.TestCase):
         expected = [it.sums[8] if it.sums else summed(NOTHING) for it in self.rows]
         self.assertEqual([summed(packed(it)) for it in boxes[::2]], expected)
         self.assertEqual({packed(it) for it in boxes[1::2]}, {NOTHING})
+
+    def test_parts_of_a_column(self):
+        _, offsets, parts = self.column.parts()
+        sums = [summed(parts._memory[64 * a : 64 * b]) for a, b in zip(offsets, offsets[1:])]
+        nothing = summed(b"")
+        self.assertEqual(sums, [sum for it in self.rows for sum in (it.sums[9] if it.sums else nothing, nothing)])
+
+    def test_levels_of_a_column(self):
+        columns = [self.column.coordinates(dimension) for dimension in Dimension]
+        words = [memoryview(it.coordinates).cast("B") for it in columns]
+        _, rows, singles, rings, _ = columns[0]
+        for i, it in enumerate(self.rows):
+            own_singles = [int(end) for end in singles[rows[2 * i] : rows[2 * i + 1] + 1]]
+            own_rings = [int(end) for end in rings[own_singles[0] : own_singles[-1] + 1]]
+            levels = b"".join(all[8 * its.width * own_rings[0] : 8 * its.width * own_rings[-1]]
+                              for all, its in zip(words, Dimension))
+            ends = [end - own[0] for own in (own_rings, own_singles) for end in own[1:]]
+            found = summed(levels + struct.pack(f"<{len(ends)}Q", *ends))
+            self.assertEqual(found, it.sums[10] if it.sums else summed(b""), it.data.hex())
+
+    def test_rows_of_levels(self):
+        """The rows of each kind come back from the levels of all where the others are null."""
+        for dimension in Dimension:
+            _, rows, singles, rings, numbers = self.column.coordinates(dimension)
+            for kind in list(Kind)[1:7]:
+                own = [getattr(it.answer, "kind", 0) == kind and it.answer.dimension == dimension for it in self.rows]
+                bits = sum(it << 2 * i for i, it in enumerate(own)).to_bytes(len(own) // 4 + 1, "little")
+                made = column_from_coordinates(kind, numbers, rings, singles, rows, dimension=dimension, validity=bits)
+                # Whatever NaNs an empty point has, those of one are written.
+                found = [row and summed(wkb.write(row)) for row in list(made.rows)[::2]]
+                self.assertEqual(found, [it.sums[4] if its else None for it, its in zip(self.rows, own)])

@@ -1,12 +1,11 @@
 """Rows that are written from coordinates."""
 import array
 import ctypes
-import random
 import struct
 import unittest
 
-from samples import EMPTY_POINT, POINT, flat
-from porchsorrel_wkb import Column, Dimension, Form, Kind, Order, Status, check, column_from_coordinates
+from samples import EMPTY_POINT, POINT
+from porchsorrel_wkb import Column, Dimension, Form, Kind, Order, Status, column_from_coordinates
 
 try:
     import numpy
@@ -67,6 +66,7 @@ WORKED = [
     ),
 ]
 
+
 class Written(unittest.TestCase):
     def test_each_kind(self):
         for arguments, rows in WORKED:
@@ -90,47 +90,12 @@ class Written(unittest.TestCase):
         column = Column(it.data, it.offsets, b"\x05")
         self.assertEqual(list(column.check()), [0, Status.NULL_ROW, 0])
 
-    def test_statuses(self):
-        """No row stops the others."""
-        bad, numbers = Status.BAD_LEVELS, doubles(1, 2, 3, 4, 1, 2)
-        for arguments, expected in (
-            ((Kind.LINE_STRING, numbers, offsets(0, 2, 1, 3)), [0, bad, bad]),
-            ((Kind.LINE_STRING, numbers, offsets(0, 2, 4, 4)), [0, bad, bad]),
-            ((Kind.LINE_STRING, numbers, offsets(0, -1, 2, 3)), [bad, bad, 0]),
-            ((Kind.POINT, numbers, None, None, offsets(0, 1, 1, 3)), [0, bad, bad]),
-            ((Kind.LINE_STRING, numbers, None, offsets(0, 1, 3)), [0, bad]),
-            ((Kind.POINT, numbers, offsets(0, 1, 3)), [0, bad]),
-            ((Kind.MULTI_POINT, numbers, None, None, offsets(0, 2, 2**62, 3)), [0, bad, bad]),
-        ):
-            it = column_from_coordinates(*arguments)
-            self.assertEqual(list(it.statuses), expected, arguments)
-            self.assertEqual([bool(row) for row in rows_in(it)], [not status for status in expected], arguments)
-
     def test_no_rows(self):
         none = doubles()
         for arguments in ((none,), (none, offsets()), (none, offsets(0)), (doubles(1, 2), None, None, offsets(0))):
             for kind in range(Kind.POINT, Kind.GEOMETRY_COLLECTION):
                 it = column_from_coordinates(Kind(kind), *arguments)
                 self.assertEqual((len(it.statuses), list(it.offsets), len(it.data)), (0, [0], 0))
-
-
-class RoundTrip(unittest.TestCase):
-    def random_row(self, kind, dimension):
-        """The encoding of a random row, with words that are numbers."""
-        def coordinates(count):
-            return [words(*(random.uniform(-9, 9) for _ in range(dimension.width))) for _ in range(count)]
-
-        def single(kind):
-            if kind == Kind.POINT:
-                return part(kind + 1000 * dimension, *coordinates(1))
-            if kind == Kind.LINE_STRING:
-                return part(kind + 1000 * dimension, coordinates(random.randrange(4)))
-            rings = [struct.pack("<I", count) + b"".join(coordinates(count)) for count in random.sample(range(5), 2)]
-            return part(kind + 1000 * dimension, rings[: random.randrange(3)])
-
-        if kind <= Kind.POLYGON:
-            return single(kind)
-        return part(kind + 1000 * dimension, [single(kind - 3) for _ in range(random.randrange(4))])
 
     def test_points_without_ends(self):
         """A row is as many numbers as a coordinate of the dimension has."""
@@ -139,57 +104,6 @@ class RoundTrip(unittest.TestCase):
             rows = [struct.pack("<BI", 1, 1 + 1000 * dimension) + it.tobytes() for it in (first, second)]
             it = column_from_coordinates(Kind.POINT, first + second, dimension=dimension)
             self.assertEqual((rows_in(it), list(it.statuses)), (rows, [0, 0]))
-
-    def test_round_trip(self):
-        random.seed(7)
-        for kind in map(Kind, range(Kind.POINT, Kind.GEOMETRY_COLLECTION)):
-            for dimension in Dimension:
-                rows = [None if i % 9 == 4 else self.random_row(kind, dimension) for i in range(100)]
-                bits = sum((row is not None) << i for i, row in enumerate(rows)).to_bytes(13, "little")
-                levels = Column.of(rows).coordinates(dimension)
-                it = column_from_coordinates(kind, levels.coordinates, levels.ring_offsets, levels.single_offsets,
-                                             levels.row_offsets, dimension=dimension, validity=bits)
-                self.assertEqual(rows_in(it), [row or b"" for row in rows])
-                self.assertEqual(list(it.statuses), list(levels.statuses))
-                again = Column(it.data, it.offsets, bits).coordinates(dimension)
-                self.assertEqual(list(map(flat, levels[1:])), list(map(flat, again[1:])))
-
-    def test_rows_without_levels(self):
-        """A rejected row and a collection: with their bits, and with cleared ones."""
-        it = Column.of([POINT, POINT[:20], part(7, [POINT, POINT])]).coordinates()
-        levels, bad, null = (it.coordinates, None, None, it.row_offsets), Status.BAD_LEVELS, Status.NULL_ROW
-        both = part(4, [POINT, POINT])
-        for kind, validity, statuses, rows in (
-            (Kind.POINT, b"\7", [0, bad, bad], [POINT, None, None]),
-            (Kind.MULTI_POINT, b"\7", [0, 0, 0], [part(4, [POINT]), part(4, []), both]),
-            (Kind.MULTI_POINT, b"\1", [0, null, null], [part(4, [POINT]), None, None]),
-        ):
-            back = column_from_coordinates(kind, *levels, validity=validity)
-            self.assertEqual((list(back.statuses), list(back.rows)), (statuses, rows))
-
-    def test_hostile(self):
-        """Offsets of any numbers: a row that is written is a geometry of the kind, and no other row has bytes."""
-        random.seed(8)
-        numbers, wild = doubles(*range(12)), [-1, -(2**63), 2**63 - 1, 2**62, 7]
-        found = set()
-        for i in range(3000):
-            kind = Kind(i % 6 + 1)
-            levels = []
-            for _ in range(3):
-                ends = sorted(random.choices(range(7), k=random.randrange(7)))
-                if random.random() < 0.3:
-                    ends = [random.choice(wild) if random.random() < 0.3 else end for end in ends]
-                levels.append(None if random.random() < 0.4 else offsets(0, *ends))
-            it = column_from_coordinates(kind, numbers, *levels)
-            column = Column(it.data, it.offsets)
-            self.assertLessEqual(set(it.statuses), {Status.OK, Status.BAD_LEVELS})
-            for row, status, written in zip(rows_in(it), it.statuses, column.check()):
-                found.add((kind, int(status)))
-                self.assertEqual(written, Status.SHORT_HEADER if status else Status.OK)
-                self.assertEqual(bool(row), status == Status.OK)
-                if row:
-                    self.assertEqual((check(row).kind, check(row).size), (kind, len(row)))
-        self.assertEqual(len(found), 12)
 
 
 class Taken(unittest.TestCase):

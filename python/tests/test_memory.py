@@ -26,8 +26,6 @@ WORDS, ENDS = array.array("d", [1.0, 2.0, 3.0, 4.0]), array.array("i", [0, 1, 2]
 COLLECTION = bytes.fromhex("010700000064000000") + 100 * LINE
 COLUMN, COLUMN_OF_POINTS = Column.of(ROWS), Column.of([POINT, POINT])
 TABLE = wkb.parts(POLYGON)
-# Of so many records the extension keeps the memory once they are freed.
-MOST_SPARES = 16
 
 
 class Ready:
@@ -105,7 +103,8 @@ CALLS = {
     "polygons that go out": lambda: Column.of([POLYGON, None]).coordinates().__arrow_c_array__(),
     "coordinates there and back": lambda: column_from_coordinates(Kind.MULTI_POINT, Column.of([POINTS]).coordinates()),
     "a record": lambda: wkb.Range(1.0, 2.0, 3),
-    "many records": lambda: [wkb.check(POLYGON) for _ in range(MOST_SPARES + 9)],
+    "the values of a record": lambda: (repr(TABLE[0]), hash(TABLE[0]), TABLE[0] == TABLE[1], TABLE[0].__reduce__()),
+    "a record of wrong values": lambda: wkb.Fault(0, 0, 0, 0, 0, 256),
 }
 ALL = {name: (lambda make=make: Ready(make()), take) for name, (make, take) in GIVEN.items()}
 ALL.update((name, (tuple, lambda _, call=call: call())) for name, call in CALLS.items())
@@ -155,15 +154,6 @@ class References(unittest.TestCase):
                 found = [*self.growths(*of)]
                 self.assertLess(len(found), TRIES, found)
 
-    def test_no_cycles(self):
-        """The collector of cycles tracks no record that a call makes, so that long lists of them take no longer; but it
-        tracks the range without numbers, which is one object."""
-        box, table, column = wkb.bounds(POINT), wkb.parts(POINT), Column.of([POINT, b""])
-        made = wkb.check(POINT), box, box.x, table, table[0], column.bounds().boxes[0], column.fault(1)
-        self.assertEqual([it for it in made if gc.is_tracked(it)], [])
-        self.assertTrue(gc.is_tracked(box.z))
-        self.assertIs(box.z, wkb.bounds(POINT).m)
-
     def test_losses_are_seen(self):
         """What keeps an object, a reference or some memory at each call."""
         kept = []
@@ -173,10 +163,10 @@ class References(unittest.TestCase):
 
 def refuse_each(make, call):
     """Refuse one allocation after another during a call, until it has made none of so many. Return how often it has
-    raised a MemoryError; an error that no call documents is not caught. No memory of records is kept before a call."""
+    raised a MemoryError; an error that no call documents is not caught."""
     count, last = 0, 0
     for number in itertools.count():
-        made, held = make(), [wkb.check(POINT) for _ in range(MOST_SPARES)]
+        made = make()
         _testcapi.set_nomemory(number, number + 1)
         try:
             call(made)
@@ -190,7 +180,6 @@ def refuse_each(make, call):
                 raise
         finally:
             _testcapi.remove_mem_hooks()
-            del held
         if number > last + 50:
             return count
 

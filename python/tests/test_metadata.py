@@ -63,6 +63,15 @@ class Metadata(unittest.TestCase):
                      struct.pack("=ii", 1, 2**31 - 1)):
             self.assertIsNone(Column.from_arrow(told_of(Arrow(), metadata=held)).metadata)
         self.assertIsNone(Column.from_arrow(Arrow()).metadata)
+        for name in (b"geoarrow.wkt", b"geoarrow.point"):
+            self.assertRaisesRegex(TypeError, "is not WKB", Column.from_arrow, told_of(Arrow(), metadata=encoded(name)))
+
+    def test_in_wrong(self):
+        """Text that is no JSON object is an error; no text says nothing."""
+        for wrong in (b"{nonsense", b"[1]", b"\xff"):
+            source = told_of(Arrow(), metadata=encoded(text=wrong))
+            self.assertRaisesRegex(ValueError, "metadata is", Column.from_arrow, source)
+        self.assertIsNone(Column.from_arrow(told_of(Arrow(), metadata=encoded(text=b""))).metadata)
 
     def test_out(self):
         column = pickle.loads(pickle.dumps(Column.from_arrow(told_of(Arrow(rows=[POINT, None])))))

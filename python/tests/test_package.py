@@ -1,6 +1,7 @@
 """The package beside wkb.h, its extension, other processes, and the example of the pages."""
 import concurrent.futures
 import ctypes
+import importlib.util
 import inspect
 import io
 import os
@@ -40,11 +41,11 @@ class Header(unittest.TestCase):
                 yield field.strip("*"), types["*"] if "*" in field else types[kind]
 
     def test_records(self):
-        types = {"uint64_t": "i8", "uint32_t": "u4", "double": "f8", "wkb_range": wkb.Range.FIELDS}
-        for record in (wkb.Found, wkb.Fault, wkb.Part, wkb.Range, wkb.Box):
-            fields = list(self.fields(f"wkb_{record.__name__.lower()}", types))
-            self.assertEqual(fields, record.FIELDS)
-            self.assertEqual(_records.layout(fields).size, sum(8 if it[-1] == "8" else 4 for it in _flat(fields)))
+        types = {"uint64_t": "i8", "uint32_t": "u4", "double": "f8", "wkb_range": _records.RANGE}
+        self.assertEqual(list(self.fields("wkb_range", types)), _records.RANGE)
+        for record, known in _records.FIELDS.items():
+            self.assertEqual(list(self.fields(f"wkb_{record.__name__.lower()}", types)), known)
+            self.assertEqual(_records.SIZES[record], sum(8 if it[-1] == "8" else 4 for it in _flat(known)))
 
     def test_numbers(self):
         for numbers in (Status, wkb.Kind, wkb.Dimension, wkb.Order, wkb.Form):
@@ -74,7 +75,6 @@ class Names(unittest.TestCase):
             self.assertRegex(wkb.__doc__, rf"\.{name}\b{call}")
 
     def test_names(self):
-        self.assertEqual(len(self.PUBLIC), 36)
         for name in self.PUBLIC:
             self.assertTrue(getattr(wkb, name).__doc__, name)
         everything = {}
@@ -114,9 +114,9 @@ class Inside(unittest.TestCase):
             shutil.copytree(pathlib.Path(wkb.__file__).parent, f"{folder}/porchsorrel_wkb",
                             ignore=shutil.ignore_patterns("__pycache__"))
             environment = dict(os.environ, PYTHONPATH=folder, WKB_LIBRARY=f"{folder}/none.so")
-            program = "import porchsorrel_wkb as wkb; print(wkb.__file__, wkb.version())"
+            program = "import porchsorrel_wkb as wkb; print(wkb.__file__, len(wkb.version()))"
             ran = subprocess.run([sys.executable, "-c", program], env=environment, stdout=subprocess.PIPE, check=True)
-            self.assertEqual(ran.stdout.decode(), f"{folder}/porchsorrel_wkb/__init__.py (1, 0, 0)\n")
+            self.assertEqual(ran.stdout.decode(), f"{folder}/porchsorrel_wkb/__init__.py 3\n")
 
     def test_names(self):
         """The extension shows its first function alone, so that a program may have another such library."""
@@ -144,6 +144,14 @@ class Example(unittest.TestCase):
         seconds = r"\d+\.\d+ s \(\d+\.\d+\)"
         self.assertRegex(printed, "^" + "".join(f"{it}: {seconds} in one thread, {seconds} in 3\n"
                                                 for it in ("check", "bounds", "write")) + "$")
+
+    @unittest.skipUnless((TOP / "examples/dask_column.py").exists(), "only the repository has the example")
+    @unittest.skipUnless(importlib.util.find_spec("dask"), "Dask is not here")
+    def test_processes(self):
+        command = [sys.executable, TOP / "examples/dask_column.py", "1000", "3"]
+        printed = subprocess.run(command, stdout=subprocess.PIPE, check=True).stdout.decode()
+        self.assertEqual(printed.partition(", greatest=99.0, count=990), y=")[0],
+                         "1000 rows, 10 refused, 891 duplicates\nBox(x=Range(least=1.0")
 
     def test_output(self):
         ran = subprocess.run([sys.executable, C / "examples/example.py"], stdout=subprocess.PIPE, check=True)

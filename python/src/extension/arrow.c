@@ -17,9 +17,8 @@ static void release(int kind, void *it) {
   struct ArrowArray *array = it;
   struct ArrowArrayStream *stream = it;
   PyErr_Fetch(&error[0], &error[1], &error[2]);
-  int is_own = end_own(kind, it);
-  if (!is_own && kind == SCHEMA && schema->release != NULL) schema->release(schema);
-  if (!is_own && kind == ARRAY && array->release != NULL) array->release(array);
+  if (kind == SCHEMA && schema->release != NULL) schema->release(schema);
+  if (kind == ARRAY && array->release != NULL) array->release(array);
   if (kind == STREAM && stream->release != NULL) stream->release(stream);
   PyErr_Restore(error[0], error[1], error[2]);
 }

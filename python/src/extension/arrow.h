@@ -37,7 +37,4 @@ enum { SCHEMA, ARRAY, STREAM };
 extern const char *const STRUCT_NAMES[];
 PyObject *new_struct(const void *from, int kind);
 
-/* arrow_out.c: releases a struct where the lock is held, if it is one that the package has handed out. */
-int end_own(int kind, void *it);
-
 #endif

@@ -1,7 +1,8 @@
 /* SPDX-License-Identifier: MIT OR Apache-2.0 */
-/* Arrays of Arrow that go out. What a struct shows is held by a tuple, and let go when the struct is released. Whoever
- * takes an array trusts its lengths and offsets, so they are tested here. */
-#include <stdatomic.h>
+/* Arrays of Arrow that go out. A consumer may release them in any thread, with the interpreter's lock or without, and
+ * after its end. So a struct holds the package's own memory by its count; for other memory it holds the objects of
+ * Python that have it, which are let go under the lock. Whoever takes an array trusts its lengths and offsets, so they
+ * are tested here. */
 #include <stdlib.h>
 #include <string.h>
 
@@ -10,13 +11,12 @@
 /* An array has validity, offsets and data at most, and a box the most children. */
 enum { MOST_BUFFERS = 3, MOST_CHILDREN = 8 };
 
-/* What is behind a struct: its children, and the tuple that holds its texts or its buffers. */
-typedef struct inside {
+/* What is behind a struct. */
+typedef struct {
   const void *buffers[MOST_BUFFERS];
-  PyObject *node;
-  int64_t interpreter; /* 0 is the main one */
-  uint64_t maker;      /* the module that handed it out: numbers of interpreters come again after Py_Finalize */
-  struct inside *next; /* in the list `parked` */
+  block *blocks[MOST_BUFFERS]; /* with its texts, or with its buffers where these are in the package's own memory */
+  PyObject *others;            /* what holds other buffers, or null */
+  block *running;              /* of the module that handed it out */
   Py_ssize_t count;
   void *children[MOST_CHILDREN];
   union {
@@ -25,74 +25,33 @@ typedef struct inside {
   } child[];
 } inside;
 
-static void forget(inside *own) {
-  Py_DECREF(own->node);
-  PyMem_Free(own);
-}
-
-/* What others have released in sub-interpreters, which is let go when one of these hands out an array again. Any thread
- * adds to the list, without a lock; it is only taken whole, so that each struct in it has one owner. */
-static _Atomic(inside *) parked;
-
-static void park(inside *own) {
-  own->next = atomic_load(&parked);
-  while (!atomic_compare_exchange_weak(&parked, &own->next, own)) {}
-}
-
-static void forget_parked(uint64_t maker) {
-  inside *it = atomic_exchange(&parked, NULL);
-  while (it != NULL) {
-    inside *next = it->next;
-    if (it->maker == maker)
-      forget(it);
-    else
-      park(it);
-    it = next;
-  }
-}
-
-/* Consumers may release from any thread, with or without the lock, and after the interpreter's end, when nothing can be
- * let go. Only the main interpreter's lock can be asked for: where a thread holds that of another, it would wait for
- * ever. Capsules of the package end with the lock. */
-static void let_go(inside *own, int has_lock) {
-  if (has_lock) {
-    forget(own);
-  } else if (own->interpreter != 0) {
-    park(own);
-  } else if (Py_IsInitialized()) {
+/* The interpreter that handed it out may have ended, and another one begun: then nothing is left to let go. */
+static void let_go(inside *own) {
+  for (int i = 0; i < MOST_BUFFERS; i++) let_block(own->blocks[i]);
+  if (own->others != NULL && is_running(own->running) && Py_IsInitialized()) {
     PyGILState_STATE locked = PyGILState_Ensure();
-    forget(own);
+    Py_DECREF(own->others);
     PyGILState_Release(locked);
   }
+  let_block(own->running);
+  free(own);
 }
 
 /* A child that a consumer has moved has no release any more. */
-static void end_schema(struct ArrowSchema *it, int has_lock) {
+static void release_schema(struct ArrowSchema *it) {
   inside *own = it->private_data;
   it->release = NULL;
   for (Py_ssize_t i = 0; i < own->count; i++)
-    if (own->child[i].schema.release != NULL) end_schema(&own->child[i].schema, has_lock);
-  let_go(own, has_lock);
+    if (own->child[i].schema.release != NULL) release_schema(&own->child[i].schema);
+  let_go(own);
 }
 
-static void end_array(struct ArrowArray *it, int has_lock) {
+static void release_array(struct ArrowArray *it) {
   inside *own = it->private_data;
   it->release = NULL;
   for (Py_ssize_t i = 0; i < own->count; i++)
-    if (own->child[i].array.release != NULL) end_array(&own->child[i].array, has_lock);
-  let_go(own, has_lock);
-}
-
-static void release_schema(struct ArrowSchema *it) { end_schema(it, 0); }
-
-static void release_array(struct ArrowArray *it) { end_array(it, 0); }
-
-int end_own(int kind, void *it) {
-  struct ArrowSchema *schema = it;
-  struct ArrowArray *array = it;
-  if (kind == SCHEMA && schema->release == release_schema) return end_schema(schema, 1), 1;
-  if (kind == ARRAY && array->release == release_array) return end_array(array, 1), 1;
-  return 0;
+    if (own->child[i].array.release != NULL) release_array(&own->child[i].array);
+  let_go(own);
 }
 
 /* Whether offsets of 32 or 64 bits don't fall, from 0 on, and end in so many items. */
@@ -137,16 +96,37 @@ static int is_whole(const char *format, int64_t rows, const Py_buffer *view, Py_
   return !has_offsets || are_offsets(view[1].buf, size, rows, is_list ? of_children : view[2].len);
 }
 
-/* Where the bytes of memory views are, which hold them, if they are in one piece and as long as they have to be. */
-static int find_buffers(const char *format, int64_t rows, PyObject *views, PyObject *children, inside *own) {
+/* The package's own memory that a view of Python or an array of numpy shows; null if it shows other memory. The caller
+ * lets it go. */
+static block *block_behind(state *s, PyObject *shown, const Py_buffer *view) {
+  enum { MOST_VIEWS = 8 }; /* of views over views */
+  PyObject *it = Py_NewRef(shown);
+  block *found = NULL;
+  for (int i = 0; it != NULL && (found = block_in(s, it)) == NULL && i < MOST_VIEWS; i++) {
+    PyObject *next = PyObject_GetAttrString(it, PyMemoryView_Check(it) ? "obj" : "base");
+    Py_DECREF(it);
+    it = next;
+  }
+  Py_XDECREF(it);
+  PyErr_Clear();
+  if (found == NULL || has_bytes(found, view->buf, (size_t)view->len)) return found;
+  let_block(found);
+  return NULL;
+}
+
+/* Where the bytes of views are, if they are in one piece and as long as they have to be. */
+static int find_buffers(state *s, const char *format, int64_t rows, PyObject *views, PyObject *children, inside *own) {
   Py_buffer view[MOST_BUFFERS] = {{NULL}};
   Py_ssize_t count = PyTuple_Size(views);
   int64_t of_children = rows_of_children(children);
   int result = of_children < 0 || count < 1 || count > MOST_BUFFERS ? -1 : 0;
   for (Py_ssize_t i = 0; result == 0 && i < count; i++) {
     PyObject *given = PyTuple_GetItem(views, i);
-    if (given != Py_None) result = PyObject_GetBuffer(given, &view[i], PyBUF_ND);
+    if (given == Py_None) continue;
+    result = PyObject_GetBuffer(given, &view[i], PyBUF_ND);
     own->buffers[i] = view[i].buf;
+    own->blocks[i] = result < 0 ? NULL : block_behind(s, given, &view[i]);
+    if (own->blocks[i] == NULL && own->others == NULL) own->others = Py_NewRef(views);
   }
   if (result < 0 && PyErr_ExceptionMatches(PyExc_BufferError))
     PyErr_SetString(PyExc_BufferError, "an array that isn't in one piece can't go out: numpy.ascontiguousarray makes "
@@ -159,21 +139,30 @@ static int find_buffers(const char *format, int64_t rows, PyObject *views, PyObj
   return result;
 }
 
+/* Texts of a schema, in memory of their own. Returns -1 with an error. */
+static int copy_texts(const char *texts[3], Py_ssize_t metadata_size, inside *own) {
+  size_t size[3] = {strlen(texts[0]) + 1, strlen(texts[1]) + 1, texts[2] == NULL ? 0 : (size_t)metadata_size};
+  char *at = new_memory(size[0] + size[1] + size[2], &own->blocks[0]);
+  for (int i = 0; at != NULL && i < 3; i++) {
+    if (texts[i] != NULL) texts[i] = memcpy(at, texts[i], size[i]);
+    at += size[i];
+  }
+  return at == NULL ? -1 : 0;
+}
+
 /* What is behind the struct of a node; null with an error. */
-static inside *new_inside(PyObject *node, PyObject *children, uint64_t maker) {
+static inside *new_inside(state *s, PyObject *children) {
   Py_ssize_t count = PyTuple_Size(children);
   if (count > MOST_CHILDREN) {
     PyErr_Format(PyExc_ValueError, "an array can't have %zd children", count);
     return NULL;
   }
-  inside *own = PyMem_Calloc(1, sizeof *own + (size_t)count * sizeof own->child[0]);
+  inside *own = calloc(1, sizeof *own + (size_t)count * sizeof own->child[0]);
   if (own == NULL) {
     PyErr_NoMemory();
     return NULL;
   }
-  own->node = Py_NewRef(node);
-  own->interpreter = PyInterpreterState_GetID(PyInterpreterState_Get());
-  own->maker = maker;
+  own->running = hold_block(s->running);
   own->count = count;
   for (Py_ssize_t i = 0; i < count; i++) own->children[i] = &own->child[i];
   return own;
@@ -181,29 +170,34 @@ static inside *new_inside(PyObject *node, PyObject *children, uint64_t maker) {
 
 /* Fills a schema or an array from (format, name, metadata or None, flags, length, nulls, views of buffers, children).
  * On failure there is nothing to release. */
-static int fill(int kind, PyObject *node, uint64_t maker, void *out) {
-  const char *format, *name, *metadata;
+static int fill(state *s, int kind, PyObject *node, void *out) {
+  const char *texts[3];
   Py_ssize_t metadata_size;
   long long flags, length, nulls;
   PyObject *views, *children;
-  if (!PyArg_ParseTuple(node, "yyz#LLLO!O!", &format, &name, &metadata, &metadata_size, &flags, &length, &nulls,
+  if (!PyArg_ParseTuple(node, "yyz#LLLO!O!", &texts[0], &texts[1], &texts[2], &metadata_size, &flags, &length, &nulls,
                         &PyTuple_Type, &views, &PyTuple_Type, &children))
     return -1;
-  inside *own = new_inside(node, children, maker);
+  inside *own = new_inside(s, children);
   if (own == NULL) return -1;
-  struct ArrowSchema schema = {
-      format, name, metadata, flags, own->count, (struct ArrowSchema **)own->children, NULL, release_schema, own};
+  int result = kind == SCHEMA ? copy_texts(texts, metadata_size, own)
+                              : find_buffers(s, texts[0], length, views, children, own);
+  struct ArrowSchema schema = {texts[0], texts[1], texts[2], flags, own->count, (struct ArrowSchema **)own->children,
+                               NULL, release_schema, own};
   struct ArrowArray array = {.length = length, .null_count = nulls, .release = release_array, .private_data = own};
   array.n_buffers = PyTuple_Size(views);
   array.buffers = own->buffers;
   array.n_children = own->count;
   array.children = (struct ArrowArray **)own->children;
-  int result = kind == SCHEMA ? 0 : find_buffers(format, length, views, children, own);
   for (Py_ssize_t i = 0; result == 0 && i < own->count; i++)
-    result = fill(kind, PyTuple_GetItem(children, i), maker, &own->child[i]);
+    result = fill(s, kind, PyTuple_GetItem(children, i), &own->child[i]);
   memcpy(out, kind == SCHEMA ? (void *)&schema : (void *)&array, kind == SCHEMA ? sizeof schema : sizeof array);
-  if (result < 0) end_own(kind, out);
-  return result;
+  if (result == 0) return 0;
+  if (kind == SCHEMA)
+    release_schema(out);
+  else
+    release_array(out);
+  return -1;
 }
 
 /* export(node, is_array): the capsule of its array or of its schema. */
@@ -211,11 +205,13 @@ static PyObject *export(PyObject *module, PyObject *args) {
   PyObject *node;
   int is_array;
   if (!PyArg_ParseTuple(args, "O!p", &PyTuple_Type, &node, &is_array)) return NULL;
+  /* Only the main interpreter's lock can be asked for. */
+  if (PyInterpreterState_GetID(PyInterpreterState_Get()) != 0)
+    return PyErr_Format(PyExc_RuntimeError, "in a sub-interpreter no array goes out to packages of Arrow");
   int kind = is_array ? ARRAY : SCHEMA;
-  uint64_t maker = state_of(module)->number;
-  forget_parked(maker);
   PyObject *capsule = new_struct(NULL, kind);
-  if (capsule != NULL && fill(kind, node, maker, PyCapsule_GetPointer(capsule, STRUCT_NAMES[kind])) < 0) Py_CLEAR(capsule);
+  if (capsule != NULL && fill(state_of(module), kind, node, PyCapsule_GetPointer(capsule, STRUCT_NAMES[kind])) < 0)
+    Py_CLEAR(capsule);
   return capsule;
 }
 

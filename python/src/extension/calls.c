@@ -31,8 +31,8 @@ static PyObject *read_one(state *s, PyObject *data, question asked) {
   lock(unlocked);
   PyObject *result = asked == WHETHER_WHOLE    ? PyBool_FromLong(status == WKB_STATUS_OK && found.size == in.size)
                      : status != WKB_STATUS_OK ? refuse(s, status, &fault, 1, in)
-                     : asked == BOUNDS         ? box_of(s, &box)
-                                               : geometry_of(s, FOUND, &found);
+                     : asked == BOUNDS         ? new_record(s, BOX, &box)
+                                               : new_record(s, FOUND, &found);
   let(&h);
   return result;
 }
@@ -142,9 +142,8 @@ static PyObject *parts_of_many(const holds *h, span in, size_t count) {
   return status == WKB_STATUS_OK && again == count ? memory : changed(memory);
 }
 
-/* The table of the parts, in memory of its own. */
+/* The structs of the parts, one after another. */
 static PyObject *parts(PyObject *module, PyObject *data) {
-  state *s = state_of(module);
   wkb_part few[FEW];
   holds h;
   span in;
@@ -161,11 +160,9 @@ static PyObject *parts(PyObject *module, PyObject *data) {
   else if (status == WKB_STATUS_NO_ROOM)
     memory = parts_of_many(&h, in, count);
   else
-    refuse(s, status, &fault, 1, in);
+    refuse(state_of(module), status, &fault, 1, in);
   let(&h);
-  PyObject *table = memory == NULL ? NULL : table_of(s, PART, memory, count);
-  Py_XDECREF(memory);
-  return table;
+  return memory;
 }
 
 /* Whether the bytes have a part where it says: header and count are right, and no byte is missing. */
@@ -180,9 +177,9 @@ static int is_there(span in, const wkb_part *part) {
            part->count == found.count && part->kind == found.kind && part->dimension == found.dimension &&
            part->order == found.order && part->has_srid == found.has_srid && part->srid == found.srid;
   if (size < 4 || part->offset != part->begin + 4) return 0;
-  uint32_t little = (uint32_t)at[0] | (uint32_t)at[1] << 8 | (uint32_t)at[2] << 16 | (uint32_t)at[3] << 24;
-  uint32_t big = (uint32_t)at[3] | (uint32_t)at[2] << 8 | (uint32_t)at[1] << 16 | (uint32_t)at[0] << 24;
-  return part->count == (part->order == WKB_ORDER_LITTLE ? little : big) && part->count <= (size - 4) / 8 / part->width;
+  uint32_t count = 0;
+  for (int i = 0; i < 4; i++) count = count << 8 | at[part->order == WKB_ORDER_LITTLE ? 3 - i : i];
+  return part->count == count && count <= (size - 4) / 8 / part->width;
 }
 
 /* A list with a tuple for each coordinate. */
@@ -208,10 +205,9 @@ static PyObject *read_part_of(state *s, PyObject *const *args, Py_ssize_t count,
   wkb_part part;
   h.count = h.may_change = 0;
   if (count != 2) return PyErr_Format(PyExc_TypeError, "two arguments are expected");
-  int is_part = read_part(s, args[1], &part);
-  if (is_part < 0 || hold_input(&h, args[0], &in) < 0) return NULL;
+  if (read_part(s, args[1], &part) < 0 || hold_input(&h, args[0], &in) < 0) return NULL;
   PyObject *result;
-  if (!is_part || !is_there(in, &part))
+  if (!is_there(in, &part))
     result = PyObject_CallFunctionObjArgs(s->it[NO_SUCH], args[1], NULL);
   else if (for_place)
     result = Py_BuildValue("(nn)", (Py_ssize_t)part.offset, (Py_ssize_t)(part.offset + 8 * part.width * part.count));
@@ -237,16 +233,6 @@ static PyObject *status_text(PyObject *module, PyObject *status) {
   return PyUnicode_FromString(wkb_status_text((uint32_t)number));
 }
 
-/* fault_text(part, offset, end, len, code, status): what a fault says, in one line. */
-static PyObject *fault_text(PyObject *module, PyObject *args) {
-  unsigned long long part, offset, end, len;
-  unsigned code, status;
-  char text[WKB_FAULT_TEXT_ROOM];
-  if (!PyArg_ParseTuple(args, "KKKKII", &part, &offset, &end, &len, &code, &status)) return NULL;
-  const wkb_fault fault = {part, offset, end, len, code, status};
-  return PyUnicode_FromStringAndSize(text, (Py_ssize_t)wkb_fault_text(&fault, text, sizeof text));
-}
-
 #define FAST(CALL) (PyCFunction)(void (*)(void))(CALL), METH_FASTCALL
 PyMethodDef CALLS[] = {
     {"check", check, METH_O, NULL},
@@ -258,7 +244,6 @@ PyMethodDef CALLS[] = {
     {"coordinates", FAST(coordinates), NULL},
     {"place_of_words", FAST(place_of_words), NULL},
     {"status_text", status_text, METH_O, NULL},
-    {"fault_text", fault_text, METH_VARARGS, NULL},
     {"read_record", read_record, METH_VARARGS, NULL},
     {NULL, NULL, 0, NULL},
 };

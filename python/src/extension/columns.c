@@ -177,6 +177,8 @@ static PyObject *column_coordinates(PyObject *module, PyObject *args) {
     PyThreadState *unlocked = unlock(&h, SIZE_MAX);
     wkb_column_coordinates(&column, dimension, &to, out[4].at);
     lock(unlocked);
+    for (int i = 1; i < 4; i++)
+      if (out[i].size >= 8) memset(out[i].at, 0, 8);
     sizes = Py_BuildValue("(nnn)", (Py_ssize_t)to.coordinates, (Py_ssize_t)to.rings, (Py_ssize_t)to.singles);
   }
   let(&h);
@@ -205,11 +207,10 @@ static int hold_levels(holds *h, PyObject *given, uint32_t dimension, wkb_levels
   if (!PyArg_ParseTuple(given, "OOOOOn", &numbers, &levels[0], &levels[1], &levels[2], &validity, &first) ||
       hold_aligned(h, numbers, &words) < 0)
     return -1;
-  size_t width = dimension == WKB_DIM_XY ? 2 : dimension == WKB_DIM_XYZM ? 4 : 3;
   out->words = (const double *)(void *)words.at;
   out->word_count = words.size / sizeof(double);
   out->validity_offset = (size_t)first;
-  if (hold_level(h, levels[0], out->word_count / width, &out->ring_ends, &out->rings) < 0 ||
+  if (hold_level(h, levels[0], out->word_count / width_of(dimension), &out->ring_ends, &out->rings) < 0 ||
       hold_level(h, levels[1], out->rings, &out->single_ends, &out->singles) < 0 ||
       hold_level(h, levels[2], out->singles, &out->row_ends, &out->rows) < 0)
     return -1;

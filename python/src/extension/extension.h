@@ -14,15 +14,15 @@
 
 _Static_assert(sizeof(size_t) == 8, "sizes and offsets are 64-bit integers");
 
-/* What `give` gets of the package: types, tuples of members, and functions. Then what is made here once, at last the
- * types that those of records inherit. */
-enum { FOUND, FAULT, PART, RANGE, BOX, TABLE, REFUSED, STATUSES, TEXTS, KINDS, DIMENSIONS, ORDERS, OPTIONS, NO_SUCH };
-enum { GIVEN = NO_SUCH + 1, EMPTY_RANGE = GIVEN, VALUES, HELD = VALUES + TABLE + 1, MOST_SPARES = 16 };
+/* Memory that counts who holds it (blocks.c). */
+typedef struct block block;
+
+/* What a module keeps: its types of records and of memory; then what it takes of the package: tuples of members of
+ * enums, another enum, an error, and functions. */
+enum { FOUND, FAULT, PART, RANGE, BOX, BLOCK, KINDS, DIMENSIONS, ORDERS, STATUS, REFUSED, OPTIONS, NO_SUCH, HELD };
 typedef struct {
   PyObject *it[HELD];
-  PyObject *spare[MOST_SPARES]; /* memory of records that were freed, for the next ones */
-  int spares;
-  uint64_t number; /* of this module among all that this process has made */
+  block *running; /* says to arrays of Arrow that have gone out whether the module is there */
 } state;
 
 /* Some bytes. */
@@ -48,16 +48,25 @@ void let(holds *h);
 PyThreadState *unlock(const holds *h, size_t size);
 void lock(PyThreadState *unlocked);
 
-/* records.c */
+/* records.c: a new record, of a struct of wkb.h, which is copied. */
 int add_records(PyObject *module);
-void free_spares(state *s);
-PyObject *geometry_of(state *s, int which, const void *from);
-PyObject *box_of(state *s, const wkb_box *box);
-PyObject *fault_of(state *s, const wkb_fault *fault);
-PyObject *table_of(state *s, int which, PyObject *memory, size_t count);
-PyObject *refuse(state *s, uint32_t status, const wkb_fault *fault, uint32_t which, span input);
+PyObject *new_record(state *s, int which, const void *from);
 int read_part(state *s, PyObject *given, wkb_part *out);
 PyObject *read_record(PyObject *module, PyObject *args);
+
+/* refuse.c */
+PyObject *refuse(state *s, uint32_t status, const wkb_fault *fault, uint32_t which, span input);
+
+/* blocks.c: new memory, or null with an error; holds it once more, and once less; that of an object, which is held, or
+ * null; whether it has these bytes. A module keeps one that says whether it is there. */
+int add_blocks(PyObject *module);
+void *new_memory(size_t size, block **out);
+block *hold_block(block *it);
+void let_block(block *it);
+block *block_in(state *s, PyObject *object);
+int has_bytes(const block *it, const void *at, size_t size);
+int is_running(block *it);
+void end_running(block *it);
 
 /* columns.c: holds a column; an error unless something is as long as so many rows need; an offset of a column. */
 int hold_column(holds *h, PyObject *given, wkb_column *out);
@@ -65,7 +74,13 @@ int expect(const char *what, size_t size, size_t least, size_t rows);
 int64_t offset_at(const wkb_column *column, size_t index);
 
 /* The methods of each file. */
-extern PyMethodDef CALLS[], COLUMN_CALLS[], FACT_CALLS[], ROW_CALLS[], ARROW_CALLS[], ARROW_OUT_CALLS[], DUMP_CALLS[];
+extern PyMethodDef CALLS[], COLUMN_CALLS[], FACT_CALLS[], ROW_CALLS[], ARROW_CALLS[], ARROW_OUT_CALLS[], DUMP_CALLS[],
+    BLOCK_CALLS[];
+
+/* The numbers of a coordinate. */
+static inline uint32_t width_of(uint32_t dimension) {
+  return dimension == WKB_DIM_XY ? 2 : dimension == WKB_DIM_XYZM ? 4 : 3;
+}
 
 static inline state *state_of(PyObject *module) { return PyModule_GetState(module); }
 

@@ -57,7 +57,7 @@ static PyObject *facts(PyObject *module, PyObject *args) {
       expect("bytes of geometries", in[1].size / sizeof(wkb_found), in[0].size, in[0].size) == 0 &&
       expect("bytes of boxes", in[2].size / sizeof(wkb_box), in[0].size, in[0].size) == 0) {
     int64_t types = add_up(in[0], in[1], in[2], &all, srids);
-    if (types >= 0) result = Py_BuildValue("(LNO)", (long long)types, box_of(state_of(module), &all), srids);
+    if (types >= 0) result = Py_BuildValue("(LNO)", (long long)types, new_record(state_of(module), BOX, &all), srids);
   }
   let(&h);
   Py_XDECREF(srids);

@@ -1,96 +1,10 @@
 /* SPDX-License-Identifier: MIT OR Apache-2.0 */
-/* Records: objects with a few values at fixed places, which the package's frozen dataclasses and its tables inherit.
- * They hold numbers, members of enums, memory and other such records. The collector of cycles doesn't track them, but for
- * the range without numbers. */
+/* Records: what a call has found, as an object. It holds the numbers of a struct of wkb.h, and no other object but its
+ * type: members of enums, ranges, and an SRID or None are made when they are asked for. */
 #include "extension.h"
 
 #include <string.h>
 #include <structmember.h>
-
-#define PACKAGE "porchsorrel_wkb._wkb."
-enum { MOST_VALUES = 9 };
-typedef struct {
-  PyObject_HEAD PyObject *value[MOST_VALUES];
-  state *home; /* which keeps its memory once it is freed; null unless it was made here */
-} record;
-
-static const struct {
-  const char *name, *fields[MOST_VALUES + 1];
-} RECORD[] = {
-    [FOUND] = {PACKAGE "FoundValues",
-               {"size", "parts", "coordinates", "offset", "count", "srid", "kind", "dimension", "order"}},
-    [FAULT] = {PACKAGE "FaultValues", {"part", "offset", "end", "len", "code", "status"}},
-    [PART] = {PACKAGE "PartValues", {"begin", "end", "offset", "count", "next", "srid", "kind", "dimension", "order"}},
-    [RANGE] = {PACKAGE "RangeValues", {"least", "greatest", "count"}},
-    [BOX] = {PACKAGE "BoxValues", {"x", "y", "z", "m"}},
-    [TABLE] = {PACKAGE "TableValues", {"_record", "_memory", "_count"}},
-};
-
-/* A state lives as long as its records: they hold their types, and these the module. It keeps no memory once it has
- * been cleared. */
-static void dealloc_record(PyObject *self) {
-  for (int i = 0; i < MOST_VALUES; i++) Py_XDECREF(((record *)self)->value[i]);
-  PyTypeObject *type = Py_TYPE(self); /* a heap type, of which each object has a reference */
-  state *home = ((record *)self)->home;
-  if (home != NULL && home->it[FOUND] != NULL && home->spares < MOST_SPARES)
-    home->spare[home->spares++] = self;
-  else
-    ((freefunc)PyType_GetSlot(type, Py_tp_free))(self);
-  Py_DECREF(type);
-}
-
-/* Adds the types with the values of records. Members are copied, but for their names. */
-int add_records(PyObject *module) {
-  for (int which = FOUND; which <= TABLE; which++) {
-    PyMemberDef members[MOST_VALUES + 1] = {{NULL, 0, 0, 0, NULL}};
-    for (int i = 0; RECORD[which].fields[i] != NULL; i++) {
-      Py_ssize_t place = (Py_ssize_t)(offsetof(record, value) + (size_t)i * sizeof(PyObject *));
-      members[i] = (PyMemberDef){RECORD[which].fields[i], T_OBJECT_EX, place, 0, NULL};
-    }
-    PyType_Slot slots[] = {{Py_tp_dealloc, (void *)dealloc_record}, {Py_tp_members, members}, {0, NULL}};
-    PyType_Spec spec = {RECORD[which].name, sizeof(record), 0, Py_TPFLAGS_DEFAULT | Py_TPFLAGS_BASETYPE, slots};
-    PyObject *type = PyType_FromModuleAndSpec(module, &spec, NULL);
-    if (type == NULL) return -1;
-    state_of(module)->it[VALUES + which] = type;
-    if (PyModule_AddType(module, (PyTypeObject *)type) < 0) return -1;
-  }
-  return 0;
-}
-
-/* In memory of a freed record, if there is such: all are equally long. The collector of cycles doesn't track it. */
-static record *new_record(state *s, int which) {
-  PyTypeObject *type = (PyTypeObject *)s->it[which];
-  record *it = NULL;
-  if (type == NULL)
-    PyErr_SetString(PyExc_RuntimeError, "the package has not given its types");
-  else if (s->spares > 0)
-    it = (record *)PyObject_Init(s->spare[--s->spares], type);
-  else
-    it = PyObject_GC_New(record, type);
-  if (it == NULL) return NULL;
-  memset(it->value, 0, sizeof it->value);
-  it->home = s;
-  return it;
-}
-
-/* Frees the memory that is kept: each piece as a record that isn't kept. */
-void free_spares(state *s) {
-  while (s->spares > 0) {
-    record *it = new_record(s, FOUND);
-    it->home = NULL;
-    Py_DECREF(it);
-  }
-}
-
-/* The record if it has its values, of which there are so many; else null, with the error of one that it lacks. */
-static PyObject *whole(record *it, int count) {
-  for (int i = 0; i < count; i++) {
-    if (it->value[i] != NULL) continue;
-    Py_DECREF(it);
-    return NULL;
-  }
-  return (PyObject *)it;
-}
 
 /* What a wkb_found and a wkb_part have alike: five numbers, and the type of a geometry. */
 typedef struct {
@@ -101,179 +15,391 @@ _Static_assert(sizeof(geometry) == sizeof(wkb_found) && sizeof(geometry) == size
 _Static_assert(offsetof(geometry, order) == offsetof(wkb_found, order), "another wkb_found");
 _Static_assert(offsetof(geometry, order) == offsetof(wkb_part, order), "another wkb_part");
 
-PyObject *geometry_of(state *s, int which, const void *from) {
-  geometry g;
-  memcpy(&g, from, sizeof g);
-  record *it = new_record(s, which);
-  if (it == NULL) return NULL;
-  for (int i = 0; i < 5; i++) it->value[i] = PyLong_FromLongLong((int64_t)g.numbers[i]);
-  it->value[5] = g.has_srid ? PyLong_FromUnsignedLong(g.srid) : Py_NewRef(Py_None);
-  /* The numbers of a table that was pickled may have no members, which is an IndexError. */
-  it->value[6] = Py_XNewRef(PyTuple_GetItem(s->it[KINDS], g.kind));
-  it->value[7] = Py_XNewRef(PyTuple_GetItem(s->it[DIMENSIONS], g.dimension));
-  it->value[8] = Py_XNewRef(PyTuple_GetItem(s->it[ORDERS], g.order));
-  return whole(it, 9);
+typedef union {
+  wkb_found found;
+  wkb_fault fault;
+  wkb_part part;
+  wkb_range range;
+  wkb_box box;
+  geometry geometry;
+} values;
+
+typedef struct {
+  PyObject_HEAD
+  values is;
+} record;
+
+static const size_t SIZES[] = {sizeof(wkb_found), sizeof(wkb_fault), sizeof(wkb_part), sizeof(wkb_range),
+                               sizeof(wkb_box)};
+
+static PyObject *new_of_type(PyObject *type, const void *from, size_t size) {
+  record *it = PyObject_New(record, (PyTypeObject *)type);
+  return it == NULL ? NULL : (memcpy(&it->is, from, size), (PyObject *)it);
 }
 
-/* A range. Those without numbers are one object, which the collector tracks: the module holds it, and it its type, which
- * holds the module. */
-static PyObject *range_of(state *s, const wkb_range *r) {
-  if (r->count == 0 && s->it[EMPTY_RANGE] != NULL) return Py_NewRef(s->it[EMPTY_RANGE]);
-  record *it = new_record(s, RANGE);
-  if (it == NULL) return NULL;
-  it->value[0] = PyFloat_FromDouble(r->least);
-  it->value[1] = PyFloat_FromDouble(r->greatest);
-  it->value[2] = PyLong_FromLongLong((int64_t)r->count);
-  PyObject *made = whole(it, 3);
-  if (made == NULL || r->count > 0 || !(r->least > r->greatest)) return made;
-  it->home = NULL; /* the collector may end the module, and its state, before this one */
-  PyObject_GC_Track(made);
-  return s->it[EMPTY_RANGE] = Py_NewRef(made);
+/* What the module keeps; null with an error where it has ended. */
+static PyObject *kept(state *s, int which) {
+  if (s == NULL || s->it[which] == NULL) return PyErr_Format(PyExc_RuntimeError, "the extension has ended");
+  return s->it[which];
 }
 
-PyObject *box_of(state *s, const wkb_box *box) {
-  record *it = new_record(s, BOX);
-  if (it == NULL) return NULL;
-  it->value[0] = range_of(s, &box->x);
-  it->value[1] = range_of(s, &box->y);
-  it->value[2] = range_of(s, &box->z);
-  it->value[3] = range_of(s, &box->m);
-  return whole(it, 4);
+PyObject *new_record(state *s, int which, const void *from) {
+  PyObject *type = kept(s, which);
+  return type == NULL ? NULL : new_of_type(type, from, SIZES[which]);
 }
 
-/* The table of so many such records, in this memory. */
-PyObject *table_of(state *s, int which, PyObject *memory, size_t count) {
-  record *it = new_record(s, TABLE);
-  if (it == NULL) return NULL;
-  it->value[0] = Py_NewRef(s->it[which]);
-  it->value[1] = Py_NewRef(memory);
-  it->value[2] = PyLong_FromSize_t(count);
-  return whole(it, 3);
+/* Each object of a heap type has a reference to it. */
+static void dealloc_record(PyObject *self) {
+  PyTypeObject *type = Py_TYPE(self);
+  ((freefunc)PyType_GetSlot(type, Py_tp_free))(self);
+  Py_DECREF(type);
 }
 
-PyObject *fault_of(state *s, const wkb_fault *f) {
-  const uint64_t numbers[] = {f->part, f->offset, f->end, f->len, f->code};
-  record *it = new_record(s, FAULT);
-  if (it == NULL) return NULL;
-  for (int i = 0; i < 5; i++) it->value[i] = PyLong_FromLongLong((int64_t)numbers[i]);
-  it->value[5] = Py_XNewRef(PyTuple_GetItem(s->it[STATUSES], f->status));
-  return whole(it, 6);
+/* Whether the numbers of a type of geometry, or a status, have names. */
+static int have_names(int which, const values *is) {
+  if (which == FAULT) return is->fault.status < 256;
+  const geometry *g = &is->geometry;
+  return which > PART || (g->kind <= WKB_KIND_GEOMETRY_COLLECTION && g->dimension <= WKB_DIM_XYZM &&
+                          g->order <= WKB_ORDER_LITTLE);
 }
 
-/* Whether bytes are a geometry in hexadecimal text: a byte order and a code at least. */
-static int is_hexadecimal(span input) {
-  if (input.size < 10 || input.at[0] != '0' || (input.at[1] != '0' && input.at[1] != '1')) return 0;
-  for (int i = 0; i < 10; i++)
-    if (input.at[i] == 0 || strchr("0123456789abcdefABCDEF", input.at[i]) == NULL) return 0;
-  return 1;
+/* What is read by name. */
+
+static PyObject *member_of(PyObject *self, int which, uint32_t number) {
+  PyObject *of = kept(PyType_GetModuleState(Py_TYPE(self)), which);
+  if (of == NULL || which == STATUS) return of == NULL ? NULL : PyObject_CallFunction(of, "I", number);
+  return Py_XNewRef(PyTuple_GetItem(of, number));
 }
 
-/* The bytes before the geometry in a blob of a GeoPackage: its header, and an envelope of one of five sizes. Else 0. */
-static int front_of_geopackage(span input) {
-  static const int FRONTS[8] = {8, 40, 56, 56, 72, 0, 0, 0};
-  return input.size >= 8 && memcmp(input.at, "GP", 2) == 0 ? FRONTS[input.at[3] >> 1 & 7] : 0;
+static PyObject *srid_of(PyObject *self, void *closure) {
+  const geometry *g = &((record *)self)->is.geometry;
+  return g->has_srid ? PyLong_FromUnsignedLong(g->srid) : Py_NewRef(Py_None);
 }
 
-/* Whether bytes are a blob of SpatiaLite: a mark before its header, after the bounds, and at the end. */
-static int is_spatialite(span input) {
-  enum { END_OF_BOUNDS = 38 };
-  return input.size > END_OF_BOUNDS + 5 && input.at[0] == 0 && input.at[1] <= 1 && input.at[END_OF_BOUNDS] == 0x7c &&
-         input.at[input.size - 1] == 0xfe;
+static PyObject *kind_of(PyObject *self, void *closure) {
+  return member_of(self, KINDS, ((record *)self)->is.geometry.kind);
 }
 
-/* Whether bytes are a TinyPoint of SpatiaLite: marks at both ends, and the size that its dimension needs. */
-static int is_tiny_point(span input) {
-  enum { DIMENSION = 6 };
-  static const unsigned char SIZES[] = {0, 24, 32, 32, 40};
-  return input.size > DIMENSION && input.at[0] == 0 && (input.at[1] | 1) == 0x81 && input.at[DIMENSION] <= 4 &&
-         input.size == SIZES[input.at[DIMENSION]] && input.at[input.size - 1] == 0xfe;
+static PyObject *dimension_of(PyObject *self, void *closure) {
+  return member_of(self, DIMENSIONS, ((record *)self)->is.geometry.dimension);
 }
 
-/* What to call where the bytes are rejected at the first one or in the first code, but are a geometry otherwise. */
-static PyObject *hint_for(const wkb_fault *fault, span input) {
-  int is_start = fault->part == 0, front = front_of_geopackage(input);
-  if (is_start && fault->status == WKB_STATUS_INVALID_BYTE_ORDER && is_hexadecimal(input))
-    return PyUnicode_FromString("; bytes.fromhex(data.decode()) are the bytes of this hexadecimal text");
-  if (is_start && fault->status == WKB_STATUS_INVALID_BYTE_ORDER && front > 0)
-    return PyUnicode_FromFormat("; this is the blob of a GeoPackage, whose geometry is data[%d:]", front);
-  if (is_start && fault->status == WKB_STATUS_CODE_OUT_OF_RANGE && (is_spatialite(input) || is_tiny_point(input)))
-    return PyUnicode_FromString("; this is a blob of SpatiaLite, whose AsBinary(blob) is WKB");
-  return PyUnicode_FromString("");
+static PyObject *order_of(PyObject *self, void *closure) {
+  return member_of(self, ORDERS, ((record *)self)->is.geometry.order);
 }
 
-/* Raises what a status reports of an input, the first or the second one. */
-PyObject *refuse(state *s, uint32_t status, const wkb_fault *fault, uint32_t which, span input) {
-  const char *text = wkb_status_text(status);
-  if (!wkb_status_is_refusal(status)) {
-    PyErr_SetString(PyExc_ValueError, text);
+static PyObject *status_of(PyObject *self, void *closure) {
+  return member_of(self, STATUS, ((record *)self)->is.fault.status);
+}
+
+/* A range of a box, which is so many bytes behind its start. */
+static PyObject *range_at(PyObject *self, void *place) {
+  return new_record(PyType_GetModuleState(Py_TYPE(self)), RANGE, (char *)&((record *)self)->is + (uintptr_t)place);
+}
+
+#define NUMBER(TYPE, STRUCT, NAME) {#NAME, TYPE, offsetof(record, is.STRUCT.NAME), READONLY, NULL}
+static PyMemberDef FOUND_NUMBERS[] = {
+    NUMBER(T_LONGLONG, found, size),   NUMBER(T_LONGLONG, found, parts), NUMBER(T_LONGLONG, found, coordinates),
+    NUMBER(T_LONGLONG, found, offset), NUMBER(T_LONGLONG, found, count), {NULL, 0, 0, 0, NULL},
+};
+static PyMemberDef PART_NUMBERS[] = {
+    NUMBER(T_LONGLONG, part, begin), NUMBER(T_LONGLONG, part, end),  NUMBER(T_LONGLONG, part, offset),
+    NUMBER(T_LONGLONG, part, count), NUMBER(T_LONGLONG, part, next), {NULL, 0, 0, 0, NULL},
+};
+static PyMemberDef FAULT_NUMBERS[] = {
+    NUMBER(T_LONGLONG, fault, part), NUMBER(T_LONGLONG, fault, offset), NUMBER(T_LONGLONG, fault, end),
+    NUMBER(T_LONGLONG, fault, len),  NUMBER(T_UINT, fault, code),       {NULL, 0, 0, 0, NULL},
+};
+static PyMemberDef RANGE_NUMBERS[] = {
+    NUMBER(T_DOUBLE, range, least),
+    NUMBER(T_DOUBLE, range, greatest),
+    NUMBER(T_LONGLONG, range, count),
+    {NULL, 0, 0, 0, NULL},
+};
+static PyGetSetDef OF_GEOMETRY[] = {
+    {"srid", srid_of, NULL, NULL, NULL},           {"kind", kind_of, NULL, NULL, NULL},
+    {"dimension", dimension_of, NULL, NULL, NULL}, {"order", order_of, NULL, NULL, NULL},
+    {NULL, NULL, NULL, NULL, NULL},
+};
+static PyGetSetDef OF_FAULT[] = {{"status", status_of, NULL, NULL, NULL}, {NULL, NULL, NULL, NULL, NULL}};
+#define AXIS(NAME) {#NAME, range_at, NULL, NULL, (void *)offsetof(wkb_box, NAME)}
+static PyGetSetDef OF_BOX[] = {AXIS(x), AXIS(y), AXIS(z), AXIS(m), {NULL, NULL, NULL, NULL, NULL}};
+
+/* What is made of values. */
+
+/* Reads a number of 32 bits, as PyArg_Parse calls it. */
+static int to_number(PyObject *given, void *out) {
+  unsigned long number = PyLong_AsUnsignedLong(given);
+  if (PyErr_Occurred()) return 0;
+  if (number > UINT32_MAX) PyErr_Format(PyExc_OverflowError, "%R has more than 32 bits", given);
+  *(uint32_t *)out = (uint32_t)number;
+  return number <= UINT32_MAX;
+}
+
+static int to_srid(PyObject *given, void *out) {
+  geometry *g = out;
+  g->has_srid = given != Py_None;
+  return given == Py_None || to_number(given, &g->srid);
+}
+
+/* A new record of these values, if they have names. */
+static PyObject *named(PyTypeObject *type, int which, const values *is) {
+  if (have_names(which, is)) return new_of_type((PyObject *)type, is, SIZES[which]);
+  return PyErr_Format(PyExc_ValueError, "a kind, a dimension, an order or a status has no such number");
+}
+
+static PyObject *new_geometry(PyTypeObject *type, int which, PyObject *args, PyObject *by_name, char **names) {
+  values is = {.geometry = {.width = 0}};
+  geometry *g = &is.geometry;
+  long long n[5];
+  if (!PyArg_ParseTupleAndKeywords(args, by_name, "LLLLLO&O&O&O&", names, &n[0], &n[1], &n[2], &n[3], &n[4], to_srid, g,
+                                   to_number, &g->kind, to_number, &g->dimension, to_number, &g->order))
     return NULL;
-  }
-  PyObject *it = fault_of(s, fault), *held = it == NULL ? NULL : PyTuple_GetItem(s->it[TEXTS], status);
-  PyObject *number = held == NULL ? NULL : PyLong_FromUnsignedLong(which);
-  PyObject *hint = number == NULL ? NULL : hint_for(fault, input);
-  PyObject *values = hint == NULL ? NULL : PyTuple_Pack(4, it, number, held, hint);
-  Py_XDECREF(hint);
-  Py_XDECREF(number);
-  Py_XDECREF(it);
-  if (values != NULL) PyErr_SetObject(s->it[REFUSED], values);
-  Py_XDECREF(values);
-  return NULL;
+  for (int i = 0; i < 5; i++) g->numbers[i] = (uint64_t)n[i];
+  g->width = width_of(g->dimension);
+  return named(type, which, &is);
 }
 
-/* The number of a value that a record has; 0, and 1 more of `wrong`, where it is none from 0 to `most`. */
-static uint64_t number_of(const record *it, int place, uint64_t most, int *wrong) {
-  uint64_t number = PyLong_AsUnsignedLongLong(it->value[place]);
-  if (number <= most) return number;
-  PyErr_Clear();
-  *wrong += 1;
+static char *FOUND_NAMES[] = {"size", "parts", "coordinates", "offset", "count", "srid", "kind", "dimension", "order",
+                              NULL};
+static PyObject *new_found(PyTypeObject *type, PyObject *args, PyObject *by_name) {
+  return new_geometry(type, FOUND, args, by_name, FOUND_NAMES);
+}
+
+static char *PART_NAMES[] = {"begin", "end", "offset", "count", "next", "srid", "kind", "dimension", "order", NULL};
+static PyObject *new_part(PyTypeObject *type, PyObject *args, PyObject *by_name) {
+  return new_geometry(type, PART, args, by_name, PART_NAMES);
+}
+
+static char *FAULT_NAMES[] = {"part", "offset", "end", "len", "code", "status", NULL};
+static PyObject *new_fault(PyTypeObject *type, PyObject *args, PyObject *by_name) {
+  long long part, offset, end, len;
+  values is;
+  if (!PyArg_ParseTupleAndKeywords(args, by_name, "LLLLO&O&", FAULT_NAMES, &part, &offset, &end, &len, to_number,
+                                   &is.fault.code, to_number, &is.fault.status))
+    return NULL;
+  is.fault.part = (uint64_t)part;
+  is.fault.offset = (uint64_t)offset;
+  is.fault.end = (uint64_t)end;
+  is.fault.len = (uint64_t)len;
+  return named(type, FAULT, &is);
+}
+
+static char *RANGE_NAMES[] = {"least", "greatest", "count", NULL};
+static PyObject *new_range(PyTypeObject *type, PyObject *args, PyObject *by_name) {
+  long long count;
+  values is;
+  if (!PyArg_ParseTupleAndKeywords(args, by_name, "ddL", RANGE_NAMES, &is.range.least, &is.range.greatest, &count))
+    return NULL;
+  is.range.count = (uint64_t)count;
+  return named(type, RANGE, &is);
+}
+
+static char *BOX_NAMES[] = {"x", "y", "z", "m", NULL};
+static PyObject *new_box(PyTypeObject *type, PyObject *args, PyObject *by_name) {
+  PyObject *range = kept(PyType_GetModuleState(type), RANGE);
+  record *axis[4];
+  values is;
+  if (range == NULL || !PyArg_ParseTupleAndKeywords(args, by_name, "O!O!O!O!", BOX_NAMES, range, &axis[0], range,
+                                                    &axis[1], range, &axis[2], range, &axis[3]))
+    return NULL;
+  is.box = (wkb_box){axis[0]->is.range, axis[1]->is.range, axis[2]->is.range, axis[3]->is.range};
+  return named(type, BOX, &is);
+}
+
+/* What is done with all values of a record: by their names, a tuple. */
+
+static PyObject *names_of(PyObject *self) { return PyObject_GetAttrString(self, "__match_args__"); }
+
+static PyObject *values_of(PyObject *self) {
+  PyObject *names = names_of(self);
+  Py_ssize_t count = names == NULL ? -1 : PyTuple_Size(names);
+  PyObject *all = count < 0 ? NULL : PyTuple_New(count);
+  for (Py_ssize_t i = 0; all != NULL && i < count; i++) {
+    PyObject *it = PyObject_GetAttr(self, PyTuple_GetItem(names, i));
+    if (it == NULL || PyTuple_SetItem(all, i, it) < 0) Py_CLEAR(all);
+  }
+  Py_XDECREF(names);
+  return all;
+}
+
+static PyObject *compare_records(PyObject *self, PyObject *other, int operator) {
+  if (Py_TYPE(self) != Py_TYPE(other) || (operator != Py_EQ && operator != Py_NE)) return Py_NewRef(Py_NotImplemented);
+  PyObject *ours = values_of(self), *theirs = ours == NULL ? NULL : values_of(other);
+  PyObject *result = theirs == NULL ? NULL : PyObject_RichCompare(ours, theirs, operator);
+  Py_XDECREF(theirs);
+  Py_XDECREF(ours);
+  return result;
+}
+
+static Py_hash_t hash_record(PyObject *self) {
+  PyObject *all = values_of(self);
+  Py_hash_t hash = all == NULL ? -1 : PyObject_Hash(all);
+  Py_XDECREF(all);
+  return hash;
+}
+
+static PyObject *reduce_record(PyObject *self, PyObject *unused) {
+  PyObject *all = values_of(self);
+  return all == NULL ? NULL : Py_BuildValue("(ON)", Py_TYPE(self), all);
+}
+
+/* Found(size=21, parts=1, ..) */
+static PyObject *repr_record(PyObject *self) {
+  PyObject *names = names_of(self), *all = names == NULL ? NULL : values_of(self);
+  PyObject *text = all == NULL ? NULL : PyType_GetName(Py_TYPE(self));
+  for (Py_ssize_t i = 0; text != NULL && i < PyTuple_Size(all); i++) {
+    PyObject *longer = PyUnicode_FromFormat("%U%s%U=%R", text, i == 0 ? "(" : ", ", PyTuple_GetItem(names, i),
+                                            PyTuple_GetItem(all, i));
+    Py_DECREF(text);
+    text = longer;
+  }
+  PyObject *whole = text == NULL ? NULL : PyUnicode_FromFormat("%U)", text);
+  Py_XDECREF(text);
+  Py_XDECREF(all);
+  Py_XDECREF(names);
+  return whole;
+}
+
+static PyObject *text_of_fault(PyObject *self) {
+  char text[WKB_FAULT_TEXT_ROOM];
+  return PyUnicode_FromStringAndSize(text, (Py_ssize_t)wkb_fault_text(&((record *)self)->is.fault, text, sizeof text));
+}
+
+/* The types. */
+
+#define OF_A_TYPE                                                        \
+  "\n:ivar srid: the SRID of EWKB; None if there is none"                \
+  "\n:ivar kind: the kind, a `Kind`"                                     \
+  "\n:ivar dimension: the dimension, a `Dimension`"                      \
+  "\n:ivar order: the byte order, an `Order`"
+static const struct {
+  const char *name, *doc;
+  char **names;
+  PyMemberDef *numbers;
+  PyGetSetDef *others;
+  newfunc make;
+} RECORD[] = {
+    [FOUND] = {"porchsorrel_wkb._records.Found",
+               "The geometry at the start of some bytes.\n"
+               "\n:ivar size: how many bytes it has; the bytes after them were not looked at"
+               "\n:ivar parts: how many parts it has: itself, and its rings and members at every level"
+               "\n:ivar coordinates: how many all parts have; each point has one, an empty point one of NaNs"
+               "\n:ivar offset: the byte where its own coordinates, rings or members begin"
+               "\n:ivar count: how many of these it has; a point has one coordinate" OF_A_TYPE,
+               FOUND_NAMES, FOUND_NUMBERS, OF_GEOMETRY, new_found},
+    [FAULT] = {"porchsorrel_wkb._records.Fault",
+               "The part that is rejected, and why. `str` of it says this in one line.\n"
+               "\n:ivar part: how many parts come before it, in preorder: 0 is the whole geometry"
+               "\n:ivar offset: the byte where it begins, counted from the start of the input"
+               "\n:ivar end: of a status from 48 on: how many bytes it needs; else 0"
+               "\n:ivar len: of a status from 48 on: how many bytes there are, from its own first one on; else 0"
+               "\n:ivar code: of CODE_OUT_OF_RANGE: all bits of the code; else 0"
+               "\n:ivar status: why it is rejected, a `Status`",
+               FAULT_NAMES, FAULT_NUMBERS, OF_FAULT, new_fault},
+    [PART] = {"porchsorrel_wkb._records.Part",
+              "A geometry, or a ring of a polygon. Its rings or members follow it in the table, each followed by its "
+              "own.\n"
+              "\n:ivar begin: its first byte, counted from the start of the input"
+              "\n:ivar end: one past its last byte"
+              "\n:ivar offset: the byte where its coordinates, rings or members begin"
+              "\n:ivar count: how many of these it has; a point has one coordinate, an empty point one of NaNs"
+              "\n:ivar next: the index of the part after its own rings and members" OF_A_TYPE,
+              PART_NAMES, PART_NUMBERS, OF_GEOMETRY, new_part},
+    [RANGE] = {"porchsorrel_wkb._records.Range",
+               "The range of an ordinate over all coordinates that have one. NaNs are left out.\n"
+               "\n:ivar least: the least number; infinity where the count is 0"
+               "\n:ivar greatest: the greatest number; minus infinity where the count is 0"
+               "\n:ivar count: how many numbers there are",
+               RANGE_NAMES, RANGE_NUMBERS, NULL, new_range},
+    [BOX] = {"porchsorrel_wkb._records.Box",
+             "The bounds of a geometry: z of coordinates that have a z, m of those that have an m.\n"
+             "\n:ivar x: the range of x"
+             "\n:ivar y: the range of y"
+             "\n:ivar z: the range of z"
+             "\n:ivar m: the range of m",
+             BOX_NAMES, NULL, OF_BOX, new_box},
+};
+
+/* The tuple of some names. */
+static PyObject *tuple_of(char *const *names) {
+  PyObject *list = PyList_New(0);
+  for (; list != NULL && *names != NULL; names++) {
+    PyObject *name = PyUnicode_FromString(*names);
+    if (name == NULL || PyList_Append(list, name) < 0) Py_CLEAR(list);
+    Py_XDECREF(name);
+  }
+  PyObject *tuple = list == NULL ? NULL : PyList_AsTuple(list);
+  Py_XDECREF(list);
+  return tuple;
+}
+
+int add_records(PyObject *module) {
+  static PyMethodDef METHODS[] = {{"__reduce__", reduce_record, METH_NOARGS, NULL}, {NULL, NULL, 0, NULL}};
+  static PyMemberDef NONE[] = {{NULL, 0, 0, 0, NULL}};
+  static PyGetSetDef NO_OTHERS[] = {{NULL, NULL, NULL, NULL, NULL}};
+  for (int which = FOUND; which <= BOX; which++) {
+    PyType_Slot slots[] = {
+        {Py_tp_doc, (void *)RECORD[which].doc},
+        {Py_tp_members, RECORD[which].numbers == NULL ? NONE : RECORD[which].numbers},
+        {Py_tp_getset, RECORD[which].others == NULL ? NO_OTHERS : RECORD[which].others},
+        {Py_tp_methods, METHODS},
+        {Py_tp_new, (void *)RECORD[which].make},
+        {Py_tp_repr, (void *)repr_record},
+        {Py_tp_str, which == FAULT ? (void *)text_of_fault : (void *)repr_record},
+        {Py_tp_hash, (void *)hash_record},
+        {Py_tp_richcompare, (void *)compare_records},
+        {Py_tp_dealloc, (void *)dealloc_record},
+        {0, NULL},
+    };
+    PyType_Spec spec = {RECORD[which].name, (int)(offsetof(record, is) + SIZES[which]), 0, Py_TPFLAGS_DEFAULT, slots};
+    PyObject *type = PyType_FromModuleAndSpec(module, &spec, NULL), *names = NULL;
+    state_of(module)->it[which] = type;
+    int added = type == NULL || (names = tuple_of(RECORD[which].names)) == NULL ? -1 : 0;
+    if (added == 0) added = PyObject_SetAttrString(type, "__match_args__", names);
+    Py_XDECREF(names);
+    if (added < 0 || PyModule_AddType(module, (PyTypeObject *)type) < 0) return -1;
+  }
   return 0;
 }
 
-/* Reads a Part, or the geometry of a Found. Returns 1, 0 if no part has such values, or -1 with an error. */
+/* Reads a Part, or the geometry of a Found. Returns -1 with an error if it is neither. */
 int read_part(state *s, PyObject *given, wkb_part *out) {
-  int is_part = (PyObject *)Py_TYPE(given) == s->it[PART], wrong = 0;
-  const record *it = (const record *)given;
+  const geometry *g = &((const record *)given)->is.geometry;
+  int is_part = (PyObject *)Py_TYPE(given) == s->it[PART];
   if (!is_part && (PyObject *)Py_TYPE(given) != s->it[FOUND]) {
     PyErr_Format(PyExc_TypeError, "a Part of parts(data) or the Found of check(data) is expected, and not %R",
                  (PyObject *)Py_TYPE(given));
     return -1;
   }
-  *out = (wkb_part){.begin = is_part ? number_of(it, 0, INT64_MAX, &wrong) : 0};
-  out->offset = number_of(it, is_part ? 2 : 3, INT64_MAX, &wrong);
-  out->count = number_of(it, is_part ? 3 : 4, UINT32_MAX, &wrong);
-  out->has_srid = it->value[5] != Py_None;
-  if (out->has_srid) out->srid = (uint32_t)number_of(it, 5, UINT32_MAX, &wrong);
-  out->kind = (uint32_t)number_of(it, 6, WKB_KIND_GEOMETRY_COLLECTION, &wrong);
-  out->dimension = (uint32_t)number_of(it, 7, WKB_DIM_XYZM, &wrong);
-  out->width = out->dimension == WKB_DIM_XY ? 2 : out->dimension == WKB_DIM_XYZM ? 4 : 3;
-  out->order = (uint32_t)number_of(it, 8, WKB_ORDER_LITTLE, &wrong);
-  return wrong == 0;
+  memcpy(out, g, sizeof *out);
+  out->width = width_of(g->dimension);
+  if (is_part) return 0;
+  const wkb_found *found = &((const record *)given)->is.found;
+  out->begin = 0;
+  out->offset = found->offset;
+  out->count = found->count;
+  return 0;
 }
 
 /* read_record(type, memory, index): a record of a table. */
 PyObject *read_record(PyObject *module, PyObject *args) {
-  static const size_t SIZES[] = {sizeof(wkb_found), sizeof(wkb_fault), sizeof(wkb_part), SIZE_MAX, sizeof(wkb_box)};
   state *s = state_of(module);
   PyObject *type, *memory, *result = NULL;
   Py_ssize_t index;
   holds h;
   span in;
-  wkb_box box;
-  wkb_fault fault;
-  int which = 0;
+  values is;
+  int which = FOUND;
   h.count = h.may_change = 0;
   if (!PyArg_ParseTuple(args, "OOn", &type, &memory, &index) || hold_input(&h, memory, &in) < 0) return NULL;
   while (which <= BOX && s->it[which] != type) which++;
-  int is_there = which <= BOX && index >= 0 && (size_t)index < in.size / SIZES[which];
-  const uint8_t *at = is_there ? in.at + (size_t)index * SIZES[which] : NULL;
-  if (!is_there)
+  if (which <= BOX && index >= 0 && (size_t)index < in.size / SIZES[which]) {
+    memcpy(&is, in.at + (size_t)index * SIZES[which], SIZES[which]);
+    result = named((PyTypeObject *)type, which, &is);
+  } else {
     PyErr_SetString(PyExc_IndexError, "there is no such record");
-  else if (which == BOX)
-    result = box_of(s, memcpy(&box, at, sizeof box));
-  else if (which == FAULT)
-    result = fault_of(s, memcpy(&fault, at, sizeof fault));
-  else
-    result = geometry_of(s, which, at);
+  }
   let(&h);
   return result;
 }

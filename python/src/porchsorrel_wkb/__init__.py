@@ -60,7 +60,6 @@ that others write, such as a numpy.memmap, pass a copy, bytes(it).
 The library is inside this package: version() is that of its wkb.h. help(wkb.write), and so on, says more of each name.
 """
 # There is no __all__: help(wkb) would list all classes with what they inherit, in thousands of lines.
-from ._calls import Refused as Refused
 from ._calls import bounds as bounds
 from ._calls import check as check
 from ._calls import coordinates as coordinates
@@ -78,6 +77,7 @@ from ._enums import Order as Order
 from ._enums import Status as Status
 from ._enums import is_early_end as is_early_end
 from ._enums import is_refusal as is_refusal
+from ._errors import Refused as Refused
 from ._geoparquet import GeoParquet as GeoParquet
 from ._geoparquet import geoparquet as geoparquet
 from ._levels import column_from_coordinates as column_from_coordinates

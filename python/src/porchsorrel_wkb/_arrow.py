@@ -5,7 +5,7 @@ import sys
 from typing import Any, Iterator, NamedTuple, Optional, Protocol, Tuple
 
 from . import _wkb
-from ._rows import Pieces, pieces_of
+from ._rows import Pieces, object_of, pieces_of
 
 
 class ArrowArray(Protocol):
@@ -33,13 +33,18 @@ class Schema(NamedTuple):
         """Return the name, of a longer one so many bytes."""
         return _wkb.schema_name(self.capsule, most).decode(errors="replace")
 
+    def extension(self) -> bytes:
+        """Return the name of a type that is an extension of Arrow's, else nothing."""
+        return _wkb.schema_metadata(self.capsule, NAME_KEY, MOST_METADATA) or b""
 
     def metadata(self) -> Optional[bytes]:
         """Return what a type of GeoArrow says of its rows, such as their CRS; None of another type."""
-        name = _wkb.schema_metadata(self.capsule, NAME_KEY, MOST_METADATA) or b""
-        if not name.startswith(b"geoarrow.") and name != b"ogc.wkb":
+        if not self.extension().startswith((b"geoarrow.", b"ogc.wkb")):
             return None
-        return _wkb.schema_metadata(self.capsule, METADATA_KEY, MOST_METADATA)
+        text = _wkb.schema_metadata(self.capsule, METADATA_KEY, MOST_METADATA)
+        if text:
+            object_of(text.decode(errors="replace"))
+        return text or None
 
 
 class Array(NamedTuple):
@@ -169,6 +174,9 @@ def _offset_size_of(schema: Schema) -> int:
         hint = "; name= picks a column of records" if kind == "+s" else ""
         raise TypeError(f"an Arrow array of format {kind!r} is not binary ('z', 'Z' or 'vz'){hint}")
     expect(schema.n_children == 0, f"array has {schema.n_children} children, and its type none")
+    name = schema.extension()
+    if name.startswith(b"geoarrow.") and name != b"geoarrow.wkb":
+        raise TypeError(f"an Arrow array of type {name.decode(errors='replace')} is not WKB")
     return size
 
 

@@ -1,7 +1,9 @@
 # SPDX-License-Identifier: MIT OR Apache-2.0
 """Callers' buffers, and memory for results."""
 import array
-from typing import TYPE_CHECKING, Any, Dict, Tuple, Union
+from typing import TYPE_CHECKING, Any, Dict, Iterable, Tuple, Union
+
+from . import _wkb
 
 try:
     import numpy
@@ -28,7 +30,7 @@ else:
     Numbers = Buffer = Any
 
 # The numbers of results by their types in numpy, and as the modules array and struct have them.
-CODES = {"u1": "B", "u4": "I", "i8": "q", "f8": "d"}
+CODES = {"u1": "B", "i4": "i", "i8": "q", "f8": "d"}
 
 
 def view_of(data: Buffer) -> memoryview:
@@ -46,9 +48,27 @@ def view_of(data: Buffer) -> memoryview:
 
 def new_numbers(kind: str, count: int) -> Numbers:
     """Return an array of `count` numbers of this type of numpy's."""
-    made: Any = numpy.empty(count, kind) if has_numpy else array.array(CODES[kind], [0]) * count
-    numbers: Numbers = made
+    made: Any = array.array(CODES[kind], [0])
+    numbers: Numbers = numpy.frombuffer(_wkb.new_block(count * made.itemsize), kind) if has_numpy else made * count
     return numbers
+
+
+def numbers_in(block: Any, kind: str, count: int) -> Numbers:
+    """Return the numbers at the start of some memory, and give the rest of it back."""
+    made: Any = array.array(CODES[kind])
+    _wkb.shorten(block, count * made.itemsize)
+    if not has_numpy:
+        made.frombytes(block)
+    numbers: Numbers = numpy.frombuffer(block, kind) if has_numpy else made
+    return numbers
+
+
+def numbers_of(kind: str, numbers: Iterable[Any]) -> Numbers:
+    """Return an array of these numbers."""
+    held: Any = numpy.asarray(numbers) if has_numpy else array.array(CODES[kind], numbers)
+    made = new_numbers(kind, len(held))
+    made[:] = held
+    return made
 
 
 def new_offsets(count: int) -> Numbers:
@@ -56,13 +76,6 @@ def new_offsets(count: int) -> Numbers:
     offsets = new_numbers("i8", count + 1)
     offsets[0] = 0
     return offsets
-
-
-def shortened(numbers: Numbers, count: int) -> Numbers:
-    """Return the first numbers of an array that nothing else has, and give the rest of its memory back."""
-    if has_numpy:
-        numbers.resize(count, refcheck=False)
-    return numbers
 
 
 def less_the_least(offsets: memoryview) -> Tuple[bytes, int]:

@@ -1,12 +1,11 @@
 # SPDX-License-Identifier: MIT OR Apache-2.0
 """The calls for one geometry."""
-import operator
-from typing import TYPE_CHECKING, List, NoReturn, Optional, Tuple, Union
+from typing import List, Optional, Tuple, Union
 
 from . import _wkb
 from ._buffers import Buffer, Numbers, view_of
-from ._enums import Dimension, Form, Kind, Order, Status
-from ._records import Box, Fault, Found, Part, Range, Table
+from ._enums import Form, Order
+from ._records import Box, Found, Part, Table
 from ._wkb import bounds as _bounds
 from ._wkb import check as _check
 from ._wkb import coordinates as _coordinates
@@ -14,52 +13,6 @@ from ._wkb import parts as _parts
 from ._wkb import same as _same
 from ._wkb import well_formed as _well_formed
 from ._wkb import write as _write
-
-# Members of enums, which take longer to find by their classes, as the calls of C do by their module.
-ISO, WITH_SRID = Form.ISO, Form.EWKB_WITH_SRID
-
-
-class Refused(ValueError):
-    """Some bytes are rejected. It can be pickled."""
-
-    if TYPE_CHECKING:  # what it is made of is in `args`
-
-        def __init__(self, fault: Fault, which: int, text: str, hint: str = "", row: Optional[int] = None) -> None: ...
-
-    @property
-    def fault(self) -> Fault:
-        """The part that is rejected, and why."""
-        fault: Fault = self.args[0]
-        return fault
-
-    @property
-    def which(self) -> int:
-        """The input that is rejected: 1, or 2 for the second one of `same`."""
-        return int(self.args[1])
-
-    @property
-    def text(self) -> str:
-        """What the status says."""
-        return str(self.args[2])
-
-    @property
-    def _hint(self) -> str:
-        return str(self.args[3]) if len(self.args) > 3 else ""
-
-    @property
-    def row(self) -> Optional[int]:
-        """The row of a column that is no member of a collection; None if there is no column."""
-        row: Optional[int] = self.args[4] if len(self.args) > 4 else None
-        return row
-
-    @property
-    def status(self) -> Status:
-        """Why the bytes are rejected."""
-        return self.fault.status
-
-    def __str__(self) -> str:
-        which = "the second input: " if self.which == 2 else "" if self.row is None else f"row {self.row}: "
-        return f"{which}{self.fault}{self._hint}"
 
 
 def check(data: Buffer) -> Found:
@@ -78,35 +31,6 @@ def well_formed(data: Buffer) -> bool:
 def bounds(data: Buffer) -> Box:
     """Return the bounds of the geometry at the start of the bytes."""
     return _bounds(data)
-
-
-def make_options(order: Order, form: Optional[Form], srid: Optional[int]) -> Tuple[int, int, int]:
-    """Return the options, if they have a meaning. Without a form it is that of an SRID where there is one."""
-    if form is None:
-        form = ISO if srid is None else WITH_SRID
-    if (srid is not None) != (form == WITH_SRID):
-        raise ValueError("an SRID is written in Form.EWKB_WITH_SRID, and in no other form")
-    number = operator.index(srid or 0)
-    if not 0 <= number < 2**32:
-        raise ValueError(f"SRID {number} is not from 0 to 4294967295")
-    return order if isinstance(order, Order) else Order(order), form if isinstance(form, Form) else Form(form), number
-
-
-def no_such(part: Union[Part, Found]) -> NoReturn:
-    """Raise the error that some bytes have no such coordinates."""
-    kind = getattr(part.kind, "name", part.kind)
-    if part.kind > Kind.LINE_STRING:
-        raise ValueError(f"a {kind} has no coordinates of its own, but {part.count} rings or members")
-    raise ValueError(f"these are other bytes than those of the part: they have no such {kind} there")
-
-
-# The statuses that fit a byte, and what they say.
-STATUSES = range(256)
-_wkb.give(
-    Found, Fault, Part, Range, Box, Table, Refused,
-    tuple(map(Status, STATUSES)), tuple(map(_wkb.status_text, STATUSES)),
-    tuple(Kind), tuple(Dimension), tuple(Order), make_options, no_such,
-)
 
 
 def write(
@@ -128,7 +52,7 @@ def same(first: Buffer, second: Buffer) -> bool:
 
 def parts(data: Buffer) -> Table[Part]:
     """Return the parts of the geometry at the start of the bytes, in preorder: itself, and its rings and members."""
-    return _parts(data)
+    return Table(Part, _parts(data))
 
 
 def coordinates(data: Buffer, part: Union[Part, Found]) -> List[Tuple[float, ...]]:

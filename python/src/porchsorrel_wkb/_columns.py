@@ -6,16 +6,20 @@ from typing import Any, Dict, Iterable, Iterator, List, Optional, Tuple
 
 from . import _wkb
 from ._arrow import ArrowArray, ArrowStream, chunks_of_arrow, pieces_of_arrow
-from ._buffers import Buffer, Numbers, has_numpy, less_the_least, new_numbers, new_offsets, shortened, view_of
-from ._calls import Refused, make_options
-from ._enums import Dimension, Form, Kind, Order, Status, is_refusal
-from ._records import Box, Fault, Found, Part, Table
+from ._buffers import Buffer, Numbers, has_numpy, less_the_least, new_numbers, new_offsets, numbers_in, view_of
+from ._enums import Dimension, Form, Kind, Order, Status, is_refusal, make_options
+from ._errors import Refused
+from ._records import SIZES, Box, Fault, Found, Part, Table
 from ._results import ColumnBounds, ColumnCoordinates, ColumnEncodings, ColumnFound, ColumnParts, Facts
 from ._rows import Pieces, object_of, pieces_of
 
 # The calls of `_wkb.column`.
 CHECK, BOUNDS, PARTS, WRITE, ROOM, KINDS, COLLECT, FIND, FAULTS = range(9)
 NO_OPTIONS, NO_RESULTS = (0, 0, 0), (None, None, None)
+# The statuses that are none.
+NO_REFUSALS = bytes(it for it in range(256) if not is_refusal(it))
+# The bytes of a word and of an offset.
+WORD_SIZE = 8
 # An encoding may be four bytes longer than its row: an SRID.
 SRID_SIZE = 4
 # The bytes of a coordinate, a ring, and a single, at least.
@@ -222,19 +226,19 @@ class Column:
         """
         statuses = self.check()
         rows = [i for i, status in enumerate(bytes(view_of(statuses))) if is_refusal(status)]
-        table = new_numbers("u1", len(rows) * Fault.LAYOUT.size)
+        table = new_numbers("u1", len(rows) * SIZES[Fault])
         expect_same(_wkb.column(FAULTS, self._arguments(), NO_OPTIONS, (table, None, statuses)) == len(rows))
         return dict(zip(rows, Table(Fault, table)))
 
     def bounds(self) -> ColumnBounds:
         """Return the bounds of each row."""
-        statuses, boxes = new_numbers("u1", self._rows), new_numbers("u1", self._rows * Box.LAYOUT.size)
+        statuses, boxes = new_numbers("u1", self._rows), new_numbers("u1", self._rows * SIZES[Box])
         _wkb.column(BOUNDS, self._arguments(), NO_OPTIONS, (boxes, None, statuses))
         return ColumnBounds._made(statuses, Table(Box, boxes), _metadata=self._metadata)
 
     def found(self) -> ColumnFound:
         """Return what is at the start of each row: kind, dimension, SRID, byte order, size and counts."""
-        statuses, table = new_numbers("u1", self._rows), new_numbers("u1", self._rows * Found.LAYOUT.size)
+        statuses, table = new_numbers("u1", self._rows), new_numbers("u1", self._rows * SIZES[Found])
         _wkb.column(FIND, self._arguments(), NO_OPTIONS, (table, None, statuses))
         return ColumnFound(statuses, Table(Found, table))
 
@@ -243,15 +247,15 @@ class Column:
         statuses, found = self.found()
         types, box, srids = _wkb.facts(statuses, found._memory, self.bounds().boxes._memory)
         held = bytes(view_of(statuses))
-        nulls, well_formed = held.count(Status.NULL_ROW), held.count(Status.OK)
+        refused = len(held.translate(None, NO_REFUSALS))
         pairs = [(kind, dimension) for dimension in Dimension for kind in Kind if types >> 8 * dimension + kind & 1]
-        return Facts(len(held), nulls, len(held) - nulls - well_formed, pairs, srids, box)
+        return Facts(len(held), held.count(Status.OK), held.count(Status.NULL_ROW), refused, pairs, srids, box)
 
     def parts(self) -> ColumnParts:
         """Return the parts of each row in preorder."""
         statuses, offsets = new_numbers("u1", self._rows), new_offsets(self._rows)
         count = _wkb.column(PARTS, self._arguments(), NO_OPTIONS, (None, offsets, statuses))
-        table = new_numbers("u1", count * Part.LAYOUT.size)
+        table = new_numbers("u1", count * SIZES[Part])
         again = _wkb.column(PARTS, self._arguments(), NO_OPTIONS, (table, offsets, statuses))
         expect_same(again == count)
         return ColumnParts(statuses, offsets, Table(Part, table))
@@ -274,20 +278,19 @@ class Column:
         """Return the coordinates of all rows in this dimension, with a NaN for each number that a geometry lacks."""
         dimension = Dimension(dimension)
         statuses, row_offsets = new_numbers("u1", self._rows), new_offsets(self._rows)
-        # Room for as much as rows one after another can have, of which numpy touches nothing. Other arrays are filled,
-        # so that a first pass counts.
-        room = [self._room() // least if has_numpy else 0 for least in LEAST_SIZES]
+        # Room for as much as rows one after another can have, of which nothing is touched that isn't needed.
+        width, room = dimension.width, [self._room() // least for least in LEAST_SIZES]
         while True:
-            words, ring_offsets = new_numbers("f8", room[0] * dimension.width), new_offsets(room[1])
-            single_offsets = new_offsets(room[2])
-            results = words, ring_offsets, single_offsets, row_offsets, statuses
-            found = _wkb.column_coordinates(self._arguments(), dimension, results)
+            sizes = room[0] * width, room[1] + 1, room[2] + 1
+            blocks = tuple(_wkb.new_block(WORD_SIZE * size) for size in sizes)
+            found = _wkb.column_coordinates(self._arguments(), dimension, (*blocks, row_offsets, statuses))
             if all(map(operator.le, found, room)):
                 break
             room = list(found)
-        words = shortened(words, found[0] * dimension.width)
-        ring_offsets, single_offsets = shortened(ring_offsets, found[1] + 1), shortened(single_offsets, found[2] + 1)
-        rows = words.reshape(-1, dimension.width) if has_numpy else words
+        words = numbers_in(blocks[0], "f8", found[0] * width)
+        ring_offsets = numbers_in(blocks[1], "i8", found[1] + 1)
+        single_offsets = numbers_in(blocks[2], "i8", found[2] + 1)
+        rows = words.reshape(-1, width) if has_numpy else words
         kinds = _wkb.column(KINDS, self._arguments(), NO_OPTIONS, (None, None, statuses))
         known = {"_kinds": kinds, "_dimension": dimension, "_metadata": self._metadata}
         return ColumnCoordinates._made(statuses, row_offsets, single_offsets, ring_offsets, rows, **known)
@@ -308,12 +311,12 @@ def collect(
     kind, dimension, options = Kind(kind), Dimension(dimension), make_options(order, form, srid)
     if kind < Kind.MULTI_POINT:
         raise ValueError(f"a {kind.name} has no geometries as members")
-    told, found = bytearray(Fault.LAYOUT.size), column._room() + FRONT_SIZE
+    told, found = bytearray(SIZES[Fault]), column._room() + FRONT_SIZE
     status = Status.NO_ROOM
     while status == Status.NO_ROOM:
         data = new_numbers("u1", found)
         found = _wkb.column(COLLECT, column._arguments(), options, (data, told, None), kind, dimension)
-        fault = Fault._read(told)
+        fault = _wkb.read_record(Fault, told, 0)
         status = fault.status
     if status == Status.OK:
         return bytes(view_of(data)[:found])

@@ -1,7 +1,8 @@
 # SPDX-License-Identifier: MIT OR Apache-2.0
 """The numbers of wkb.h that have names."""
 import enum
-from typing import Any
+import operator
+from typing import Any, Optional, Tuple
 
 
 class Status(enum.IntEnum):
@@ -98,3 +99,19 @@ class Form(enum.IntEnum):
     EWKB_OWN_SRID = 1
     EWKB_WITH_SRID = 2
     EWKB_WITHOUT_SRID = 3
+
+
+# Members, which take longer to find by their classes.
+ISO, WITH_SRID = Form.ISO, Form.EWKB_WITH_SRID
+
+
+def make_options(order: Order, form: Optional[Form], srid: Optional[int]) -> Tuple[int, int, int]:
+    """Return the options, if they have a meaning. Without a form it is that of an SRID where there is one."""
+    if form is None:
+        form = ISO if srid is None else WITH_SRID
+    if (srid is not None) != (form == WITH_SRID):
+        raise ValueError("an SRID is written in Form.EWKB_WITH_SRID, and in no other form")
+    number = operator.index(srid or 0)
+    if not 0 <= number < 2**32:
+        raise ValueError(f"SRID {number} is not from 0 to 4294967295")
+    return order if isinstance(order, Order) else Order(order), form if isinstance(form, Form) else Form(form), number

@@ -1,12 +1,11 @@
 # SPDX-License-Identifier: MIT OR Apache-2.0
 """Arrays of Arrow that go out, as `_wkb.export` takes them."""
-import array
 import struct
 from typing import Any, Dict, Iterable, List, Optional, Tuple
 
 from . import _wkb
 from ._arrow import METADATA_KEY, NAME_KEY, schema_child, schema_of
-from ._buffers import Numbers, has_numpy, view_of
+from ._buffers import Numbers, has_numpy, numbers_of, view_of
 from ._enums import Dimension, Kind
 from ._rows import bits_of
 
@@ -59,19 +58,18 @@ def validity_of(statuses: Numbers) -> Tuple[Optional[memoryview], int]:
     held = bytes(view_of(statuses))
     nulls = len(held) - held.count(0)
     bits = bits_of([not status for status in held]) if nulls else None
-    return (None, 0) if bits is None else (memoryview(bits), nulls)
+    return (None, 0) if bits is None else (view_of(numbers_of("u1", memoryview(bits))), nulls)
 
 
 def narrow(offsets: Numbers) -> memoryview:
     """Return offsets as ones of 32 bits."""
-    return view_of(offsets.astype("i4") if has_numpy else array.array("i", offsets))
+    return view_of(numbers_of("i4", offsets))
 
 
 def through(outer: Numbers, inner: Numbers) -> Numbers:
     """Return offsets into a level as offsets into the one below it."""
-    items: Any = inner[outer] if has_numpy else array.array("q", map(inner.__getitem__, outer))
-    numbers: Numbers = items
-    return numbers
+    items: Any = inner[outer] if has_numpy else map(inner.__getitem__, outer)
+    return numbers_of("i8", items)
 
 
 def dimension_of(numbers: memoryview, expected: Dimension) -> Dimension:
@@ -88,11 +86,7 @@ def dimension_of(numbers: memoryview, expected: Dimension) -> Dimension:
 def every(words: memoryview, first: int, step: int) -> memoryview:
     """Return a copy of each number that is so many behind the one before it."""
     flat = words.cast("B").cast("d")
-    if has_numpy:
-        import numpy
-
-        return view_of(numpy.frombuffer(flat, "f8")[first::step].copy())
-    return view_of(array.array("d", flat)[first::step])
+    return view_of(numbers_of("f8", flat[first::step]))
 
 
 def leaf(name: bytes, numbers: memoryview) -> Node:

@@ -66,7 +66,7 @@ def geoparquet(column: Column, name: str = "geometry", covering: Optional[str] =
 def _expect_rows(column: Column, facts: Facts) -> None:
     """Raise an error for the first row that GeoParquet can't have."""
     statuses, offsets, table = column.parts()
-    for i, status in enumerate(bytes(statuses) if facts.refused else b""):
+    for i, status in enumerate(bytes(statuses) if facts.accepted + facts.nulls < facts.rows else b""):
         if status not in (Status.OK, Status.NULL_ROW):
             raise ValueError(f"row {i} is rejected: {column.faults().get(i) or _wkb.status_text(status)}")
     for i, found in enumerate(column.found().found if facts.srids - {None} else ()):

@@ -7,9 +7,8 @@ from typing import Optional, Tuple, Union
 from . import _wkb
 from ._arrow import ArrowArray
 from ._buffers import Buffer, has_numpy, new_numbers, new_offsets, view_of
-from ._calls import make_options
 from ._columns import check_validity, code_of, expect_same, size_of_offsets
-from ._enums import Dimension, Form, Kind, Order
+from ._enums import Dimension, Form, Kind, Order, make_options
 from ._geoarrow import Levels, levels_of_arrow
 from ._results import ColumnEncodings
 

@@ -2,16 +2,15 @@
 """The structs of wkb.h as Python has them, and tables of them."""
 import enum
 import html
-from dataclasses import dataclass
-from struct import Struct
-from typing import Any, ClassVar, Dict, Iterator, List, Optional, Sequence, Tuple, Type, TypeVar, Union, overload
+from itertools import repeat
+from typing import Any, Dict, Iterator, List, Optional, Sequence, Tuple, Type, TypeVar, Union, overload
 
 from . import _wkb
-from ._buffers import CODES, Buffer
-from ._enums import Dimension, Kind, Order, Status
+from ._wkb import Box, Fault, Found, Part, Range
 
-# The fields of a struct with their types as numpy has them. numpy computes with signed numbers only, and no count or
-# offset needs the sign bit.
+# Pickles name the records' types in this module.
+__all__ = ["Box", "Fault", "Found", "Part", "Range", "Table"]
+
 Fields = List[Tuple[str, Any]]
 
 
@@ -20,166 +19,17 @@ def fields(kind: str, names: str) -> Fields:
     return [(name, kind) for name in names.split()]
 
 
-def layout(of: Fields) -> Struct:
-    """Return how the fields stand in memory."""
-    return Struct("=" + "".join(CODES[kind] if isinstance(kind, str) else layout(kind).format[1:] for _, kind in of))
-
-
+# The fields of structs with their types as numpy has them, and the bytes of each struct. numpy computes with signed
+# numbers only, and no count or offset needs the sign bit.
 TYPE = fields("u4", "srid has_srid kind dimension width order")
 RANGE = fields("f8", "least greatest") + fields("i8", "count")
-
-
-Self = TypeVar("Self")
-
-
-class _Values:
-    """What frozen dataclasses share whose values are in C, at fixed places of an object."""
-
-    __slots__ = ()
-    __match_args__: ClassVar[Tuple[str, ...]]
-
-    @property
-    def __dict__(self) -> Dict[str, Any]:  # type: ignore[override]
-        return {name: getattr(self, name) for name in self.__match_args__}
-
-    def __reduce__(self) -> Any:
-        return type(self), tuple(getattr(self, name) for name in self.__match_args__)
-
-    @classmethod
-    def _read(cls: Type[Self], memory: Buffer) -> Self:
-        """Return the struct at the start of the memory."""
-        record: Self = _wkb.read_record(cls, memory, 0)
-        return record
-
-
-@dataclass(frozen=True)
-class Found(_wkb.FoundValues, _Values):
-    """The geometry at the start of some bytes.
-
-    :ivar size: how many bytes it has; the bytes after them were not looked at
-    :ivar parts: how many parts it has: itself, and its rings and members at every level
-    :ivar coordinates: how many all parts have; each point has one, an empty point one of NaNs
-    :ivar offset: the byte where its own coordinates, rings or members begin
-    :ivar count: how many of these it has; a point has one coordinate
-    :ivar srid: the SRID of EWKB; None if there is none
-    :ivar kind: the kind, a `Kind`
-    :ivar dimension: the dimension, a `Dimension`
-    :ivar order: the byte order, an `Order`
-    """
-
-    __slots__ = ()
-
-    size: int
-    parts: int
-    coordinates: int
-    offset: int
-    count: int
-    srid: Optional[int]
-    kind: Kind
-    dimension: Dimension
-    order: Order
-
-    FIELDS: ClassVar[Fields] = fields("i8", "size parts coordinates offset count") + TYPE
-    LAYOUT: ClassVar[Struct] = layout(FIELDS)
-
-
-@dataclass(frozen=True)
-class Fault(_wkb.FaultValues, _Values):
-    """The part that is rejected, and why. `str` of it says this in one line.
-
-    :ivar part: how many parts come before it, in preorder: 0 is the whole geometry
-    :ivar offset: the byte where it begins, counted from the start of the input
-    :ivar end: of a status from 48 on: how many bytes it needs; else 0
-    :ivar len: of a status from 48 on: how many bytes there are, from its own first one on; else 0
-    :ivar code: of CODE_OUT_OF_RANGE: all bits of the code; else 0
-    :ivar status: why it is rejected, a `Status`
-    """
-
-    __slots__ = ()
-
-    part: int
-    offset: int
-    end: int
-    len: int
-    code: int
-    status: Status
-
-    def __str__(self) -> str:
-        return _wkb.fault_text(self.part, self.offset, self.end, self.len, self.code, self.status)
-
-    FIELDS: ClassVar[Fields] = fields("i8", "part offset end len") + fields("u4", "code status")
-    LAYOUT: ClassVar[Struct] = layout(FIELDS)
-
-
-@dataclass(frozen=True)
-class Part(_wkb.PartValues, _Values):
-    """A geometry, or a ring of a polygon. Its rings or members follow it in the table, each followed by its own.
-
-    :ivar begin: its first byte, counted from the start of the input
-    :ivar end: one past its last byte
-    :ivar offset: the byte where its coordinates, rings or members begin
-    :ivar count: how many of these it has; a point has one coordinate, an empty point one of NaNs
-    :ivar next: the index of the part after its own rings and members
-    :ivar srid: the SRID of EWKB; None if there is none
-    :ivar kind: the kind, a `Kind`
-    :ivar dimension: the dimension, a `Dimension`
-    :ivar order: the byte order, an `Order`
-    """
-
-    __slots__ = ()
-
-    begin: int
-    end: int
-    offset: int
-    count: int
-    next: int
-    srid: Optional[int]
-    kind: Kind
-    dimension: Dimension
-    order: Order
-
-    FIELDS: ClassVar[Fields] = fields("i8", "begin end offset count next") + TYPE
-    LAYOUT: ClassVar[Struct] = layout(FIELDS)
-
-
-@dataclass(frozen=True)
-class Range(_wkb.RangeValues, _Values):
-    """The range of an ordinate over all coordinates that have one. NaNs are left out.
-
-    :ivar least: the least number; infinity where the count is 0
-    :ivar greatest: the greatest number; minus infinity where the count is 0
-    :ivar count: how many numbers there are
-    """
-
-    __slots__ = ()
-
-    least: float
-    greatest: float
-    count: int
-
-    FIELDS: ClassVar[Fields] = RANGE
-
-
-@dataclass(frozen=True)
-class Box(_wkb.BoxValues, _Values):
-    """The bounds of a geometry: z of coordinates that have a z, m of those that have an m.
-
-    :ivar x: the range of x
-    :ivar y: the range of y
-    :ivar z: the range of z
-    :ivar m: the range of m
-    """
-
-    __slots__ = ()
-
-    x: Range
-    y: Range
-    z: Range
-    m: Range
-
-    FIELDS: ClassVar[Fields] = [(axis, RANGE) for axis in "xyzm"]
-    LAYOUT: ClassVar[Struct] = layout([field for _ in "xyzm" for field in RANGE])
-
+FIELDS: Dict[Any, Fields] = {
+    Found: fields("i8", "size parts coordinates offset count") + TYPE,
+    Fault: fields("i8", "part offset end len") + fields("u4", "code status"),
+    Part: fields("i8", "begin end offset count next") + TYPE,
+    Box: [(axis, RANGE) for axis in "xyzm"],
+}
+SIZES: Dict[Any, int] = {Found: 64, Fault: 40, Part: 64, Box: 96}
 
 # A table shows so many rows.
 SHOWN = 5
@@ -193,27 +43,21 @@ def _shown(value: Any) -> str:
 Record = TypeVar("Record", Found, Fault, Part, Box)
 
 
-class Table(_wkb.TableValues, Sequence[Record]):
+class Table(Sequence[Record]):
     """Records as the library has written them: each becomes a Python object when it is asked for.
 
     `numpy.asarray(table)` is a structured array of them without a copy. Its fields have the names that they have in
     wkb.h.
     """
 
-    __slots__ = ()
+    __slots__ = "_record", "_memory"
 
-    _record: Any
-    _memory: Union[memoryview, bytearray]
-    _count: int
-
-    def __init__(self, record: Type[Record], memory: Buffer):
-        buffer: Any = memory
-        self._record = record
-        self._memory = view = memoryview(buffer)
-        self._count = view.nbytes // record.LAYOUT.size
+    def __init__(self, record: Type[Record], memory: Any):
+        self._record: Any = record
+        self._memory = memory
 
     def __len__(self) -> int:
-        return self._count
+        return memoryview(self._memory).nbytes // SIZES[self._record]
 
     @overload
     def __getitem__(self, index: int) -> Record: ...
@@ -222,13 +66,14 @@ class Table(_wkb.TableValues, Sequence[Record]):
     def __getitem__(self, index: slice) -> List[Record]: ...
 
     def __getitem__(self, index: Union[int, slice]) -> Union[Record, List[Record]]:
-        if isinstance(index, int) and 0 <= index < self._count:
+        if isinstance(index, int) and index >= 0:
             return self._at(index)
-        place = range(self._count)[index]
+        place = range(len(self))[index]
         return self._at(place) if isinstance(place, int) else [self._at(i) for i in place]
 
     def __iter__(self) -> Iterator[Record]:
-        return map(self._at, range(len(self)))
+        records: Iterator[Record] = map(_wkb.read_record, repeat(self._record), repeat(self._memory), range(len(self)))
+        return records
 
     def _at(self, index: int) -> Record:
         record: Record = _wkb.read_record(self._record, self._memory, index)
@@ -237,7 +82,7 @@ class Table(_wkb.TableValues, Sequence[Record]):
     def __array__(self, dtype: Any = None, copy: Optional[bool] = None) -> Any:
         import numpy
 
-        table = numpy.frombuffer(self._memory, self._record.FIELDS)
+        table = numpy.frombuffer(self._memory, FIELDS[self._record])
         return table.astype(dtype) if dtype is not None else table.copy() if copy else table
 
     def __reduce__(self) -> Any:

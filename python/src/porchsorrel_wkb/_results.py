@@ -99,14 +99,16 @@ class Facts(NamedTuple):
     """What the rows of a column have together.
 
     :ivar rows: how many there are
-    :ivar nulls: how many of them are null
-    :ivar refused: how many are rejected, or have bad offsets
+    :ivar accepted: how many of them are geometries
+    :ivar nulls: how many are null
+    :ivar refused: how many are rejected for their bytes; the rest has bad offsets
     :ivar types: the kinds that occur, each with its dimension
     :ivar srids: the SRIDs that occur; None for rows without one
     :ivar box: the bounds of all rows
     """
 
     rows: int
+    accepted: int
     nulls: int
     refused: int
     types: List[Tuple[Kind, Dimension]]
@@ -120,8 +122,9 @@ class Facts(NamedTuple):
         types = sorted({it for facts in held for it in facts.types}, key=lambda it: (it[1], it[0]))
         srids = {it for facts in held for it in facts.srids}
         ranges = (_joined([getattr(facts.box, axis) for facts in held]) for axis in "xyzm")
-        rows, nulls, refused = (sum(getattr(it, name) for it in held) for name in ("rows", "nulls", "refused"))
-        return cls(rows, nulls, refused, types, srids, Box(*ranges))
+        names = "rows", "accepted", "nulls", "refused"
+        rows, accepted, nulls, refused = (sum(getattr(it, name) for it in held) for name in names)
+        return cls(rows, accepted, nulls, refused, types, srids, Box(*ranges))
 
 
 def _joined(ranges: List[Range]) -> Range:

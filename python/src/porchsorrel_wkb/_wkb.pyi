@@ -1,37 +1,92 @@
 # SPDX-License-Identifier: MIT OR Apache-2.0
-"""The calls of wkb.h, in C, for the other modules of this package."""
-from typing import Any, List, Optional, Set, Tuple, Union
+"""The calls of wkb.h, in C, for the other modules of this package, and its structs as objects."""
+from typing import Any, Final, List, Optional, Set, Tuple, Union, final
 
 from ._buffers import Buffer
-from ._records import Box, Fault, Found, Part, Table
+from ._enums import Dimension, Kind, Order, Status
 
 VERSION: int
 
-class FoundValues: ...
-class FaultValues: ...
-class PartValues: ...
-class RangeValues: ...
-class BoxValues: ...
-class TableValues: ...
+@final
+class Found:
+    size: Final[int]
+    parts: Final[int]
+    coordinates: Final[int]
+    offset: Final[int]
+    count: Final[int]
+    srid: Final[Optional[int]]
+    kind: Final[Kind]
+    dimension: Final[Dimension]
+    order: Final[Order]
+    def __init__(
+        self, size: int, parts: int, coordinates: int, offset: int, count: int,
+        srid: Optional[int], kind: Kind, dimension: Dimension, order: Order,
+    ) -> None: ...
+    __match_args__: Final = ("size", "parts", "coordinates", "offset", "count", "srid", "kind", "dimension", "order")
+
+@final
+class Fault:
+    part: Final[int]
+    offset: Final[int]
+    end: Final[int]
+    len: Final[int]
+    code: Final[int]
+    status: Final[Status]
+    def __init__(self, part: int, offset: int, end: int, len: int, code: int, status: Status) -> None: ...
+    __match_args__: Final = ("part", "offset", "end", "len", "code", "status")
+
+@final
+class Part:
+    begin: Final[int]
+    end: Final[int]
+    offset: Final[int]
+    count: Final[int]
+    next: Final[int]
+    srid: Final[Optional[int]]
+    kind: Final[Kind]
+    dimension: Final[Dimension]
+    order: Final[Order]
+    def __init__(
+        self, begin: int, end: int, offset: int, count: int, next: int,
+        srid: Optional[int], kind: Kind, dimension: Dimension, order: Order,
+    ) -> None: ...
+    __match_args__: Final = ("begin", "end", "offset", "count", "next", "srid", "kind", "dimension", "order")
+
+@final
+class Range:
+    least: Final[float]
+    greatest: Final[float]
+    count: Final[int]
+    def __init__(self, least: float, greatest: float, count: int) -> None: ...
+    __match_args__: Final = ("least", "greatest", "count")
+
+@final
+class Box:
+    x: Final[Range]
+    y: Final[Range]
+    z: Final[Range]
+    m: Final[Range]
+    def __init__(self, x: Range, y: Range, z: Range, m: Range) -> None: ...
+    __match_args__: Final = ("x", "y", "z", "m")
 
 _Column = Tuple[Buffer, Buffer, Optional[Buffer], int, int, int]
 _Options = Tuple[int, int, int]
 _Levels = Tuple[Buffer, Optional[Buffer], Optional[Buffer], Optional[Buffer], Optional[Buffer], int]
 _Results = Tuple[Optional[Buffer], ...]
 
-def give(*types: Any) -> None: ...
+def new_block(size: int, /) -> Any: ...
+def shorten(block: Any, size: int, /) -> None: ...
 def check(data: Buffer, /) -> Found: ...
 def well_formed(data: Buffer, /) -> bool: ...
 def bounds(data: Buffer, /) -> Box: ...
 def write(data: Buffer, order: int, form: Optional[int], srid: Optional[int], /) -> bytes: ...
 def same(first: Buffer, second: Buffer, /) -> bool: ...
-def parts(data: Buffer, /) -> Table[Part]: ...
+def parts(data: Buffer, /) -> bytearray: ...
 def coordinates(data: Buffer, part: Union[Part, Found], /) -> List[Tuple[float, ...]]: ...
 def place_of_words(data: Buffer, part: Union[Part, Found], /) -> Tuple[int, int]: ...
 def dump(data: Buffer, items: int, lines: int, /) -> List[str]: ...
 def dump_program(words: List[bytes], /) -> int: ...
 def status_text(status: int, /) -> str: ...
-def fault_text(part: int, offset: int, end: int, len: int, code: int, status: int, /) -> str: ...
 def read_record(record: Any, memory: Buffer, index: int, /) -> Any: ...
 def join(rows: List[Optional[bytes]], /) -> Optional[Tuple[bytes, bytes, Optional[bytes]]]: ...
 def split(data: Buffer, offsets: Buffer, statuses: Buffer, first: int, end: int, /) -> List[Optional[bytes]]: ...
