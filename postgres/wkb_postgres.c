@@ -17,21 +17,26 @@ PG_MODULE_MAGIC;
 
 #define BYTES(v) VARDATA_ANY(v), VARSIZE_ANY_EXHDR(v)
 
-/* Returns why the input is rejected, as text. */
-static const char *text_of(const wkb_fault *fault) {
-  char *text = palloc(WKB_FAULT_TEXT_ROOM);
-  wkb_fault_text(fault, text, WKB_FAULT_TEXT_ROOM);
-  return text;
+/* Returns why a value is rejected, as text. */
+static const char *text_of(const wkb_fault *fault, bytea *v) {
+  char text[WKB_FAULT_TEXT_ROOM];
+  wkb_fault_text(fault, text, sizeof text);
+  return psprintf("%s%s", text, wkb_dump_other(fault, BYTES(v)));
 }
 
-/* Raises an error unless a call succeeded: PLACE is an input among several, or empty. */
-static void accept(wkb_status status, const char *place, const wkb_fault *fault) {
+/* Raises an error unless a call over this value succeeded: PLACE is an argument among several, or empty. */
+static void accept(wkb_status status, const char *place, const wkb_fault *fault, bytea *v) {
+  const char *text;
   if (status == WKB_STATUS_OK) return;
   if (status == WKB_STATUS_NO_ROOM)
     ereport(ERROR, (errcode(ERRCODE_PROGRAM_LIMIT_EXCEEDED), errmsg("the encoding is longer than a bytea can be"),
                     errhint("A bytea has at most 1 GB, and an SRID takes four bytes more.")));
-  ereport(ERROR, (errcode(ERRCODE_INVALID_BINARY_REPRESENTATION), errmsg("invalid WKB%s: %s", place, text_of(fault)),
-                  errhint("wkb_fault returns why a value is not well formed, or null if it is.")));
+  text = text_of(fault, v);
+  ereport(ERROR, (errcode(ERRCODE_INVALID_BINARY_REPRESENTATION), errmsg("invalid WKB%s: %s", place, text),
+                  strstr(text, "text") != NULL
+                      ? errhint("A literal without a type is bytes. Write '..'::geometry for a text of PostGIS, "
+                                "'\\x..' for hexadecimal digits.")
+                      : errhint("wkb_fault returns why a value is not well formed, or null if it is.")));
 }
 
 /* An argument, in a copy where it is stored apart or compressed. No call of the library can be stopped, so a statement
@@ -50,7 +55,7 @@ static wkb_found found_in(FunctionCallInfo fcinfo) {
   bytea *v = argument(fcinfo, 0);
   wkb_found found;
   wkb_fault fault;
-  accept(wkb_check(BYTES(v), &found, &fault), "", &fault);
+  accept(wkb_check(BYTES(v), &found, &fault), "", &fault, v);
   PG_FREE_IF_COPY(v, 0);
   return found;
 }
@@ -71,11 +76,14 @@ Datum wkb_fault_sql(PG_FUNCTION_ARGS) {
   wkb_fault fault;
   wkb_status status = wkb_check(BYTES(v), &found, &fault);
   size_t size = VARSIZE_ANY_EXHDR(v);
+  const char *text = NULL;
+  if (status != WKB_STATUS_OK)
+    text = text_of(&fault, v);
+  else if (found.size < size)
+    text = psprintf("bytes after the geometry, from %llu on", (unsigned long long)found.size);
   PG_FREE_IF_COPY(v, 0);
-  if (status != WKB_STATUS_OK) PG_RETURN_TEXT_P(cstring_to_text(text_of(&fault)));
-  if (found.size == size) PG_RETURN_NULL();
-  PG_RETURN_TEXT_P(
-      cstring_to_text(psprintf("bytes after the geometry, from %llu on", (unsigned long long)found.size)));
+  if (text == NULL) PG_RETURN_NULL();
+  PG_RETURN_TEXT_P(cstring_to_text(text));
 }
 
 static int append(void *text, const char *line, size_t length) {
@@ -125,7 +133,7 @@ static Datum rewritten(FunctionCallInfo fcinfo, const wkb_options *options) {
   bytea *out = palloc(VARHDRSZ + room);
   size_t size = 0;
   wkb_fault fault;
-  accept(wkb_write(BYTES(v), options, VARDATA(out), room, &size, &fault), "", &fault);
+  accept(wkb_write(BYTES(v), options, VARDATA(out), room, &size, &fault), "", &fault, v);
   PG_FREE_IF_COPY(v, 0);
   SET_VARSIZE(out, VARHDRSZ + size);
   PG_RETURN_BYTEA_P(out);
@@ -160,35 +168,18 @@ Datum wkb_same_sql(PG_FUNCTION_ARGS) {
   uint32_t equal = 0, which = 1;
   wkb_fault fault;
   wkb_status status = wkb_same(BYTES(a), BYTES(b), &equal, &fault, &which);
-  accept(status, which == 2 ? " in the second argument" : " in the first argument", &fault);
+  accept(status, which == 2 ? " in the second argument" : " in the first argument", &fault, which == 2 ? b : a);
   PG_FREE_IF_COPY(a, 0);
   PG_FREE_IF_COPY(b, 1);
   PG_RETURN_BOOL(equal != 0);
 }
 
-/* The value whose bounds were found last, if it is small: a query often asks for several sides of one value. */
-static struct {
-  size_t size; /* 0 where there is none yet */
-  wkb_box box;
-  char bytes[4096]; /* at the end, where a check by the compiler finds that more are copied */
-} last;
-
 /* The bounds of the argument; an error where there is no geometry. */
 static wkb_box box_of(FunctionCallInfo fcinfo) {
   bytea *v = argument(fcinfo, 0);
-  size_t size = VARSIZE_ANY_EXHDR(v);
   wkb_box box;
   wkb_fault fault;
-  if (size > 0 && size == last.size && memcmp(VARDATA_ANY(v), last.bytes, size) == 0) {
-    box = last.box;
-  } else {
-    accept(wkb_bounds(BYTES(v), &box, &fault), "", &fault);
-    if (size <= sizeof last.bytes) {
-      memcpy(last.bytes, VARDATA_ANY(v), size);
-      last.size = size;
-      last.box = box;
-    }
-  }
+  accept(wkb_bounds(BYTES(v), &box, &fault), "", &fault, v);
   PG_FREE_IF_COPY(v, 0);
   return box;
 }

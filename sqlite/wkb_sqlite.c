@@ -111,7 +111,7 @@ static bool has_null(int n, sqlite3_value **values) {
 static input input_of(sqlite3_value *value) {
   input in = {0};
   if (sqlite3_value_type(value) != SQLITE_BLOB) {
-    in.fault = "not a blob";
+    in.fault = sqlite3_value_type(value) == SQLITE_TEXT ? "not a blob, but text" : "not a blob";
     return in;
   }
   in.data = sqlite3_value_blob(value);
@@ -180,7 +180,7 @@ static char *refusal_of(const input *in, const wkb_fault *fault) {
   wkb_fault of_blob = *fault;
   of_blob.offset += in->header;
   wkb_fault_text(&of_blob, text, sizeof text);
-  return sqlite3_mprintf("%s", text);
+  return sqlite3_mprintf("%s%s", text, wkb_dump_other(fault, in->data, in->size));
 }
 
 /* Says where the input has EWKB behind a header of a GeoPackage. */
@@ -388,43 +388,20 @@ static void same(sqlite3_context *context, int n, sqlite3_value **values) {
     sqlite3_result_int(context, (int)equal);
 }
 
-/* The geometry whose bounds a connection found last, if it is small: a query often asks for several sides of one blob.
- * SQLite calls the functions of a connection one after another. */
-typedef struct last_bounds {
-  int users;   /* the functions that have it */
-  size_t size; /* 0 where there is none yet */
-  wkb_box box;
-  uint8_t bytes[4096];
-} last_bounds;
-
-static void release(void *data) {
-  last_bounds *last = data;
-  if (--last->users == 0) sqlite3_free(last);
-}
-
-/* The bounds of a value, or NULL. */
-static const wkb_box *box_of(sqlite3_context *context, int n, sqlite3_value **values, wkb_box *box) {
-  last_bounds *last = sqlite3_user_data(context);
+/* Returns whether the argument has a geometry, and so bounds. */
+static bool has_bounds(sqlite3_context *context, int n, sqlite3_value **values, wkb_box *box) {
   if (n != 1) sqlite3_result_error(context, "wrong number of arguments: it takes one", -1);
-  if (n != 1 || has_null(n, values)) return NULL;
+  if (n != 1 || has_null(n, values)) return false;
   input in = input_of(values[0]);
-  if (in.fault != NULL) return NULL;
-  if (in.size > 0 && in.size == last->size && memcmp(in.data, last->bytes, in.size) == 0) return &last->box;
-  if (wkb_bounds(in.data, in.size, box, NULL) != WKB_STATUS_OK) return NULL;
-  if (in.size <= sizeof last->bytes) {
-    memcpy(last->bytes, in.data, in.size);
-    last->size = in.size;
-    last->box = *box;
-  }
-  return box;
+  return in.fault == NULL && wkb_bounds(in.data, in.size, box, NULL) == WKB_STATUS_OK;
 }
 
 /* The function of a side of the box. */
 #define SIDE(name, ordinate, end)                                                              \
   static void name(sqlite3_context *context, int n, sqlite3_value **values) {                  \
-    wkb_box found;                                                                             \
-    const wkb_box *box = box_of(context, n, values, &found);                                   \
-    if (box && box->ordinate.count > 0) sqlite3_result_double(context, box->ordinate.end);     \
+    wkb_box box;                                                                               \
+    if (has_bounds(context, n, values, &box) && box.ordinate.count > 0)                        \
+      sqlite3_result_double(context, box.ordinate.end);                                        \
   }
 
 SIDE(xmin, x, least)
@@ -437,9 +414,8 @@ SIDE(zmax, z, greatest)
 SIDE(mmax, m, greatest)
 
 static void st_is_empty(sqlite3_context *context, int n, sqlite3_value **values) {
-  wkb_box found;
-  const wkb_box *box = box_of(context, n, values, &found);
-  if (box) sqlite3_result_int(context, is_empty(box));
+  wkb_box box;
+  if (has_bounds(context, n, values, &box)) sqlite3_result_int(context, is_empty(&box));
 }
 
 typedef struct call {
@@ -497,32 +473,23 @@ static int look_up(sqlite3 *db, const char *name) {
   return status;
 }
 
-static int define(sqlite3 *db, const call *it, last_bounds *last) {
+static int define(sqlite3 *db, const call *it) {
   int flags = SQLITE_UTF8 | SQLITE_DETERMINISTIC | SQLITE_INNOCUOUS;
-  last->users++;
-  return sqlite3_create_function_v2(db, it->name, it->n, flags, last, it->function, NULL, NULL, release);
+  return sqlite3_create_function(db, it->name, it->n, flags, NULL, it->function, NULL, NULL);
 }
 
-static int define_where_none_is(sqlite3 *db, const call *it, last_bounds *last) {
+static int define_where_none_is(sqlite3 *db, const call *it) {
   int status = look_up(db, it->name);
-  return status == SQLITE_ERROR ? define(db, it, last) : status;
+  return status == SQLITE_ERROR ? define(db, it) : status;
 }
 
-/* Defines functions that share the bounds that were found last. */
 static int define_all(sqlite3 *db, char **error, const call *calls, size_t count,
-                      int (*define_one)(sqlite3 *, const call *, last_bounds *)) {
+                      int (*define_one)(sqlite3 *, const call *)) {
   int status = SQLITE_OK;
-  last_bounds *last = sqlite3_malloc(sizeof *last);
-  if (last == NULL) {
-    if (error != NULL) *error = sqlite3_mprintf("out of memory");
-    return SQLITE_NOMEM;
-  }
-  last->users = 1, last->size = 0;
   for (size_t i = 0; i < count && status == SQLITE_OK; i++) {
-    status = define_one(db, &calls[i], last);
+    status = define_one(db, &calls[i]);
     if (status != SQLITE_OK && error != NULL) *error = sqlite3_mprintf("%s: %s", calls[i].name, sqlite3_errmsg(db));
   }
-  release(last);
   return status;
 }
 

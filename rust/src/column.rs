@@ -162,7 +162,8 @@ impl<'a> Column<'a> {
         Column { data: self.data, offsets, validity }
     }
 
-    /// The column as so many columns of about as many rows, one after another: threads can share them.
+    /// The column as so many columns of about as many rows, one after another: threads can share them. A row that
+    /// overlaps one of another column isn't bad here, as with [`slice`](Column::slice).
     ///
     /// ```
     /// use porchsorrel_wkb::{Facts, Rows};

@@ -49,7 +49,7 @@ pub struct Facts {
     pub accepted: usize,
     /// How many are null.
     pub null_rows: usize,
-    /// How many are rejected for their bytes. The rest has bad offsets.
+    /// How many are rejected for their bytes. The rest has bad offsets, and isn't counted here.
     pub refused: usize,
     /// How many rows are of each kind and dimension that occurs.
     pub kinds: BTreeMap<(Kind, Dimension), usize>,
@@ -77,7 +77,8 @@ impl Default for Facts {
 }
 
 impl Facts {
-    /// Adds the facts of other rows, as of another part of a column that threads have shared.
+    /// Adds the facts of other rows, as of another part of a column that threads have shared. Where offsets decrease,
+    /// parts may accept rows that the whole column doesn't.
     pub fn add(&mut self, other: &Facts) {
         self.rows += other.rows;
         self.accepted += other.accepted;

@@ -11,15 +11,8 @@ fn rows() -> Rows {
     Rows::of([Some(little.clone()), None, Some(big), Some(little[..20].to_vec())])
 }
 
+const DIMENSIONS: [Dimension; 4] = [Dimension::Xy, Dimension::Xyz, Dimension::Xym, Dimension::Xyzm];
 const STATUSES: [Status; 4] = [Status::OK, Status::NULL_ROW, Status::OK, Status::SHORT_POINT];
-
-#[test]
-fn checked() {
-    assert_eq!(rows().column().check(), STATUSES);
-    let (bounds, statuses) = rows().column().bounds();
-    assert_eq!(statuses, STATUSES);
-    assert_eq!((bounds[2].y.least, bounds[1], bounds[3]), (-4.0, Bounds::EMPTY, Bounds::EMPTY));
-}
 
 #[test]
 fn offsets_and_validity() {
@@ -87,16 +80,6 @@ fn no_rows() {
 }
 
 #[test]
-fn written() {
-    let big = Options { order: Order::BigEndian, form: Form::EwkbWithSrid(4326) };
-    let encodings = rows().column().write(&big);
-    assert_eq!((&encodings.statuses[..], &encodings.ends[..]), (&STATUSES[..], &[25, 25, 50, 50][..]));
-    assert_eq!((encodings.data.len(), encodings.row(1), encodings.row(3)), (50, None, None));
-    let expected = write(&point(1.0, 2.0, Order::LittleEndian), &big).unwrap();
-    assert_eq!(encodings.row(0), Some(&expected[..]));
-}
-
-#[test]
 fn coordinates_out_and_in() {
     let out = rows().column().coordinates(Dimension::Xy);
     assert_eq!((&out.words[..], &out.row_ends[..]), (&[1.0, 2.0, 3.0, -4.0][..], &[1, 1, 2, 2][..]));
@@ -137,16 +120,50 @@ fn levels_without_a_row_of_their_own() {
     assert_eq!(multis.data, [multi(&point), multi(&[]), multi(&[]), multi(&collection[9..])].concat());
 }
 
+/// Levels without ends of their own: an item is one of the next level.
 #[test]
-fn multi_polygons() {
-    // Two rows: one of two polygons with a ring each, one without polygons.
-    let words: Vec<f64> = (0..16).map(f64::from).collect();
-    let levels =
-        Levels { words: &words, ring_ends: Some(&[4, 8]), single_ends: Some(&[1, 2]), row_ends: Some(&[2, 2]) };
-    let rows = levels.encode(Kind::MultiPolygon, Dimension::Xy, &Options::default());
-    let whole = check(rows.row(0).unwrap()).unwrap();
-    assert_eq!((whole.kind, whole.parts, whole.coordinates), (Kind::MultiPolygon, 5, 8));
-    assert_eq!(rows.row(1).map(<[u8]>::len), Some(9));
+fn levels_without_ends() {
+    for dimension in DIMENSIONS {
+        let words: Vec<f64> = (0..6 * dimension.width()).map(|it| it as f64).collect();
+        let levels = Levels { words: &words, ..Levels::default() };
+        let options = Options::default();
+        let whole = |of: Levels, kind| of.encode(kind, dimension, &options);
+        let with_ends = |rings: &[u64], singles: &[u64], rows: &[u64], kind| {
+            let of = Levels { ring_ends: Some(rings), single_ends: Some(singles), row_ends: Some(rows), ..levels };
+            whole(of, kind)
+        };
+        let (six, two) = ([1, 2, 3, 4, 5, 6], [2, 6]);
+        let points = with_ends(&six, &six, &six, Kind::Point);
+        assert_eq!((&whole(levels, Kind::Point), points.data.len()), (&points, 6 * (5 + 8 * dimension.width())));
+        assert_eq!(
+            encode_point(&words[..dimension.width()], dimension, &options),
+            points.data[..points.data.len() / 6]
+        );
+        let multis = whole(Levels { row_ends: Some(&two), ..levels }, Kind::MultiPoint);
+        assert_eq!(multis, with_ends(&six, &six, &two, Kind::MultiPoint));
+        let lines = whole(Levels { ring_ends: Some(&two), ..levels }, Kind::LineString);
+        assert_eq!(lines, with_ends(&two, &[1, 2], &[1, 2], Kind::LineString));
+        let polygons = Levels { ring_ends: Some(&six), single_ends: Some(&two), ..levels };
+        assert_eq!(whole(polygons, Kind::Polygon), with_ends(&six, &two, &[1, 2], Kind::Polygon));
+    }
+}
+
+/// Words that are no whole number of coordinates: no row is written, whichever levels have ends.
+#[test]
+fn words_without_a_whole_coordinate() {
+    for dimension in DIMENSIONS {
+        let (width, options) = (dimension.width(), Options::default());
+        let words = vec![1.0; 3 * width];
+        for count in (1..words.len()).filter(|it| it % width != 0) {
+            let levels = Levels { words: &words[..count], ..Levels::default() };
+            let points = levels.encode(Kind::Point, dimension, &options);
+            assert_eq!((points.statuses, points.data), (vec![Status::BAD_LEVELS; count / width + 1], vec![]));
+            let line = Levels { ring_ends: Some(&[1]), ..levels }.encode(Kind::LineString, dimension, &options);
+            assert_eq!((line.statuses, line.data), (vec![Status::BAD_LEVELS], vec![]), "{count} words");
+            let ends = Levels { row_ends: Some(&[0, 1]), ..levels }.encode(Kind::MultiPoint, dimension, &options);
+            assert_eq!((ends.statuses, ends.data), (vec![Status::BAD_LEVELS; 2], vec![]), "{count} words");
+        }
+    }
 }
 
 #[test]

@@ -17,26 +17,6 @@ fn rows() -> Rows {
 }
 
 #[test]
-fn found() {
-    let (rows, alone) = (rows(), point(&[3.0, 0.0], Dimension::Xy, Form::Iso));
-    let found = rows.column().found();
-    assert_eq!(found.statuses, rows.column().check());
-    assert_eq!((found.row(0), found.row(2), found.row(5)), (check(&alone).ok(), None, None));
-    let kinds: Vec<_> = found.rows().map(|it| it.map(|it| (it.kind, it.dimension, it.srid))).collect();
-    let (point, line) = (Kind::Point, Kind::LineString);
-    let expected = [
-        Some((point, Dimension::Xy, None)),
-        Some((point, Dimension::Xy, Some(4326))),
-        None,
-        Some((point, Dimension::Xyz, Some(0))),
-        Some((line, Dimension::Xy, None)),
-        None,
-    ];
-    assert_eq!((found.rows().len(), kinds), (6, expected.to_vec()));
-    assert_eq!(Column::binary(&alone, &[]).found().rows().len(), 0);
-}
-
-#[test]
 fn facts() {
     let facts = rows().column().facts();
     assert_eq!((facts.rows, facts.accepted, facts.null_rows, facts.refused), (6, 4, 1, 1));
@@ -89,22 +69,11 @@ fn many_rows() {
     }
 }
 
-/// Facts of parts, in any number, add up to those of the whole; so do statuses.
 #[test]
-fn split() {
-    let rows = rows();
-    let (column, facts, statuses) = (rows.column(), rows.column().facts(), rows.column().check());
-    for columns in 1..9 {
-        let (mut all, mut each) = (Facts::default(), vec![]);
-        for part in column.split(columns) {
-            assert!([0, 1].contains(&(part.rows() - 6 / columns)));
-            all.add(&part.facts());
-            each.extend(part.check());
-        }
-        assert_eq!((&all, &each, column.split(columns).len()), (&facts, &statuses, columns));
-    }
+fn slices() {
+    let (rows, statuses) = (rows(), rows().column().check());
     for (from, to) in [(0, 0), (6, 6), (2, 4), (1, 6)] {
-        assert_eq!(column.slice(from..to).check(), statuses[from..to]);
+        assert_eq!(rows.column().slice(from..to).check(), statuses[from..to]);
     }
     let data = point(&[1.0, 2.0], Dimension::Xy, Form::Iso).repeat(3);
     let small = Column::binary(&data, &[0, 21, 42, 63]).with_validity(&[0b0101_0000], 4).unwrap();

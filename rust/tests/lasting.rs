@@ -14,7 +14,7 @@ const DIMENSIONS: [Dimension; 4] = [Dimension::Xy, Dimension::Xyz, Dimension::Xy
 const ORDERS: [Order; 2] = [Order::BigEndian, Order::LittleEndian];
 
 /// An input, and the numbers of its answer: its status, what is found or the fault, and sums of what is written under
-/// each option and of the bounds.
+/// each option, of the bounds, of the parts and of the levels.
 struct Row {
     input: Vec<u8>,
     status: u8,
@@ -36,7 +36,7 @@ fn row(line: &str) -> Row {
 fn rows() -> Vec<Row> {
     let lines = include_str!("../../c/test/lasting.rows").lines();
     let rows: Vec<Row> = lines.filter(|it| !it.starts_with('#')).map(row).collect();
-    assert!(rows.iter().filter(|it| it.sums.len() == 9).count() > 1000);
+    assert!(rows.iter().filter(|it| it.sums.len() >= 11).count() > 1000);
     rows
 }
 
@@ -89,6 +89,49 @@ fn sum_of(bounds: &Bounds) -> u32 {
     )
 }
 
+fn sum_of_parts(parts: &[Part]) -> u32 {
+    let entry = |it: &Part| {
+        let (srid, has_srid) = (it.srid().unwrap_or(0), u32::from(it.srid().is_some()));
+        let places = [it.bytes().start, it.bytes().end, it.offset(), it.count(), it.next()].map(|it| it as u64);
+        let (kind, dimension, width) = (it.kind() as u32, it.dimension() as u32, it.dimension().width() as u32);
+        let numbers = [srid, has_srid, kind, dimension, width, it.order() as u32];
+        [places.map(u64::to_le_bytes).concat(), numbers.map(u32::to_le_bytes).concat()].concat()
+    };
+    summed(&parts.iter().flat_map(entry).collect::<Vec<u8>>())
+}
+
+fn sum_of_levels(input: &[u8]) -> u32 {
+    let under = DIMENSIONS.map(|it| Rows::of([Some(input)]).column().coordinates(it));
+    let words = under.iter().flat_map(|it| it.words.iter().map(|it| it.to_bits()));
+    let ends = under[0].ring_ends.iter().chain(&under[0].single_ends).copied();
+    summed(&words.chain(ends).flat_map(u64::to_le_bytes).collect::<Vec<u8>>())
+}
+
+/// The same geometry made of its coordinates, and of its members.
+fn made_again(it: &Row, parts: &[Part], options: &Options) -> [Vec<u8>; 2] {
+    let (found, part) = (it.found(), |i: usize| &it.input[parts[i].bytes()]);
+    let whole = part(0);
+    let encoded = if found.kind == Kind::GeometryCollection {
+        write(whole, options).unwrap()
+    } else {
+        let mut out = Rows::of([Some(whole)]).column().coordinates(found.dimension);
+        // Whatever NaNs an empty point has, those of one are written.
+        if [Kind::Point, Kind::MultiPoint].contains(&found.kind) {
+            let points = out.words.chunks_mut(found.dimension.width());
+            points.filter(|it| it.iter().all(|it| it.is_nan())).for_each(|it| it.fill(f64::from_bits(0x7ff8 << 48)));
+        }
+        let (ring_ends, single_ends) = (Some(&out.ring_ends[..]), Some(&out.single_ends[..]));
+        let levels = Levels { words: &out.words, ring_ends, single_ends, row_ends: Some(&out.row_ends) };
+        levels.encode(found.kind, found.dimension, options).data
+    };
+    if found.kind < Kind::MultiPoint {
+        return [encoded.clone(), encoded];
+    }
+    let members = std::iter::successors(Some(1), |at| Some(parts[*at].next())).take(found.count);
+    let members = Rows::of(members.map(|it| Some(part(it))));
+    [encoded, members.column().collect(found.kind, found.dimension, options).unwrap()]
+}
+
 #[test]
 fn each_input() {
     let mut reader = Reader::default();
@@ -103,11 +146,15 @@ fn each_input() {
         let (found, size) = (it.found(), it.fields[0] as usize);
         assert_eq!((check(&it.input), found.dimension.width() as u64), (Ok(found), it.fields[9]), "{:x?}", it.input);
         assert_eq!(sum_of(&bounds(&it.input).unwrap()), it.sums[8], "{:x?}", it.input);
-        assert_eq!(reader.read(&it.input).unwrap().parts().len(), found.parts, "{:x?}", it.input);
+        let parts = reader.read(&it.input).unwrap().parts();
+        assert_eq!((parts.len(), parts[0].next()), (found.parts, found.parts), "{:x?}", it.input);
+        assert_eq!([sum_of_parts(parts), sum_of_levels(&it.input)], it.sums[9..11], "{:x?}", it.input);
         for (i, sum) in it.sums[..8].iter().enumerate() {
             let written = write(&it.input, &it.options(i)).unwrap();
             assert_eq!(summed(&written), *sum, "{:x?} as {:?}", it.input, it.options(i));
             assert_eq!(same(&it.input, &written), Ok(true), "{:x?}", it.input);
+            let again = made_again(&it, parts, &it.options(i));
+            assert_eq!(again.map(|it| summed(&it)), [*sum; 2], "{:x?} as {:?}", it.input, it.options(i));
         }
         assert!(bounds(&it.input[..size - 1]).unwrap_err().status.is_short(), "{:x?} without its end", it.input);
     }
@@ -135,6 +182,38 @@ fn as_a_column() {
             assert_eq!(row.map(summed), it.sums.get(number).copied(), "{:x?}", it.input);
         }
         assert!(written.rows().skip(1).step_by(2).all(|it| it.is_none()));
+    }
+}
+
+/// Facts of the inputs with null rows between them, of the whole column and of parts of it together.
+#[test]
+fn facts() {
+    let rows = rows();
+    let mut expected = Facts { rows: 2 * rows.len(), null_rows: rows.len(), ..Facts::default() };
+    for it in &rows {
+        if it.status != 0 {
+            expected.refused += 1;
+            continue;
+        }
+        let found = it.found();
+        expected.accepted += 1;
+        expected.bounds.add(&bounds(&it.input).unwrap());
+        *expected.kinds.entry((found.kind, found.dimension)).or_default() += 1;
+        match found.srid {
+            Some(srid) => drop(expected.srids.insert(srid)),
+            None => expected.without_srid += 1,
+        }
+    }
+    let made = Rows::of(rows.iter().flat_map(|it| [Some(&it.input), None]));
+    let (column, statuses) = (made.column(), made.column().check());
+    for columns in [1, 2, 7] {
+        let (mut all, mut each) = (Facts::default(), vec![]);
+        for part in column.split(columns) {
+            assert!([0, 1].contains(&(part.rows() - column.rows() / columns)));
+            all.add(&part.facts());
+            each.extend(part.check());
+        }
+        assert_eq!((&all, &each, column.split(columns).len()), (&expected, &statuses, columns));
     }
 }
 

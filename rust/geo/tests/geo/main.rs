@@ -1,5 +1,5 @@
-//! The crate's tests, over inputs of each kind and dimension.
-mod inputs;
+//! The crate's tests.
+mod lasting;
 mod memory;
 mod names;
 mod read;

@@ -1,42 +1,7 @@
-//! What is written of any geometry that has the traits.
+//! What is written of geometries that no input has, or that are rejected.
 use geo_traits::*;
-use porchsorrel_wkb::{check, write, Dimension, Kind, Rows};
+use porchsorrel_wkb::{check, write, Kind};
 use porchsorrel_wkb_geo::*;
-
-use crate::inputs::inputs;
-
-fn options() -> impl Iterator<Item = Options> {
-    let forms = [Form::Iso, Form::EwkbWithoutSrid, Form::EwkbWithSrid(0), Form::EwkbWithSrid(u32::MAX)];
-    let orders = [Order::BigEndian, Order::LittleEndian];
-    orders.into_iter().flat_map(move |order| forms.into_iter().map(move |form| Options { order, form }))
-}
-
-#[test]
-fn what_was_read() {
-    for input in inputs() {
-        let wkb = read_wkb(&input.bytes).unwrap();
-        for options in options() {
-            let written = write_geometry(&wkb, &options).unwrap();
-            assert_eq!(written, write(&input.bytes, &options).unwrap(), "{} {options:?}", input.kind);
-            assert_eq!(geometry_size(&wkb, &options), Ok(written.len()));
-        }
-    }
-}
-
-#[test]
-fn collections() {
-    let inputs = inputs();
-    let rows = Rows::of(inputs.iter().map(|it| Some(&it.bytes)));
-    let plain = Options::default();
-    let inner = rows.column().collect(Kind::GeometryCollection, Dimension::Xyz, &plain).unwrap();
-    let rows = Rows::of([Some(&inner), Some(&inputs[0].bytes)]);
-    let whole = rows.column().collect(Kind::GeometryCollection, Dimension::Xym, &plain).unwrap();
-    for options in options() {
-        let written = write_geometry(&read_wkb(&whole).unwrap(), &options).unwrap();
-        assert_eq!(written, write(&whole, &options).unwrap());
-        assert_eq!(geometry_size(&read_wkb(&whole).unwrap(), &options), Ok(written.len()));
-    }
-}
 
 /// A coordinate with words of one's own.
 #[derive(Clone)]
@@ -62,135 +27,123 @@ impl CoordTrait for Own {
     }
 }
 
-struct OwnPoint(Dimensions, Option<Own>);
-struct OwnPoints(Dimensions, Vec<OwnPoint>);
-struct OwnLine(Own, Own);
-struct OwnRect(Own, Own);
-struct OwnTriangle([Own; 3]);
-/// As many collections inside one another, and a point in the last one.
-enum Nested {
-    Point(OwnPoint),
-    Collection(Nesting),
+/// A geometry that has these members, or these coordinates.
+#[derive(Clone)]
+struct Made(Of, Dimensions, Vec<Made>, Vec<Own>);
+
+#[derive(Clone, Copy, Debug)]
+enum Of {
+    Kind(Kind),
+    Rect,
+    Triangle,
+    Line,
 }
-struct Nesting(usize);
 
-/// All types of the test have the same types of parts.
-macro_rules! geometry {
-    ($name:ident, $it:ident => $dim:expr, $kind:expr) => {
-        impl GeometryTrait for $name {
-            type T = f64;
-            type PointType<'a> = OwnPoint;
-            type LineStringType<'a> = UnimplementedLineString<f64>;
-            type PolygonType<'a> = UnimplementedPolygon<f64>;
-            type MultiPointType<'a> = OwnPoints;
-            type MultiLineStringType<'a> = UnimplementedMultiLineString<f64>;
-            type MultiPolygonType<'a> = UnimplementedMultiPolygon<f64>;
-            type GeometryCollectionType<'a> = Nesting;
-            type RectType<'a> = OwnRect;
-            type TriangleType<'a> = OwnTriangle;
-            type LineType<'a> = OwnLine;
+impl GeometryTrait for Made {
+    type T = f64;
+    type PointType<'a> = Made;
+    type LineStringType<'a> = Made;
+    type PolygonType<'a> = Made;
+    type MultiPointType<'a> = Made;
+    type MultiLineStringType<'a> = Made;
+    type MultiPolygonType<'a> = Made;
+    type GeometryCollectionType<'a> = Made;
+    type RectType<'a> = Made;
+    type TriangleType<'a> = Made;
+    type LineType<'a> = Made;
 
-            fn dim(&self) -> Dimensions {
-                let $it = self;
-                $dim
+    fn dim(&self) -> Dimensions {
+        self.1
+    }
+
+    fn as_type(&self) -> GeometryType<'_, Made, Made, Made, Made, Made, Made, Made, Made, Made, Made> {
+        match self.0 {
+            Of::Kind(Kind::Point) => GeometryType::Point(self),
+            Of::Kind(Kind::LineString | Kind::Ring) => GeometryType::LineString(self),
+            Of::Kind(Kind::Polygon) => GeometryType::Polygon(self),
+            Of::Kind(Kind::MultiPoint) => GeometryType::MultiPoint(self),
+            Of::Kind(Kind::MultiLineString) => GeometryType::MultiLineString(self),
+            Of::Kind(Kind::MultiPolygon) => GeometryType::MultiPolygon(self),
+            Of::Kind(Kind::GeometryCollection) => GeometryType::GeometryCollection(self),
+            Of::Rect => GeometryType::Rect(self),
+            Of::Triangle => GeometryType::Triangle(self),
+            Of::Line => GeometryType::Line(self),
+        }
+    }
+}
+
+/// A kind whose members are these.
+macro_rules! members {
+    ($trait:ident, $type:ident, $count:ident, $get:ident) => {
+        impl $trait for Made {
+            type $type<'a> = Made;
+
+            fn $count(&self) -> usize {
+                self.2.len()
             }
 
-            #[rustfmt::skip]
-            fn as_type(&self) -> GeometryType<
-                '_, OwnPoint, UnimplementedLineString<f64>, UnimplementedPolygon<f64>, OwnPoints,
-                UnimplementedMultiLineString<f64>, UnimplementedMultiPolygon<f64>, Nesting, OwnRect, OwnTriangle,
-                OwnLine,
-            > {
-                let $it = self;
-                $kind
+            unsafe fn $get(&self, i: usize) -> Made {
+                self.2[i].clone()
             }
         }
     };
 }
 
-geometry!(OwnPoint, it => it.0, GeometryType::Point(it));
-geometry!(OwnPoints, it => it.0, GeometryType::MultiPoint(it));
-geometry!(OwnLine, it => it.0.dim(), GeometryType::Line(it));
-geometry!(OwnRect, it => it.0.dim(), GeometryType::Rect(it));
-geometry!(OwnTriangle, it => it.0[0].dim(), GeometryType::Triangle(it));
-geometry!(Nesting, _it => Dimensions::Xy, GeometryType::GeometryCollection(_it));
-geometry!(Nested, it => match it { Nested::Point(it) => it.dim(), Nested::Collection(it) => it.dim() }, match it {
-    Nested::Point(it) => GeometryType::Point(it),
-    Nested::Collection(it) => GeometryType::GeometryCollection(it),
-});
+members!(MultiPointTrait, InnerPointType, num_points, point_unchecked);
+members!(MultiLineStringTrait, InnerLineStringType, num_line_strings, line_string_unchecked);
+members!(MultiPolygonTrait, InnerPolygonType, num_polygons, polygon_unchecked);
+members!(GeometryCollectionTrait, GeometryType, num_geometries, geometry_unchecked);
 
-impl PointTrait for OwnPoint {
+/// A kind whose corners are these coordinates.
+macro_rules! corners {
+    ($trait:ident, $($name:ident $i:literal),*) => {
+        impl $trait for Made {
+            type CoordType<'a> = Own;
+
+            $(fn $name(&self) -> Own {
+                self.3[$i].clone()
+            })*
+        }
+    };
+}
+
+corners!(LineTrait, start 0, end 1);
+corners!(RectTrait, min 0, max 1);
+corners!(TriangleTrait, first 0, second 1, third 2);
+
+impl PointTrait for Made {
     type CoordType<'a> = Own;
 
     fn coord(&self) -> Option<Own> {
-        self.1.clone()
+        self.3.first().cloned()
     }
 }
 
-impl MultiPointTrait for OwnPoints {
-    type InnerPointType<'a> = OwnPoint;
-
-    fn num_points(&self) -> usize {
-        self.1.len()
-    }
-
-    unsafe fn point_unchecked(&self, i: usize) -> OwnPoint {
-        OwnPoint(self.1[i].0, self.1[i].1.clone())
-    }
-}
-
-impl LineTrait for OwnLine {
+impl LineStringTrait for Made {
     type CoordType<'a> = Own;
 
-    fn start(&self) -> Own {
-        self.0.clone()
+    fn num_coords(&self) -> usize {
+        self.3.len()
     }
 
-    fn end(&self) -> Own {
-        self.1.clone()
-    }
-}
-
-impl RectTrait for OwnRect {
-    type CoordType<'a> = Own;
-
-    fn min(&self) -> Own {
-        self.0.clone()
-    }
-
-    fn max(&self) -> Own {
-        self.1.clone()
+    unsafe fn coord_unchecked(&self, i: usize) -> Own {
+        self.3[i].clone()
     }
 }
 
-impl TriangleTrait for OwnTriangle {
-    type CoordType<'a> = Own;
+impl PolygonTrait for Made {
+    type RingType<'a> = Made;
 
-    fn first(&self) -> Own {
-        self.0[0].clone()
+    fn exterior(&self) -> Option<Made> {
+        self.2.first().cloned()
     }
 
-    fn second(&self) -> Own {
-        self.0[1].clone()
+    fn num_interiors(&self) -> usize {
+        self.2.len().saturating_sub(1)
     }
 
-    fn third(&self) -> Own {
-        self.0[2].clone()
-    }
-}
-
-impl GeometryCollectionTrait for Nesting {
-    type GeometryType<'a> = Nested;
-
-    fn num_geometries(&self) -> usize {
-        1
-    }
-
-    unsafe fn geometry_unchecked(&self, _: usize) -> Nested {
-        match self.0 {
-            1 => Nested::Point(OwnPoint(Dimensions::Xy, Some(own(&[1.0, 2.0])))),
-            depth => Nested::Collection(Nesting(depth - 1)),
-        }
+    unsafe fn interior_unchecked(&self, i: usize) -> Made {
+        self.2[i + 1].clone()
     }
 }
 
@@ -220,33 +173,46 @@ fn expect(geometry: &impl GeometryTrait<T = f64>, expected: &[u8]) {
     assert_eq!(write_geometry(geometry, &with_srid), write(expected, &with_srid).map_err(|_| unreachable!()));
 }
 
+/// A geometry of these corners.
+fn made(of: Of, corners: &[&[f64]]) -> Made {
+    let corners: Vec<Own> = corners.iter().map(|it| own(it)).collect();
+    Made(of, corners[0].dim(), vec![], corners)
+}
+
 #[test]
 fn kinds_that_no_input_has() {
-    expect(&OwnLine(own(&[1., 2., 3.]), own(&[4., 5., 6.])), &bytes(1002, &[2], &[1., 2., 3., 4., 5., 6.]));
+    let line = made(Of::Line, &[&[1., 2., 3.], &[4., 5., 6.]]);
+    expect(&line, &bytes(1002, &[2], &[1., 2., 3., 4., 5., 6.]));
     // A rectangle is written in x and y.
     let corners = [1., 2., 1., 5., 4., 5., 4., 2., 1., 2.];
-    expect(&OwnRect(own(&[1., 2., 3.]), own(&[4., 5., 6.])), &bytes(3, &[1, 5], &corners));
-    let triangle = OwnTriangle([own(&[0., 0.]), own(&[1., 0.]), own(&[0., 1.])]);
+    expect(&made(Of::Rect, &[&[1., 2., 3.], &[4., 5., 6.]]), &bytes(3, &[1, 5], &corners));
+    let triangle = made(Of::Triangle, &[&[0., 0.], &[1., 0.], &[0., 1.]]);
     expect(&triangle, &bytes(3, &[1, 4], &[0., 0., 1., 0., 0., 1., 0., 0.]));
+}
+
+const DIMENSIONS: [(Dimensions, u32, usize); 7] = [
+    (Dimensions::Xy, 1, 2),
+    (Dimensions::Xyz, 1001, 3),
+    (Dimensions::Xym, 2001, 3),
+    (Dimensions::Xyzm, 3001, 4),
+    (Dimensions::Unknown(2), 1, 2),
+    (Dimensions::Unknown(3), 1001, 3),
+    (Dimensions::Unknown(4), 3001, 4),
+];
+
+fn point(dimensions: Dimensions, words: &[f64]) -> Made {
+    Made(Of::Kind(Kind::Point), dimensions, vec![], vec![Own(dimensions, words.to_vec())])
 }
 
 #[test]
 fn points() {
     let nan = f64::from_bits(0x7ff8_0000_0000_0000);
-    for (dimensions, code, width) in [
-        (Dimensions::Xy, 1, 2),
-        (Dimensions::Xyz, 1001, 3),
-        (Dimensions::Xym, 2001, 3),
-        (Dimensions::Xyzm, 3001, 4),
-        (Dimensions::Unknown(2), 1, 2),
-        (Dimensions::Unknown(3), 1001, 3),
-        (Dimensions::Unknown(4), 3001, 4),
-    ] {
+    for (dimensions, code, width) in DIMENSIONS {
         let words = &[1., 2., 3., 4.][..width];
-        expect(&OwnPoint(dimensions, Some(Own(dimensions, words.to_vec()))), &bytes(code, &[], words));
-        expect(&OwnPoint(dimensions, None), &bytes(code, &[], &[nan; 4][..width]));
+        expect(&point(dimensions, words), &bytes(code, &[], words));
+        let empty = Made(Of::Kind(Kind::Point), dimensions, vec![], vec![]);
+        expect(&empty, &bytes(code, &[], &[nan; 4][..width]));
     }
-    expect(&OwnPoints(Dimensions::Xy, vec![]), &bytes(4, &[0], &[]));
 }
 
 /// What is rejected: by the size as by the encoding.
@@ -256,35 +222,60 @@ fn refused(geometry: &impl GeometryTrait<T = f64>) -> NotWritten {
     why
 }
 
+/// An empty member of another dimension is rejected as one with a coordinate is, and so is a coordinate.
 #[test]
-fn not_written() {
+fn members_of_another_dimension() {
+    let incorrect = NotWritten::Refused(Status::INCORRECT_TYPE);
+    assert_eq!(incorrect.to_string(), Status::INCORRECT_TYPE.text());
+    let coordinate = |dimensions| vec![Own(dimensions, vec![1.; 4])];
+    for ((outer, code, _), (inner, other, _)) in DIMENSIONS.iter().flat_map(|a| DIMENSIONS.map(|b| (*a, b))) {
+        let member = |kind, coordinates| {
+            let ring = Made(Of::Kind(Kind::Ring), inner, vec![], coordinate(inner));
+            let rings = if kind == Kind::Polygon && coordinates { vec![ring] } else { vec![] };
+            Made(Of::Kind(kind), inner, rings, if coordinates { coordinate(inner) } else { vec![] })
+        };
+        for (kind, of) in [
+            (Kind::MultiPoint, Kind::Point),
+            (Kind::MultiLineString, Kind::LineString),
+            (Kind::MultiPolygon, Kind::Polygon),
+        ] {
+            for coordinates in [false, true] {
+                let whole = Made(Of::Kind(kind), outer, vec![member(of, coordinates)], vec![]);
+                let size = geometry_size(&whole, &big());
+                assert_eq!(size.is_ok(), code == other, "{kind} {outer:?} of {inner:?}");
+                if code != other {
+                    assert_eq!(refused(&whole), incorrect, "{kind} {outer:?} of {inner:?}");
+                }
+            }
+        }
+        let polygon = Made(Of::Kind(Kind::Polygon), outer, vec![member(Kind::LineString, true)], vec![]);
+        for it in [polygon, Made(Of::Kind(Kind::LineString), outer, vec![], coordinate(inner))] {
+            assert_eq!(write_geometry(&it, &big()).err(), (code != other).then_some(incorrect), "{outer:?} {inner:?}");
+        }
+    }
+}
+
+#[test]
+fn words_without_a_dimension() {
     for words in [0, 1, 5] {
-        let dimensions = Dimensions::Unknown(words);
-        let why = NotWritten::UnknownDimension(words);
-        assert_eq!(refused(&OwnPoint(dimensions, None)), why);
-        assert_eq!(refused(&OwnPoints(Dimensions::Xy, vec![OwnPoint(dimensions, None)])), why);
+        let (dimensions, why) = (Dimensions::Unknown(words), NotWritten::UnknownDimension(words));
         let corner = || Own(dimensions, vec![1.; 5]);
-        assert_eq!(refused(&OwnRect(corner(), corner())), why);
-        assert_eq!(refused(&OwnTriangle([corner(), corner(), corner()])), why);
-        assert_eq!(refused(&OwnLine(corner(), corner())), why);
+        for of in [Of::Kind(Kind::Point), Of::Kind(Kind::GeometryCollection), Of::Rect, Of::Triangle, Of::Line] {
+            assert_eq!(refused(&Made(of, dimensions, vec![], vec![corner(), corner(), corner()])), why, "{of:?}");
+        }
+        let empty = Made(Of::Kind(Kind::Point), dimensions, vec![], vec![]);
+        assert_eq!(refused(&Made(Of::Kind(Kind::MultiPoint), Dimensions::Xy, vec![empty], vec![])), why);
         assert_eq!(why.to_string(), format!("coordinates of {words} words have no dimension"));
     }
-    let incorrect = NotWritten::Refused(Status::INCORRECT_TYPE);
-    let member = |dimensions| vec![OwnPoint(Dimensions::Xy, None), OwnPoint(dimensions, None)];
-    assert_eq!(refused(&OwnPoints(Dimensions::Xy, member(Dimensions::Xyz))), incorrect);
-    assert_eq!(refused(&OwnPoints(Dimensions::Xyz, member(Dimensions::Xyz))), incorrect);
-    assert_eq!(refused(&OwnPoint(Dimensions::Xym, Some(own(&[1., 2., 3.])))), incorrect);
-    assert_eq!(refused(&OwnLine(own(&[1., 2.]), own(&[1., 2., 3.]))), incorrect);
-    assert_eq!(incorrect.to_string(), Status::INCORRECT_TYPE.text());
 }
 
 #[test]
 fn depth() {
+    let around = |it: Made| Made(Of::Kind(Kind::GeometryCollection), Dimensions::Xy, vec![it], vec![]);
+    let whole = (0..128).fold(point(Dimensions::Xy, &[1., 2.]), |it, _| around(it));
     let mut expected = bytes(7, &[1], &[]).repeat(128);
     expected.extend(bytes(1, &[], &[1., 2.]));
-    expect(&Nesting(128), &expected);
+    expect(&whole, &expected);
     assert_eq!(check(&expected).unwrap().parts, 129);
-    assert_eq!(refused(&Nesting(129)), NotWritten::Refused(Status::NESTING_DEPTH_EXCEEDED));
-    // A million would need a stack of their own.
-    assert_eq!(refused(&Nesting(1_000_000)), NotWritten::Refused(Status::NESTING_DEPTH_EXCEEDED));
+    assert_eq!(refused(&around(whole)), NotWritten::Refused(Status::NESTING_DEPTH_EXCEEDED));
 }
