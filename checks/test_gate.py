@@ -64,11 +64,13 @@ class Gate(unittest.TestCase):
 
     def gate(self, fails="none", *words, path=os.environ["PATH"], **own):
         """The status of CI, its calls and its output, if one step fails. It is started in another folder."""
-        said = pathlib.Path(self.room.name, "said")
+        said, kept = pathlib.Path(self.room.name, "said"), pathlib.Path(self.room.name, "kept")
         said.write_text("")
-        env = {**os.environ, "PATH": f"{self.top}/bin:{path}", "SAID": said, "FAILS": fails, **own}
+        kept.mkdir(exist_ok=True)
+        env = {**os.environ, "PATH": f"{self.top}/bin:{path}", "SAID": said, "FAILS": fails, "TMPDIR": kept, **own}
         ran = subprocess.run([self.top / ".ci/run", *words], env=env, cwd=self.room.name, stdout=subprocess.PIPE,
                              stderr=subprocess.STDOUT, text=True)
+        self.assertEqual([*kept.iterdir()], [], "CI leaves its logs behind")
         return ran.returncode, said.read_text().splitlines(), ran.stdout
 
     def log(self):

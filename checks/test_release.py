@@ -23,7 +23,9 @@ MAKERS = {
     "bin/aarch64-linux-gnu-gcc": "",
     "bin/musl-gcc": "",
 }
-FILES = """SHA256SUMS clone.crate geo.crate porchsorrel-9.9.9.spdx.json porchsorrel-9.9.9.tar.gz
+# The page of which the table of the files is.
+TABLE = "# Files\n\n| file | for |\n|---|---|\n| `porchsorrel-NEW.tar.gz` | all ([it](../it.md)) |\n\nMore\n"
+FILES = """FILES.md SHA256SUMS clone.crate geo.crate porchsorrel-9.9.9.spdx.json porchsorrel-9.9.9.tar.gz
 porchsorrel-pages-9.9.9.tar.gz porchsorrel-wkb-c-9.9.9.tar.gz porchsorrel_wkb-9.9.9-aarch64-linux-gnu-gcc.whl
 porchsorrel_wkb-9.9.9-musl-gcc.whl porchsorrel_wkb-9.9.9-our-cc.whl""".split()
 
@@ -43,6 +45,8 @@ class Release(unittest.TestCase):
             file.write_text(STUB.format(name=name, does=does))
             file.chmod(0o755)
         shutil.copy2(pages.ROOT / "tools/release", cls.top / "tools/release")
+        (cls.top / "docs").mkdir()
+        (cls.top / "docs/RELEASING.md").write_text(TABLE)
         own = ["-c", "user.name=it", "-c", "user.email=it@example.org"]
         for words in ["init", "-q"], ["add", "-A"], [*own, "commit", "-qm", "as it is"]:
             subprocess.run(["git", *words], cwd=cls.top, check=True)
@@ -60,6 +64,7 @@ class Release(unittest.TestCase):
         status, made = self.release("made")
         self.assertEqual((status, sorted(made)), (0, FILES))
         sums = {name: it for it, name in (line.split("  ") for line in made.pop("SHA256SUMS").decode().splitlines())}
+        self.assertEqual(made["FILES.md"], b"| file | for |\n|---|---|\n| `porchsorrel-9.9.9.tar.gz` | all |\n\n")
         with tarfile.open(fileobj=io.BytesIO(made["porchsorrel-9.9.9.tar.gz"])) as archive:
             self.assertEqual({it.name.split("/")[0] for it in archive}, {"porchsorrel-9.9.9"})
         self.assertEqual(sums, {name: hashlib.sha256(it).hexdigest() for name, it in made.items()})

@@ -131,7 +131,7 @@ class Library(Copy):
     STUB = """#!/bin/sh
 it=$(echo "{name}${{*:+ $*}}" | sed "s|$TOP/||g")
 echo "$it" >>"$TOP/said"
-[ "$it" != "$FAILS" ]
+[ "$it" != "$FAILS" ] || exit 101
 """
     REAL = "checks/library/run", "checks/library/link", "checks/library/try", "checks/hosts/run"
     CALLS = [
@@ -142,7 +142,7 @@ echo "$it" >>"$TOP/said"
         "checks/faults/weaken 4", "checks/systems/second_compiler", "checks/systems/cross_test",
         "checks/systems/pads_test", "checks/systems/windows_test", "checks/systems/unrun_test",
         "checks/systems/cmake_test", "checks/systems/install_test", "checks/systems/dist_test",
-        "checks/pages/pages_test", "checks/systems/wheels_test", "make -s -C c CC=cc all", "c/out/hostile_cost",
+        "checks/pages/pages_test", "checks/systems/wheels_test", "make -s -C c CC=cc all", "checks/hosts/cost",
         "checks/hosts/sanitize", "checks/hosts/fuzz", "python/run", "sqlite/run", "postgres/run",
     ]
 
@@ -158,7 +158,6 @@ echo "$it" >>"$TOP/said"
         super().setUp()
         need("bash")
         self.copy(*self.REAL)
-        self.write("checks/hosts/hostile_cost.c", "")
         for name in "rt", "cc", "c++", "gdal-config":
             self.write(f"bin/{name}", "#!/bin/sh\n", 0o755)
         for name in {it.split()[0] for it in self.CALLS}:
@@ -212,28 +211,42 @@ class Program(Copy):
 
 
 class LeftOut(unittest.TestCase):
-    """checks/sources/left_out over logs."""
+    """checks/sources/left_out over logs, on machines that lack a package or none, and have or lack all else."""
+
+    OK = "== step: checks/run\nRan 99 tests in 9.9s\n\nOK (skipped=1)\n"
+    # A log, whether a package is missing, whether the commands of OTHERS find what they look for, and what is wrong.
+    CASES = [
+        (OK, False, False, []),
+        (OK.replace("OK", "FAILED"), False, False, ["checks/run doesn't say OK"]),
+        (f"== step: rust/run\nRan 99 tests\n{OK.replace('99', '9')}", False, False, ["checks/run ran 9 of 50 tests"]),
+        ("== step: checks/run\nOK\n", False, False, ["checks/run ran none of 50 tests"]),
+        ("== step: it\nit: left out: this, since it rains\n", True, True, []),
+        ("== step: it\nit: left out: this, since it rains\n", False, False, ["it left out this, since it rains"]),
+        ("== step: it\nleft out: this, since there is no rt\n", False, False, []),
+        ("== step: it\nleft out: this, since there is no rt\n", True, True, ["it left out this, since there is no rt"]),
+        ("== step: it\ntried: false commits\n", False, True, []),
+        ("== step: it\ntried: false commits\n", False, False, ["it tried false commits, which"]),
+        ("== step: rt ci\nleft out: it, since it rains\n", False, False, []),
+    ]
+
+    def test_each(self):
+        left_out = module("checks/sources/left_out")
+        for log, is_missing, has_all, wrong in self.CASES:
+            with self.subTest(log=log, is_missing=is_missing):
+                found = [*left_out.faults(log, ["it"] * is_missing, lambda _: has_all)]
+                self.assertEqual([it[: len(say)] for it, say in zip(found, wrong)], wrong)
+                self.assertEqual(len(found), len(wrong))
 
     def test_its_status(self):
-        left_out = module("checks/sources/left_out")
-        many = left_out.TESTS
-        for log, status in [
-            (f"Ran {many} tests in 9.9s\n\nOK\n", 0),
-            (f"left out: a test, since it is gone\nRan {many} tests in 9.9s\n\nOK (skipped=1)\n", 0),
-            (f"Ran {many} tests in 9.9s\n\nFAILED (failures=1)\n", 1),
-            (f"Ran {many // 3} tests in 9.9s\n\nOK\n", 1),
-            (f"Ran {many} tests in 9.9s\n\nOK\n== step: checks/memory/run\nleft out: it, since it is gone\n", 1),
-        ]:
-            with self.subTest(log=log), tempfile.NamedTemporaryFile("w") as file:
-                file.write(f"== step: checks/run\n{log}")
+        for log, status in (self.OK, 0), ("== step: checks/run\n", 1):
+            with tempfile.NamedTemporaryFile("w") as file:
+                file.write(log)
                 file.flush()
                 with contextlib.redirect_stdout(io.StringIO()):
-                    self.assertEqual(left_out.main([file.name]), status)
+                    self.assertEqual(module("checks/sources/left_out").main([file.name]), status)
 
-    def test_what_can_be_tried(self):
-        left_out = module("checks/sources/left_out")
-        with mock.patch.dict(left_out.PARTS, {"it": {"there": "true", "gone": "false"}}):
-            self.assertEqual([left_out.can_be_tried("it", part) for part in ("there", "gone")], [True, False])
+    def test_the_machine(self):
+        self.assertEqual([*map(module("checks/sources/left_out").is_here, ("true", "false"))], [True, False])
 
 
 class Hosts(Copy):
@@ -243,7 +256,7 @@ class Hosts(Copy):
         need("make", "bash")
         self.copy("checks/hosts/run")
         self.write("c/Makefile", "all:\n\t@true\n")
-        for body, status, said in [("exit 0", 0, "ok"), ("exit 1", 1, "FAILED"), ("echo 'left out: it'", 0, "in part")]:
+        for body, status, said in [("true", 0, "ok"), ("exit 101", 1, "FAILED"), ("echo 'left out: it'", 0, "in part")]:
             with self.subTest(body=body):
                 self.write("python/run", f"#!/bin/sh\n{body}\n", 0o755)
                 ended, printed = self.ran("checks/hosts/run", "python")

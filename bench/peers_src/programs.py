@@ -1,8 +1,8 @@
 """The programs that bench/peers compares. Each is a class whose methods take and return bytes of geometries.
 
 `written` reads bytes and writes them again, with all that the program keeps, or returns None if it rejects them;
-`with_srid` does so with the SRID 4326. `is_valid` and `text` return None if the program has no such call. `refused_at`
-reads while allocation N fails, and returns `read`, `error`, or `none` if there are fewer.
+`with_srid` does so with the SRID 4326. `refused_at` reads while allocation N fails, and returns `read`, `error`, or
+`none` if there are fewer.
 """
 import ctypes
 import os
@@ -34,16 +34,6 @@ def loaded(*names):
     raise Absent(f"there is no {names[0]}")
 
 
-class Silent:
-    """A program that says nothing of validity, and writes no text."""
-
-    def is_valid(self, data):
-        return None
-
-    def text(self, data):
-        return None
-
-
 class InProcess:
     """A library in this process. Its reader is a C function of at most four words, over bytes that are kept."""
 
@@ -54,7 +44,7 @@ class InProcess:
         return "none" if is_to_come.value else "read" if self.is_read(result) else "error"
 
 
-class Ours(Silent, InProcess):
+class Ours(InProcess):
     """The C library, as `make -C c` builds it."""
 
     name = "Porchsorrel"
@@ -93,7 +83,6 @@ class Geos(InProcess):
         lib.GEOSversion.restype = c_char_p
         for name in ("_init", "WKBReader_create", "WKBWriter_create", "WKBReader_read", "WKBWriter_write"):
             getattr(lib, f"GEOS{name}_r").restype = c_void_p
-        lib.GEOSGeomToWKT_r.restype = c_char_p
         self.name = "GEOS " + lib.GEOSversion().decode().split("-")[0]
         self.context = c_void_p(lib.GEOS_init_r())
         self.source = c_void_p(lib.GEOSWKBReader_create_r(self.context))
@@ -119,12 +108,6 @@ class Geos(InProcess):
 
     def with_srid(self, data):
         return self.written(data, SRID)
-
-    def is_valid(self, data):
-        return self.library.GEOSisValid_r(self.context, self.read(data)) == 1
-
-    def text(self, data):
-        return self.library.GEOSGeomToWKT_r(self.context, self.read(data)).decode()
 
     def reader(self):
         return ctypes.cast(self.library.GEOSWKBReader_read_r, c_void_p)
@@ -165,14 +148,6 @@ class Ogr(InProcess):
 
     def with_srid(self, data):
         return self.written(data, SRID)
-
-    def is_valid(self, data):
-        return self.library.OGR_G_IsValid(self.read(data)) == 1
-
-    def text(self, data):
-        text = c_char_p()
-        self.library.OGR_G_ExportToWkt(self.read(data), ctypes.byref(text))
-        return text.value.decode()
 
     def reader(self):
         return ctypes.cast(self.library.OGR_G_CreateFromWkb, c_void_p)
@@ -230,22 +205,33 @@ class PostGis:
         found = self.made(data, "encode(ST_AsEWKB(g), 'hex')")
         return found and bytes.fromhex(found)
 
-    def written_of_hex(self, data):
-        found = self.ask(f"select encode(ST_AsEWKB('{data.hex()}'::geometry), 'hex')")
-        return found and bytes.fromhex(found)
-
     def with_srid(self, data):
         found = self.made(data, f"encode(ST_AsEWKB(ST_SetSRID(g, {SRID})), 'hex')")
         return found and bytes.fromhex(found)
 
-    def is_valid(self, data):
-        return self.made(data, "ST_IsValid(g)") == "t"
 
-    def text(self, data):
-        return self.made(data, "ST_AsText(g)")
+class SpatiaLite:
+    """SpatiaLite in SQLite's shell."""
+
+    def __init__(self):
+        version = shutil.which("sqlite3") and self.ask("spatialite_version()")
+        if not version:
+            raise Absent("there is no sqlite3 with mod_spatialite")
+        self.name = f"SpatiaLite {version}"
+
+    def ask(self, wanted):
+        words = f"select load_extension('mod_spatialite');\nselect {wanted};\n"
+        ran = subprocess.run(["sqlite3"], input=words, capture_output=True, text=True)
+        if ran.returncode < 0:
+            os.kill(os.getpid(), -ran.returncode)
+        return ran.stdout.strip()
+
+    def written(self, data):
+        found = self.ask(f"hex(AsBinary(GeomFromWKB(x'{data.hex()}')))")
+        return bytes.fromhex(found) if found else None
 
 
-class Original(Silent):
+class Original:
     """The Rust crate, from a folder or from cargo's registry, in a program that bench/peers builds."""
 
     name = "`wkb` 0.9.3"

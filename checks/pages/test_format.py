@@ -4,7 +4,7 @@ The tables are read off the page row by row, and so are the sentences of SENTENC
 library has to agree on each: the type and the dimension of every code, the end of every body, the members that are
 accepted, the error that is reported first, and the length of every encoding. A shape that only the Rattle library
 writes is compared with the row of the geometry that is written. A status of the table of errors is that of the error in
-Rattle by crates/wkb_columns, its number that of c/wkb.h, its text that of the library. Printed texts are those of
+Rattle by crates/wkb_abi, its number that of c/wkb.h, its text that of the library. Printed texts are those of
 crates/wkb_geom/src/error.rt. The error `Memory` is left out, which no call of the C library reports.
 """
 import functools
@@ -17,7 +17,7 @@ from library import wkb
 from pages import rows_of, spans, text_of
 
 PAGE, HEADER, PRINTED = "docs/FORMAT.md", "c/wkb.h", "crates/wkb_read_cases/src/printed.rt"
-ERRORS, CAUSES = "crates/wkb_geom/src/error.rt", "crates/wkb_columns/src/fault.rt"
+ERRORS, CAUSES = "crates/wkb_geom/src/error.rt", "crates/wkb_abi/src/fault.rt"
 NUMBERS = {"two": 2, "three": 3, "four": 4}
 # The sentences that are run, with the groups that are read off them.
 SENTENCES = {
@@ -218,7 +218,7 @@ def faults():
 
 
 def statuses_of_errors():
-    """The status of each error in Rattle, by the code of crates/wkb_geom and crates/wkb_columns."""
+    """The status of each error in Rattle, by the code of crates/wkb_geom and crates/wkb_abi."""
     errors = dict(re.findall(r"Cause::(\w+)(?:\(\w+\))? => WkbError::(\w+)", text_of(ERRORS)))
     causes = re.findall(r"(?:Cause|General)::(\w+)(?: \{ \.\. \}|\(_\))? => ([A-Z_]+),", text_of(CAUSES))
     return {errors.get(name, name): status for name, status in causes}
@@ -319,8 +319,8 @@ def wrong():
     page = Page()
     found = page.lost
     if not found:
-        for judge in (wrong_codes, wrong_numbers, wrong_bodies, wrong_lengths, wrong_points, wrong_shapes):
-            found += judge(page)
+        for part in (wrong_codes, wrong_numbers, wrong_bodies, wrong_lengths, wrong_points, wrong_shapes):
+            found += part(page)
     return [f"{PAGE}: {it}" for it in [*found, *wrong_faults(), *wrong_texts()]]
 
 

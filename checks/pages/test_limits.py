@@ -15,7 +15,6 @@ COSTS = "crates/wkb_read/specs/Reads.antt"
 SLOTS = COSTS, r"slots_bounded : c\.slots ≤ (\d+) \* length buf"
 BOUNDED = "crates/wkb_check/specs/Public.antt"
 ARROW, COMMAND, STACK = "python/src/porchsorrel_wkb/_arrow.py", "crates/wkb_command/src", "c/test/stack.c"
-COST = "checks/hosts/hostile_cost.c"
 HEADER, TRUST = "c/wkb.h", "docs/TRUST.md"
 SYSTEMS, FORMAT, SPEED = "docs/SYSTEMS.md", "docs/FORMAT.md", "docs/SPEED.md"
 PEERS = "bench/peers", r"else '\"=([\d.]+)\"'"
@@ -23,30 +22,39 @@ PEERS = "bench/peers", r"else '\"=([\d.]+)\"'"
 FACTS = [
     (r"(?<![\d,])(\d+) nested collections", *DEPTH),
     (r"[Aa]t most (\d+) collections (?:are nested|inside)", *DEPTH),
+    (r"inside (\d+) (?:open ones|others)", *DEPTH),
     (r"NestingDepthExceeded\((\d+)\)` \|", *DEPTH),
     (r"a stack of at most (\d+) entries", *DEPTH),
     (r"`(\d+) \* turns <= len \+ (\d+)`", COSTS, r"turns_bounded : (\d+) \* c\.turns ≤ length buf \+ (\d+)"),
     (r"`slots <= (\d+) \* len`", *SLOTS),
     (r"(\d+) list entries", *SLOTS),
     (r"costs up to (\d+) entries", *SLOTS),
+    (r"of rings no more than a (\w+) of the remaining bytes, and of members a (\w+)",
+     "crates/wkb_geom/specs/Refusals.antt", r"slots_asked .*remaining / (\d+)\).*remaining / (\d+)\)"),
+    (r"an entry has at most (\d+) bytes", "docs/DECISIONS.md", r"of (\d+) bytes; the C"),
     (r"`(\d+) \* parts <= len \+ (\d+)`", BOUNDED, r"(\d+) \* f\.parts ≤ length input \+ (\d+)"),
     (r"`(\d+) \* coordinates <= len`", BOUNDED, r"(\d+) \* f\.coordinates ≤ length input"),
     (r"up to (\d+ KB) in place", "crates/wkb_sink/src/sink.rt", r"MAX_IN_PLACE: usize = ([\d <]+);"),
     (r"the program allows: (\d+)", f"{COMMAND}/transfer.rt", r"MAX_READS: u32 = ([\d_]+);"),
+    (r"(\d+) KB of stack (?:are|is)", "checks/pages/test_commands.py", r"(?m)^STACK = (\d+)$"),
     (r"parts (?:take at most )?(\d+ KB)", STACK, r"PARTS_MOST = ([\d <]+) }"),
     (r"takes at most (\d+ KB)|any other call (\d+ KB)", STACK, r"OTHERS_MOST = ([\d <]+) }"),
     (r"(?:claim|past|from 0 to) (4\d{9})(?: entries)?", "crates/wkb_geom/src/error.rt", r"A count past (\d+)"),
+    (r"(\d+\^\d+) rings", "crates/wkb_geom/specs/Numbers.antt", r"IsU32 n = n < (\d+ \^ \d+)"),
+    (r"SRIDs are unsigned (\d+)-bit", "crates/wkb_geom/specs/Numbers.antt", r"IsU32 n = n < 2 \^ (\d+)"),
+    (r"has (\d+) bytes for each part", "c/wkb.c", r"IS_LAID\(wkb_part, (\d+)"),
     (r"up to (\d+) times the array|(\d+) times as long as the array", ARROW, r"MOST_COPIES = (\d+)"),
-    (r"number of rows \(([\d,]+) and ([\d,]+) are compared", COST, r"FEW = (\d+), MANY = (\d+)"),
-    (r"from (\d+) on is a refusal", "crates/wkb_columns/specs/Classes.antt",
+    (r"time for a byte grows ([\d.]+) times", "checks/hosts/cost", r"GROWTH, TRIES = \d, ([\d.]+)"),
+    (r"from (\d+) on is a refusal", "crates/wkb_abi/specs/Classes.antt",
      r"IsRefusalStatus status = (\d+) ≤ status"),
     (r"exits with status (\d+)(?: it has| \(without|, `cost_hex`)", f"{COMMAND}/program.rt", r"FAILED: u8 = (\d+);"),
     (r"little-endian integers of (\d+) or (\d+) bytes", HEADER, r"offset_size;\s+/\*\*< (\d+) or (\d+)"),
     (r"Rust crate `?wkb`? ([\d.]+\d)", *PEERS),
     (r"Python (\d\.\d+) or later", "python/pyproject.toml", r'requires-python = ">= ([\d.]+)"'),
     (r"C\+\+(\d+)", "c/Makefile", r"cxx = \$\(CXX\) -std=c\+\+(\d+)"),
+    (r"a C(\d+) compiler", "c/Makefile", r"-std=c(\d+) -Wall"),
     (r'"Copyright \(c\) (\d+) The GeoRust', "LICENSE-MIT", r"Copyright \(c\) (\d+) The GeoRust"),
-    (r"octet_length\(wkb\) < (\d+)", "postgres/queries.sql", r"octet_length\(wkb\) < (\d+)"),
+    (r"octet_length\(wkb\) < (\d+)", "docs/START_SQL.md", r"octet_length\(value\) < (\d+)"),
     (r"more than (\d+) times as long", "python/src/porchsorrel_wkb/_arrow.py", r"MOST_COPIES = (\d+)"),
     (r"take up to (\d+) KB of stack there", HEADER, r"\((\d+) KB on Windows\)"),
     (r"so (\d+) and (\d+) read as points", FORMAT, r"such as 0, 8, (\d+),\s(\d+),"),
@@ -68,9 +76,17 @@ FACTS = [
     (r"\| ([\d.]+) \| yes \|", "python/pyproject.toml", r'(?m)^version = "(\d+\.\d+)\.'),
     (r"\(glibc (\d)\.(\d+) or later\)", "python/setup.py", r"manylinux_(\d)_(\d+)_"),
     (r"musl on x86-64 \((\d)\.(\d) or later\)", "python/setup.py", r"musllinux_(\d)_(\d)_"),
+    (r"\| FreeBSD (\d+), Android \(API (\d+)\)", "checks/systems/unrun_test", r"freebsd(\d+) linux-android(\d+)"),
+    (r"\| macOS (\d+) \|", "checks/systems/unrun_test", r"arm64-apple-macos(\d+)"),
+    (r"(Linux) on (x86-64), for (Linux) on (aarch64) \(tried under (qemu)\) and for (Windows) on (x86-64) "
+     r"\(tried under (wine)\)", SYSTEMS,
+     r"\| (Linux), glibc \| (x86-64) \|(?s:.*)\| (Linux), glibc \| (aarch64) \|.*under (qemu)"
+     r"(?s:.*)\| (Windows) \| (x86-64) \|.*under (wine)"),
+    (r"builds for (macOS) on (arm64), (FreeBSD) and (Android), where nobody has run it", SYSTEMS,
+     r"\| (macOS) \d+ \| (arm64) \| [^|]* \| no \|.*\n\| (FreeBSD) \d+, (Android) [^|]* \| [^|]* \| [^|]* \| no \|"),
     (r"and exits with status (\d) if it can't", "wkb_hex", r"(?s)exit 2.*?exit (\d)"),
 ]
-WORDS = {"four": 4}
+WORDS = {"four": 4, "quarter": 4, "ninth": 9, "sixteen": 16}
 SUM = re.compile(r"(?<![*/+-] )(?<![\w.])(\d+(?: [*/+-] \d+)+) = (\d+)\b(?! ?[*/+-])")
 
 

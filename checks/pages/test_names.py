@@ -11,19 +11,19 @@ import re
 import subprocess
 
 from checks import judge
-from pages import PAGES, ROOT, files, lines_of, prose_of, rows_of, spans, texts
+from pages import PAGES, ROOT, lines_of, prose_of, rows_of, spans, texts
 
 # Names of other programs, which no source of ours defines.
 FOREIGN = {"geom::bytea", "wkb::geometry"}
 # What a path of code begins with that is std's or stands for a name of the reader's.
 FOREIGN_PATHS = {"io", "fmt", "u8", "u32", "Self", "Enum", "Fail", "Default", "std", "crate"}
 # Files of the kit, and files that commands on the pages make.
-MADE_PATHS = {"bin/clang", "results/refused.csv", "crates/app", "build/", "test/", "source/"}
+MADE_PATHS = {"bin/clang", "crates/app", "build/", "test/", "source/"}
 # The words in capitals that stand for a part of a path.
 PLACES = re.compile(r"CRATE|NAME|FUNCTION")
 # A name that begins so is a command, of which only the paths are looked up.
 COMMANDS = """
-    dask-worker --scheduler rt rattle valgrind clang psql ls make grep export print -mllvm -ir ulimit env pip python3
+    rt rattle valgrind clang psql ls make grep export print -mllvm -ir ulimit env pip python3
     apt-get sed sha256sum
     """.split()
 PATH = re.compile(r"(?<![\w:/.'])[A-Za-z_]\w*(?:::[A-Za-z_]\w*)+")

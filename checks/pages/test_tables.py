@@ -304,7 +304,7 @@ class Tables(judge.Judge):
         ("README.md", "7 times as fast as by OGR", "9 times as fast as by OGR", "times as fast as by OGR"),
         (SPEED, "|   106.1 |", "|   206.1 |", "times as fast as by GEOS"),
         ("README.md", "takes 0.", "takes 1.", "of our time by docs/SPEED.md"),
-        ("docs/SYSTEMS.md", "/cross_test` |", "/dist_test` |", "dist_test builds nothing for aarch64"),
+        ("docs/SYSTEMS.md", "/cross_test` |", "/windows_test` |", "windows_test builds nothing for aarch64"),
         ("docs/SYSTEMS.md", "in C | `checks/systems/dist", "in C | `checks/systems/pads", "nothing for musl"),
         ("docs/SYSTEMS.md", "/unrun_test` |", "/pads_test` |", "pads_test builds nothing for macOS"),
         ("CHANGELOG.md", "all seven kinds", "all six kinds", "kinds and dimensions"),

@@ -9,8 +9,8 @@ from checks import judge
 from pages import text_of
 
 DECLARED = "c/wkb_raw.h"
-# In handlers and children, without memory, at the end of a page, over a painted stack, and through a fault on Windows.
-EVERY = [f"c/test/{it}.c" for it in ("interrupted", "memory", "pages", "stack", "alone/unwind_test")]
+# In handlers and children, at the end of a page, over a painted stack, and through a fault on Windows.
+EVERY = [f"c/test/{it}.c" for it in ("interrupted", "pages", "stack", "alone/unwind_test")]
 
 
 def calls():
@@ -23,10 +23,11 @@ class Calls(judge.Judge):
 
     controls = [
         *((DECLARED, "wkb_raw_check(", "wkb_raw_lost(", f"{it}: wkb_lost is not called") for it in EVERY),
-        ("c/test/memory.c", "wkb_collect(", "/* wkb_collect */ lost(", "memory.c: wkb_collect is not called"),
+        ("c/test/stack.c", "wkb_collect(", "/* wkb_collect */ lost(", "stack.c: wkb_collect is not called"),
     ]
 
     def wrong(self):
         for path in EVERY:
-            code = re.sub(r"/\*.*?\*/", "", text_of(path), flags=re.S)
+            code = text_of(path) + (text_of("c/test/lasting.c") if path.endswith("/pages.c") else "")
+            code = re.sub(r"/\*.*?\*/", "", code, flags=re.S)
             yield from (f"{path}: {it} is not called" for it in calls() if not re.search(rf"\b{it}\(", code))

@@ -1,7 +1,7 @@
 """Compares the interface between c/wkb.c and the proved calls: structs, and the parameters of each call.
 
 In wkb.c a struct has its size, its alignment, and the offset of each member, which C asserts. In
-crates/wkb_columns/specs/Layouts a struct has its fields, its size, its alignment and the offsets, which are proved.
+crates/wkb_abi/specs/Layouts a struct has its fields, its size, its alignment and the offsets, which are proved.
 Both use the same names for the fields. A slice is one field there, and here a pointer and, eight bytes after it, a
 length.
 
@@ -15,7 +15,7 @@ from items import items
 from pages import text_of, texts
 from specs import split_items
 
-C, PROVED = "c/wkb.c", "crates/wkb_columns/specs/Layouts.antt"
+C, PROVED = "c/wkb.c", "crates/wkb_abi/specs/Layouts.antt"
 RAW, EXPORTS = "c/wkb_raw.h", "crates/wkb_c/src/*.rt"
 # The structs of C, each with the name of its layout.
 STRUCTS = {

@@ -2,13 +2,13 @@
 import hashlib
 import json
 import os
-import pathlib
 import re
 import subprocess
 import unittest
 
 from checks import judge
-from pages import ROOT, files, paths, text_of
+from checks.judge import need
+from pages import ROOT, files, text_of
 
 # What the licence of each file is, in the form that tools of REUSE read.
 REUSE = ".reuse/dep5"
@@ -39,27 +39,30 @@ class Lines(judge.Judge):
 
 
 class Texts(judge.Judge):
-    """The licences that packages have, which hold no files above their own folders, and those in LICENSES, where REUSE
-    looks for the text of each that .reuse/dep5 names."""
+    """The licences of a crate, which holds no files above its own folder, and those in LICENSES, where REUSE looks."""
 
     copies = {
-        **{f"{folder}/{name}": name for folder in ("python", "rust/geo") for name in ("LICENSE-APACHE", "LICENSE-MIT")},
         "LICENSES/Apache-2.0.txt": "LICENSE-APACHE",
         "LICENSES/MIT.txt": "LICENSE-MIT",
+        "rust/geo/LICENSE-APACHE": "LICENSE-APACHE",
+        "rust/geo/LICENSE-MIT": "LICENSE-MIT",
     }
-    controls = [
-        *((copy, "2.0" if "APACHE" in name else "2024", "2.1", f"{copy} is not") for copy, name in copies.items()),
-        (REUSE, "LicenseRef-Rattle-kit", "LicenseRef-lost", "LICENSES has"),
-    ]
+    controls = [(copy, "2.0" if "APACHE" in name else "2024", "2.1", f"{copy} is not") for copy, name in copies.items()]
 
     def wrong(self):
-        named = set(re.findall(r"[\w.-]+", " ".join(re.findall(r"(?m)^License: (.*)$", text_of(REUSE)))))
-        texts = {pathlib.PurePath(it).stem for it in paths("LICENSES/*.txt")}
-        if texts != named - {"OR", "AND"}:
-            yield f"LICENSES has {texts}, and {REUSE} names {named}"
         for copy, name in self.copies.items():
             if text_of(copy) != text_of(name):
                 yield f"{copy} is not {name} at the top"
+
+
+class Reuse(unittest.TestCase):
+    """Debian's tool of REUSE finds the licence of each file, and the text of each licence."""
+
+    def test_it_is_content(self):
+        need("reuse")
+        how = {"stdout": subprocess.PIPE, "stderr": subprocess.STDOUT, "text": True}
+        ran = subprocess.run(["reuse", "--root", ROOT, "lint"], **how)
+        self.assertEqual(ran.returncode, 0, ran.stdout)
 
 
 class Sbom(unittest.TestCase):
@@ -68,11 +71,13 @@ class Sbom(unittest.TestCase):
     @classmethod
     def setUpClass(cls):
         cls.text, cls.later = (cls.printed(it) for it in ("0", "1700000000"))
+        cls.released = cls.printed("0", ROOT / "LICENSES")
         cls.sbom = json.loads(cls.text)
 
     @staticmethod
-    def printed(epoch):
-        return subprocess.check_output([ROOT / "tools/sbom"], env={**os.environ, "SOURCE_DATE_EPOCH": epoch}, text=True)
+    def printed(epoch, *folders):
+        own = {**os.environ, "SOURCE_DATE_EPOCH": epoch}
+        return subprocess.check_output([ROOT / "tools/sbom", *folders], env=own, text=True)
 
     def test_only_its_time_is_of_the_environment(self):
         self.assertEqual(self.sbom["creationInfo"]["created"], "1970-01-01T00:00:00Z")
@@ -88,12 +93,21 @@ class Sbom(unittest.TestCase):
             found = {sum_["algorithm"]: sum_["checksumValue"] for sum_ in it["checksums"]}
             self.assertEqual(found["SHA256"], hashlib.sha256(content).hexdigest(), it["fileName"])
 
+    def test_a_file_of_a_release_has_its_sum_and_no_licence(self):
+        listed = {it["fileName"]: it for it in json.loads(self.released)["files"]}
+        found = [(it["checksums"][1]["checksumValue"], it["licenseConcluded"]) for it in
+                 (listed[f"./{path.name}"] for path in (ROOT / "LICENSES").iterdir())]
+        wanted = [hashlib.sha256(it.read_bytes()).hexdigest() for it in (ROOT / "LICENSES").iterdir()]
+        self.assertEqual(found, [(it, "NOASSERTION") for it in wanted])
+
     def test_a_package_has_a_sum_exactly_if_it_has_files(self):
         files = {it["SPDXID"] for it in self.sbom["files"]}
         holders = {it["spdxElementId"] for it in self.sbom["relationships"] if it["relatedSpdxElement"] in files}
         self.assertEqual(len(holders), 6)
         for it in self.sbom["packages"]:
-            self.assertEqual((it["filesAnalyzed"], "packageVerificationCode" in it), (it["SPDXID"] in holders,) * 2)
+            ours = it["SPDXID"] in holders
+            self.assertEqual((it["filesAnalyzed"], "packageVerificationCode" in it), (ours, ours))
+            self.assertEqual(it["supplier"] != "NOASSERTION", ours)
 
     def test_each_name_is_there_once(self):
         named = [it["SPDXID"] for it in (self.sbom, *self.sbom["packages"], *self.sbom["files"])]

@@ -1,4 +1,4 @@
-"""No line of a script is too wide, and shellcheck has no warning about those of bash."""
+"""No line of a script is too wide, and the linters have no warning."""
 import pathlib
 import re
 import subprocess
@@ -9,8 +9,13 @@ from pages import ROOT, files, text_of
 
 # How wide a line of a script may be.
 COLUMNS = 120
-# A script of bash in which shellcheck has to find something, and what that is.
-UNQUOTED, FOUND = "#!/usr/bin/env bash\nrm -r $1\n", "SC2086"
+# The linters: the command, the languages, and a script in which it has to find something, and what that is.
+LINTERS = [
+    (["shellcheck", "-f", "gcc"], ("bash", "sh"), "#!/usr/bin/env bash\nrm -r $1\n", "SC2086"),
+    (["pyflakes3"], ("python",), "def it():\n    return lost\n", "undefined name 'lost'"),
+]
+# A file of names alone, which it imports for its users.
+NAMES = ["python/src/porchsorrel_wkb/__init__.py"]
 
 
 def sources_in(*languages):
@@ -19,11 +24,6 @@ def sources_in(*languages):
         first = path.read_bytes().partition(b"\n")[0].decode(errors="replace")
         if re.match(rf"#!.*\b({'|'.join(languages)})\d?$", first) or path.suffix == ".py" and "python" in languages:
             yield str(path.relative_to(ROOT))
-
-
-def scripts():
-    """The scripts of bash and sh."""
-    return [*sources_in("bash", "sh")]
 
 
 class Widths(judge.Judge):
@@ -38,21 +38,18 @@ class Widths(judge.Judge):
                     yield f"{path}:{number} has {len(line)} columns"
 
 
-class Bash(judge.unittest.TestCase):
-    """shellcheck over the scripts of bash, and over one that is wrong."""
+class Linters(judge.unittest.TestCase):
+    """A linter over the scripts of a language, and over one that is wrong."""
 
-    def checked(self, *paths):
-        ran = subprocess.run(["shellcheck", "-f", "gcc", *paths], cwd=ROOT, capture_output=True, text=True)
+    def checked(self, command, *paths):
+        ran = subprocess.run([*command, *paths], cwd=ROOT, capture_output=True, text=True)
         return ran.stdout + ran.stderr
 
-    def setUp(self):
-        judge.need("shellcheck")
-
-    def test_the_scripts(self):
-        self.assertEqual(self.checked(*scripts()), "")
-
-    def test_a_wrong_script(self):
-        with tempfile.TemporaryDirectory() as folder:
-            wrong = pathlib.Path(folder, "unquoted")
-            wrong.write_text(UNQUOTED, encoding="utf-8")
-            self.assertIn(FOUND, self.checked(wrong))
+    def test_each(self):
+        for command, languages, wrong, found in LINTERS:
+            with self.subTest(command=command), tempfile.TemporaryDirectory() as folder:
+                judge.need(command[0])
+                self.assertEqual(self.checked(command, *(it for it in sources_in(*languages) if it not in NAMES)), "")
+                script = pathlib.Path(folder, "wrong")
+                script.write_text(wrong, encoding="utf-8")
+                self.assertIn(found, self.checked(command, script))

@@ -11,6 +11,8 @@ name its evidence:
     caller                        it is a requirement on the caller
     later                         it is a promise for later versions
 
+The description of an input needs no row: that of a parameter which is passed by value or points to something const, but
+for a room, and that of a member of a struct which is only passed so.
 A sentence that ends in (tested) has tests alone, and so may those of the names in TESTED. Any other statement has a
 clause. A definition that a row names is reachable from the clauses of the functions that the row names, of its call, or
 of any call if it is about none: they name it, or a definition that they name does, and so on. No row and no sentence
@@ -28,6 +30,8 @@ from pages import ROOT, text_of, texts
 from specs import NAME, WORDS, defined
 
 HEADER, LIST = "c/wkb.h", "checks/sources/sentences.txt"
+# The structs that calls only read.
+READ = ("wkb_column.", "wkb_levels.", "wkb_options.")
 # The first sentences of the header cover these.
 TESTED = re.compile(
     r"wkb_(version|words?|whole|one_point|(?:little|big)_word|\w+_text|status_is_\w+)$|WKB_VERSION\w*$"
@@ -57,8 +61,17 @@ def about(text, comment):
     return f"{structs[-1][1]}.{member}" if inside else member
 
 
+def is_input(text, comment, name, sentence):
+    """Whether a sentence describes something that a call only reads."""
+    described = re.match(r"@param (?!room)(\w+) ", sentence)
+    if not described:
+        return name.startswith(READ)
+    declared = text[comment.end() :].partition("(")[2].partition(")")[0].split(",")
+    return any(re.search(rf"\b{described[1]}$", it) and ("*" not in it or it.split()[0] == "const") for it in declared)
+
+
 def sentences():
-    """`NAME: SENTENCE` for each sentence of the header's comments."""
+    """(`NAME: SENTENCE`, whether it describes an input) of each sentence of the header's comments."""
     text = text_of(HEADER)
     for comment in re.finditer(r"/\*+<?(.*?)\*/", text, re.S):
         name = about(text, comment)
@@ -67,7 +80,7 @@ def sentences():
         for part in re.split(r"\n\n|\n(?=[@|])", "\n".join(lines)):
             for sentence in re.split(r"(?<=\.) (?=[A-Z(-])", " ".join(part.split()).strip("| ")):
                 if not SILENT.match(sentence):
-                    yield f"{name}: {sentence}"
+                    yield f"{name}: {sentence}", is_input(text, comment, name, sentence)
 
 
 def rows():
@@ -159,7 +172,7 @@ def lost_way(sentence, carriers):
     functions = [(crate, owner) for crate, owner in named if owner in clause_words(crate)]
     calls = [it for it in clause_words("wkb_c") if it.startswith("wkb_raw_")]
     own = "wkb_raw_" + re.match(r"(?:wkb_)?(\w+)", sentence)[1]
-    about = [("wkb_c", it) for it in ([own] if own in calls else calls)] + [("wkb_columns", it) for it in sorted(FACTS)]
+    about = [("wkb_c", it) for it in ([own] if own in calls else calls)] + [("wkb_abi", it) for it in sorted(FACTS)]
     known = on_the_way(functions + about) if len(functions) < len(named) else ()
     for crate, owner in named:
         if owner not in clause_words(crate) and owner not in known:
@@ -198,8 +211,9 @@ def wrong_row(clauses, sentence, carriers):
 
 def wrong(clauses):
     """All that is wrong with the list."""
-    said, listed = [*sentences()], rows()
+    every, listed = [*sentences()], rows()
     named = [sentence for _, sentence, _ in listed]
+    said = [it for it, reads in every if it in named or not reads]
     yield from (f"{LIST} lacks: {it}" for it in said if it not in named)
     for number, sentence, carriers in listed:
         if sentence not in said:
@@ -231,6 +245,7 @@ class Sentences(judge.Judge):
         (HEADER, "a wkb_order */", "a byte */", "lacks: wkb_found.order: a byte"),
         (HEADER, "no global state (tested).", "no global state.", "lacks: WKB_H: Calls are thread-safe"),
         (HEADER, "| row alone  ", "| row, fault", "STATUS_BAD_OFFSETS | row, fault"),
+        (HEADER, "len + 4 is always", "len + 5 is always", "lacks: wkb_write: @param room the"),
         (HEADER, "@return its", "@return the", "lacks: wkb_version: @return the WKB_VERSION"),
         (LIST, "wkb_c wkb_raw_check accepted", "wkb_c wkb_raw_check lost", "wkb_raw_check of wkb_c has no lost"),
         (LIST, "clause wkb_c wkb_raw_check", "clause wkb_c wkb_raw_lost", "wkb_c has no wkb_raw_lost"),

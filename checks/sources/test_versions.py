@@ -1,11 +1,15 @@
 """Each file that has the version has the one of tools/version."""
+import pathlib
 import re
 import subprocess
+import tempfile
 import unittest
 
 from checks.judge import pages
 
 NUMBER = r"\d+\.\d+\.\d+"
+# How pages name a file of a release.
+RELEASED = rf"\bporchsorrel[\w-]*-({NUMBER})"
 # The files that name the version, and how.
 NAMED = [
     ("python/pyproject.toml", r'(?m)^version = "(.*)"$'),
@@ -20,17 +24,24 @@ NAMED = [
     ("docs/START_C.md", r"find_package\(wkb ([\d.]+)"),
     ("CHANGELOG.md", rf"\A(?:.*\n)*?## ({NUMBER})\n"),
     ("c/package/package.md", r"version\s([\d.]+)\sof\sthe\scalls"),
-    ("c/package/package.md", rf"porchsorrel-wkb-c-({NUMBER})\.tar"),
     ("docs/README.md", rf"\bwkb--({NUMBER})\.sql"),
     ("docs/START_SQL.md", rf"\bwkb--({NUMBER})\.sql"),
     ("docs/START_SQL.md", rf'version "({NUMBER})" of'),
+    ("c/package/debian/changelog", rf"\A\S+ \(({NUMBER})-1\)"),
     ("postgres/wkb.control", r"(?m)^default_version = '(.*)'$"),
     ("postgres/expected", r"(?m)^([\d.]+)\|23$"),
+    *((page, RELEASED) for page in pages.PAGES if re.search(RELEASED, pages.text_of(page))),
 ]
 # The packages, which name the licence that .reuse/dep5 has for what they hold: the files there, and how they say it.
 # The page that names the oldest Rust of Cargo.toml.
 LICENSED = {"Cargo.toml": "c/proved/*.s", "python/pyproject.toml": "c/proved/*.s", "rust/geo/Cargo.toml": "*"}
 LICENSE = r'(?m)^license = .*"(.*)"'
+# What users see first of a package, which claims this and nothing more.
+CLAIM = "compiled from formally verified sources"
+FACES = """
+    CITATION.cff Cargo.toml c/package/package.md c/package/wkb.pc.in postgres/wkb.control python/README.md
+    python/pyproject.toml python/src/porchsorrel_wkb/__init__.py rust/README.md rust/geo/Cargo.toml rust/geo/README.md
+    """.split()
 RUST = "README.md", r"Debian[^.]*.*\bRust ([\d.]*\d)"
 
 
@@ -48,6 +59,21 @@ class Versions(unittest.TestCase):
                 self.assertEqual({*re.findall(pattern, text)}, {self.version})
                 self.assertEqual({*re.findall(pattern, text.replace(self.version, "9.9.9"))}, {"9.9.9"})
 
+    def test_another_one_is_set_and_taken_back(self):
+        with tempfile.TemporaryDirectory() as folder:
+            top = pathlib.Path(folder)
+            pages.copy_files(top)
+            texts = []
+            for version in "1.10.0", self.version:
+                subprocess.run([top / "tools/version", "--set", version], check=True)
+                texts.append({str(it.relative_to(top)): it.read_bytes() for it in top.rglob("*") if it.is_file()})
+            there, back = texts
+            self.assertEqual([it for it, text in back.items() if text != (pages.ROOT / it).read_bytes()], [])
+            self.assertIn(f"EARLIER = 1.0 {self.version}\n", there["postgres/Makefile"].decode())
+            for path, pattern in NAMED:
+                if path != "CHANGELOG.md":
+                    self.assertEqual({*re.findall(pattern, there[path].decode())}, {"1.10.0"}, path)
+
     def test_the_packages_have_the_licences(self):
         stated = dict(re.findall(r"(?m)^Files: (.*)$(?s:.*?)^License: (.*)$", pages.text_of(".reuse/dep5")))
         for path, held in LICENSED.items():
@@ -55,6 +81,12 @@ class Versions(unittest.TestCase):
                 self.assertEqual(re.findall(LICENSE, pages.text_of(path)), [stated[held]])
         listed = re.search(r"(?m)^license:\n((?:  - .*\n)+)", pages.text_of("CITATION.cff"))[1]
         self.assertEqual(" OR ".join(re.findall("- (.*)", listed)), stated["*"])
+
+    def test_the_faces_claim_one_thing(self):
+        for path in FACES:
+            with self.subTest(path=path):
+                text = " ".join(pages.text_of(path).split())
+                self.assertEqual((CLAIM in text, text.count("formally verified")), (True, text.count(CLAIM)))
 
     def test_a_page_names_the_oldest_rust(self):
         oldest = re.search(r'(?m)^rust-version = "(.*)"$', pages.text_of("Cargo.toml"))[1]

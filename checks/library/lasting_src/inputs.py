@@ -6,7 +6,7 @@ import struct
 import model
 from model import COLLECTION, Geometry, LINE_STRING, MULTI_POINT, POINT, POLYGON, WIDTHS
 
-numbers = random.Random("lasting")
+numbers = random.Random()
 # The bits of numbers that a program could take for something else: zeros, NaNs, infinities, subnormal ones.
 WORDS = [0, 1 << 63, 0x3FF0000000000000, 0x4000000000000000, 0x7FF8000000000000, 0xFFF8000000000001, 0x7FF0000000000001,
          0x7FF0000000000000, 0xFFF0000000000000, 1, 0x7FEFFFFFFFFFFFFF, 0x0102030405060708, 0xFFFFFFFFFFFFFFFF]
@@ -63,16 +63,39 @@ def encoded(it):
     return out
 
 
+def bodies(kind, dimension):
+    """A body with coordinates, and those that are empty at each of its levels."""
+    full = [words(WIDTHS[dimension]) for _ in range(2)]
+    if kind == POINT:
+        return [full[:1], [[model.EMPTY] * len(full[0])]]
+    if kind == LINE_STRING:
+        return [full, []]
+    if kind == POLYGON:
+        return [[full, full[:1]], [], [[], full]]
+    if kind == COLLECTION:
+        of = [[member(inside + 1, (dimension + inside) % 4, place) for inside in range(6)] for place in (0, -1)]
+        return [of[0], [], [*of[1], Geometry(0, COLLECTION, dimension, None, 0, [])]]
+    places = range(len(bodies(kind - 3, dimension)))
+    return [[member(kind - 3, dimension, place), member(kind - 3, dimension, 0)] for place in places] + [[]]
+
+
+def member(kind, dimension, place):
+    """A geometry with one of the bodies of its kind."""
+    own = srid() if kind != POINT else None
+    return Geometry(numbers.randint(0, 1), kind, dimension, own, 0, bodies(kind, dimension)[place])
+
+
+def each():
+    """Each kind in each dimension and order, without an SRID and with those of fewest and most bits, empty or not."""
+    ways = itertools.product(range(1, 8), range(4), (0, 1), (None, 0, 4326, 1 << 31, 0xFFFFFFFF))
+    for kind, dimension, order, own in ways:
+        for body in bodies(kind, dimension):
+            yield encoded(Geometry(order, kind, dimension, own, 0, body))
+
+
 def good():
-    """Each kind in each dimension, order and form, with an SRID and without; then random ones, some of them long."""
-    for kind, dimension, order, form, own in itertools.product(range(1, 8), range(4), (0, 1), FORMS, (None, 4326)):
-        it = geometry(kind, dimension, 2, False)
-        it.srid = own
-        yield model.write(it, order, form, None)
-        if own is not None and form == model.ISO:
-            it.order = order
-            yield encoded(it)
-    for _ in range(250):
+    """Random geometries, some of them long."""
+    for _ in range(100):
         yield encoded(geometry(numbers.randint(1, 7), numbers.randint(0, 3)))
     for kind, dimension in itertools.product((LINE_STRING, POLYGON, MULTI_POINT), range(4)):
         yield encoded(geometry(kind, dimension, most=20))
@@ -117,6 +140,14 @@ def wrong_members():
         yield header + model.write(it, 1, model.OWN_SRID, None) + bytes(24)
 
 
+def other_orders():
+    """Members whose code is in the other order than their order byte says."""
+    for kind, dimension, order in itertools.product((4, 5, 6, 7), range(4), (0, 1)):
+        code = kind - 3 if kind < COLLECTION else LINE_STRING
+        inside = struct.pack(">BI" if order else "<BI", order, code + 1000 * dimension)
+        yield struct.pack("<BII", 1, kind + 1000 * dimension, 1) + inside + bytes(32)
+
+
 def counts():
     """Counts of more than there is, in each kind."""
     for kind, dimension, order in itertools.product(range(2, 8), range(4), (0, 1)):
@@ -136,7 +167,7 @@ def broken():
         seed = seed[:180]
         yield from (seed[:at] for at in range(len(seed)))
         yield from (seed + b"\0", seed + seed[:9])
-    for _ in range(500):
+    for _ in range(350):
         seed = bytearray(encoded(geometry(numbers.randint(1, 7), numbers.randint(0, 3), 2))[:200])
         for _ in range(numbers.randint(1, 2)):
             at = numbers.randrange(len(seed))
@@ -167,15 +198,8 @@ def in_dimension(shape, mark, more):
     return out
 
 
-def with_srids():
-    """Each kind in each dimension and order, with SRIDs that have fewer or more bits than others."""
-    for kind, dimension, order, own_srid in itertools.product(range(1, 8), range(4), (0, 1), (0, 1 << 31, 0xFFFFFFFF)):
-        it = geometry(kind, dimension, 2, False)
-        it.srid = own_srid
-        yield model.write(it, order, model.OWN_SRID, None)
-
-
 def own():
-    """The inputs that are made here."""
-    for group in (good, nested, wrong_codes, wrong_members, counts, broken):
+    """The inputs that are made here. A change of one group leaves the others as they are."""
+    for group in (each, good, nested, wrong_codes, wrong_members, other_orders, counts, broken):
+        numbers.seed(f"lasting {group.__name__}")
         yield from group()

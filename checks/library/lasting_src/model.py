@@ -142,14 +142,48 @@ def read(data):
     return it, (*found, it.kind, it.dimension, it.width, it.order)
 
 
+def singles(it):
+    """(dimension, rings) of each point, line string and polygon. Of a point and a line string the ring is all of it."""
+    if it.kind < MULTI_POINT:
+        yield it.dimension, it.body if it.kind == POLYGON else [it.body]
+    for member in it.body if it.kind >= MULTI_POINT else ():
+        yield from singles(member)
+
+
 def coordinates_of(it):
     """(dimension, words) of each coordinate."""
-    if it.kind >= MULTI_POINT:
-        for member in it.body:
-            yield from coordinates_of(member)
-    else:
-        rings = it.body if it.kind == POLYGON else [it.body]
-        yield from ((it.dimension, words) for ring in rings for words in ring)
+    for dimension, rings in singles(it):
+        yield from ((dimension, words) for ring in rings for words in ring)
+
+
+def levels(it):
+    """The words of all coordinates under each dimension, the ends of rings in coordinates, and of singles in rings."""
+    under, ring_ends, single_ends = ([], [], [], []), [], []
+    for dimension, words in coordinates_of(it):
+        z, m = words[2] if dimension & 1 else EMPTY, words[-1] if dimension & 2 else EMPTY
+        for asked, out in enumerate(under):
+            out += words[:2] + [z] * (asked & 1) + [m] * (asked >> 1)
+    for _, rings in singles(it):
+        for ring in rings:
+            ring_ends.append(len(ring) + (ring_ends[-1] if ring_ends else 0))
+        single_ends.append(len(ring_ends))
+    return *under, ring_ends, single_ends
+
+
+def parts(it, table):
+    """Adds the entries of a geometry and of its rings or members, which are the members of wkb_part."""
+    own, at = len(table), it.offset
+    begin = at - (5 if it.kind == POINT else 9) - 4 * (it.srid is not None)
+    table.append(None)
+    for part in it.body if it.kind >= POLYGON else ():
+        if it.kind == POLYGON:
+            first, at = at, at + 4 + 8 * it.width * len(part)
+            table.append((first, at, first + 4, len(part), len(table) + 1, 0, 0, 0, it.dimension, it.width, it.order))
+        else:
+            parts(part, table)
+    place = begin, begin + it.size, it.offset, len(it.body), len(table)
+    table[own] = (*place, it.srid or 0, int(it.srid is not None), it.kind, it.dimension, it.width, it.order)
+    return table
 
 
 def bounds(it):
