@@ -133,7 +133,7 @@ it=$(echo "{name}${{*:+ $*}}" | sed "s|$TOP/||g")
 echo "$it" >>"$TOP/said"
 [ "$it" != "$FAILS" ] || exit 101
 """
-    REAL = "checks/library/run", "checks/library/link", "checks/library/try", "checks/hosts/run"
+    REAL = "checks/library/run", "checks/library/link", "checks/library/try"
     CALLS = [
         "tools/sums compare", "c/proved/prove c/out/proved", "tools/sums same c/out/proved",
         "checks/faults/proved_test", "checks/library/lasting", "checks/library/lasting others",
@@ -142,8 +142,8 @@ echo "$it" >>"$TOP/said"
         "checks/faults/weaken 4", "checks/systems/second_compiler", "checks/systems/cross_test",
         "checks/systems/pads_test", "checks/systems/windows_test", "checks/systems/unrun_test",
         "checks/systems/cmake_test", "checks/systems/install_test", "checks/systems/dist_test",
-        "checks/pages/pages_test", "checks/systems/wheels_test", "make -s -C c CC=cc all", "checks/hosts/cost",
-        "checks/hosts/sanitize", "checks/hosts/fuzz", "python/run", "sqlite/run", "postgres/run",
+        "checks/pages/pages_test", "checks/systems/wheels_test", "checks/hosts/cost", "checks/hosts/sanitize",
+        "checks/hosts/fuzz", "python/run", "sqlite/run", "postgres/run",
     ]
 
     def status(self, fails="none"):
@@ -152,7 +152,7 @@ echo "$it" >>"$TOP/said"
         own = {"PATH": f"{self.top}/bin:{os.environ['PATH']}", "TOP": str(self.top), "FAILS": fails}
         env = {key: it for key, it in os.environ.items() if key not in ("CC", "CXX", "CALL")}
         ran = subprocess.run([self.top / self.REAL[0]], env={**env, **own}, capture_output=True)
-        return ran.returncode, (self.top / "said").read_text().splitlines()
+        return ran.returncode, sorted((self.top / "said").read_text().splitlines())
 
     def setUp(self):
         super().setUp()
@@ -164,7 +164,7 @@ echo "$it" >>"$TOP/said"
             self.write(f"bin/{name}" if name == "make" else name, self.STUB.format(name=name), 0o755)
 
     def test_it_starts_each(self):
-        self.assertEqual(self.status(), (0, self.CALLS))
+        self.assertEqual(self.status(), (0, sorted(self.CALLS)))
 
     def test_it_fails_with_each(self):
         for call in self.CALLS:
@@ -247,24 +247,6 @@ class LeftOut(unittest.TestCase):
 
     def test_the_machine(self):
         self.assertEqual([*map(module("checks/sources/left_out").is_here, ("true", "false"))], [True, False])
-
-
-class Hosts(Copy):
-    """checks/hosts/run over a stand-in for the Python package's tests."""
-
-    def test_each(self):
-        need("make", "bash")
-        self.copy("checks/hosts/run")
-        self.write("c/Makefile", "all:\n\t@true\n")
-        for body, status, said in [("true", 0, "ok"), ("exit 101", 1, "FAILED"), ("echo 'left out: it'", 0, "in part")]:
-            with self.subTest(body=body):
-                self.write("python/run", f"#!/bin/sh\n{body}\n", 0o755)
-                ended, printed = self.ran("checks/hosts/run", "python")
-                self.assertEqual(ended, status, printed)
-                self.assertRegex(printed, rf"(?m)^python .*{said}$")
-        ended, printed = self.ran("checks/hosts/run", "fuzz")
-        self.assertEqual(ended, 0, printed)
-        self.assertIn("left out: fuzz, since checks/hosts/fuzz is not here", printed)
 
 
 class Memory(Copy):
