@@ -1,8 +1,8 @@
 """Looks up the paths of files and of code in backticks on every page, and those that a picture has as code.
 
-A path of files has to exist, from the top, from docs/ or edits/, or in a crate. A path of code, as `a::b`, has to end
-in names that a source defines one inside the other. In ARCHITECTURE's tables of files and calls each call is defined in
-the file beside it.
+A path of files, or a pattern of some, also as a word of a command, is that of files that git knows: from the top, from
+docs/, edits/ or c/, or in a crate. A path of code, as `a::b`, has to end in names that a source defines one inside the
+other. In ARCHITECTURE's tables of files and calls each call is defined in the file beside it.
 """
 import collections
 import functools
@@ -11,21 +11,18 @@ import re
 import subprocess
 
 from checks import judge
-from pages import PAGES, ROOT, lines_of, prose_of, rows_of, spans, texts
+from pages import PAGES, ROOT, files, lines_of, prose_of, rows_of, spans, texts
 
 # Names of other programs, which no source of ours defines.
 FOREIGN = {"geom::bytea", "wkb::geometry"}
 # What a path of code begins with that is std's or stands for a name of the reader's.
-FOREIGN_PATHS = {"io", "fmt", "u8", "u32", "Self", "Enum", "Fail", "Default", "std", "crate"}
-# Files of the kit, and files that commands on the pages make.
-MADE_PATHS = {"bin/clang", "crates/app", "build/", "test/", "source/"}
+FOREIGN_PATHS = {"io", "u8", "crate", "MODULE"}
+# A file of the kit, one that a command makes, and a folder of the C package.
+MADE_PATHS = {"bin/clang", "crates/app", "source/"}
+# How a path in a command begins that is ours, and not built.
+OURS = re.compile(r"(bench|c|checks|crates|docs|edits|examples|postgres|python|rust|sqlite|tools)/(?!out)")
 # The words in capitals that stand for a part of a path.
 PLACES = re.compile(r"CRATE|NAME|FUNCTION")
-# A name that begins so is a command, of which only the paths are looked up.
-COMMANDS = """
-    rt rattle valgrind clang psql ls make grep export print -mllvm -ir ulimit env pip python3
-    apt-get sed sha256sum
-    """.split()
 PATH = re.compile(r"(?<![\w:/.'])[A-Za-z_]\w*(?:::[A-Za-z_]\w*)+")
 # A picture, and how a table of files and calls begins, for controls.
 FLOWS = "docs/pictures/flows.svg"
@@ -91,35 +88,36 @@ def paths_of_code():
     return ends
 
 
+@functools.lru_cache(maxsize=None)
+def known():
+    """The files that git knows, and their folders."""
+    return {str(it) for file in files() for it in (file, *file.parents)}
+
+
 def is_there(path):
-    """Whether a path with slashes is there, from the top, from docs/ or edits/, from crates/, or in some crate. What a
-    build makes lies in a folder out/ or build/."""
+    """Whether git knows a path with slashes, from one of these places, or it is one that something else makes."""
     places, ends = ("", "crates", "crates/*", "crates/*/src", "docs", "edits", "c"), ("", ".*")
-    if {"out", "build"} & {*path.split("/")} or path in MADE_PATHS:
-        return True
-    path = PLACES.sub("*", path.rstrip("/"))
-    return any(glob.glob(str(ROOT / place / path) + end) for place in places for end in ends)
+    of = PLACES.sub("*", path.rstrip("/"))
+    found = (it for place in places for end in ends for it in glob.glob(str(ROOT / place / of) + end))
+    return path in MADE_PATHS or not known().isdisjoint(found)
 
 
 def looks_like_a_path(span):
-    is_path = re.fullmatch(r"[\w.*+-]*/[\w./*+-]*", span)
-    return is_path and not span.startswith("/") and not re.search(r"[A-Z]{3,}$", span)
+    return re.fullmatch(r"[\w.*+{},-]+/[\w./*+{},-]*", span) and not re.fullmatch(r"[\d./]+", span)
 
 
-def looks_like_ours(span):
-    return looks_like_a_path(span) and re.match(r"crates|c/|docs|edits|tools", span)
+def looks_like_ours(word):
+    return looks_like_a_path(word) and OURS.match(word)
 
 
 def lost_in(span, code):
     """The parts of a span that no source has."""
-    path = re.sub(r":\d+$", "", span)
+    path = re.sub(r"(:\d+)+$", "", span)
     if looks_like_a_path(path):
         return [] if is_there(path) else [f"no file `{span}`"]
-    if span.startswith("/") or span.split()[0] in COMMANDS:
-        lost = [f"no source has `{it}`" for it in re.findall(r"--only ([a-z]\w*(?:::\w+)+)", span) if it not in code]
-        return lost + [f"no file `{it}`" for it in span.split() if looks_like_ours(it) and not is_there(it)]
     paths = [it for it in PATH.findall(span) if it.split("::")[0] not in FOREIGN_PATHS]
-    return [f"no source has `{it}`" for it in paths if it not in code | FOREIGN]
+    lost = [f"no file `{it}`" for it in span.split() if looks_like_ours(it) and not is_there(it)]
+    return lost + [f"no source has `{it}`" for it in paths if it not in code | FOREIGN]
 
 
 def lost_calls():
@@ -164,8 +162,9 @@ class Names(judge.Judge):
 
     controls = [
         *judge.on_each(PAGES, "`crate::lost`, `lost::name`\n\n", ":1: no source has `lost::name`"),
-        ("docs/COST.md", "", "`crates/lost/file.rt`\n\n", "no file `crates/lost/file.rt`"),
-        ("docs/COST.md", "", "`grep it crates/gone/file.rt`\n\n", "no file `crates/gone/file.rt`"),
+        ("docs/COST.md", "", "`.git/HEAD`\n\n", "no file `.git/HEAD`"),
+        ("docs/COST.md", "", "`tools/{lost,gone}`\n\n", "no file `tools/{lost,gone}`"),
+        ("docs/COST.md", "", "`c/out/wkb_dump examples/lost.hex`\n\n", "no file `examples/lost.hex`"),
         ("docs/COST.md", "", "`rt check --only coord::Coord::lost`\n\n", "no source has `coord::Coord::lost`"),
         ("docs/COST.md", "", "`wkb::reader::to_vec`\n\n", "no source has `wkb::reader::to_vec`"),
         (FLOWS, "reader::read_wkb<", "writer::read_wkb<", "no code and no file is writer::read_wkb"),
