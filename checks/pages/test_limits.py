@@ -1,6 +1,6 @@
 """A limit on a page, in wkb.h or in CITATION.cff is that of its source.
 
-A phrase of FACTS has, on every page that contains it, the number of the source. The sums on a page, as `113 - 16 = 97`,
+A phrase of FACTS is on some page, and has the number of the source on each. The sums on a page, as `113 - 16 = 97`,
 are computed again. The logic that docs/TRUST.md names is the kit's, if there is one.
 """
 import re
@@ -24,14 +24,13 @@ FACTS = [
     (r"[Aa]t most (\d+) collections (?:are nested|inside)", *DEPTH),
     (r"inside (\d+) (?:open ones|others)", *DEPTH),
     (r"NestingDepthExceeded\((\d+)\)` \|", *DEPTH),
-    (r"a stack of at most (\d+) entries", *DEPTH),
     (r"`(\d+) \* turns <= len \+ (\d+)`", COSTS, r"turns_bounded : (\d+) \* c\.turns ≤ length buf \+ (\d+)"),
     (r"`slots <= (\d+) \* len`", *SLOTS),
     (r"(\d+) list entries", *SLOTS),
     (r"costs up to (\d+) entries", *SLOTS),
     (r"of rings no more than a (\w+) of the remaining bytes, and of members a (\w+)",
      "crates/wkb_geom/specs/Refusals.antt", r"slots_asked .*remaining / (\d+)\).*remaining / (\d+)\)"),
-    (r"an entry has at most (\d+) bytes", "docs/DECISIONS.md", r"of (\d+) bytes; the C"),
+    (r"entries of up to (\d+) bytes", "docs/DECISIONS.md", r"of (\d+) bytes; the C"),
     (r"`(\d+) \* parts <= len \+ (\d+)`", BOUNDED, r"(\d+) \* f\.parts ≤ length input \+ (\d+)"),
     (r"`(\d+) \* coordinates <= len`", BOUNDED, r"(\d+) \* f\.coordinates ≤ length input"),
     (r"up to (\d+ KB) in place", "crates/wkb_sink/src/sink.rt", r"MAX_IN_PLACE: usize = ([\d <]+);"),
@@ -43,11 +42,11 @@ FACTS = [
     (r"(\d+\^\d+) rings", "crates/wkb_geom/specs/Numbers.antt", r"IsU32 n = n < (\d+ \^ \d+)"),
     (r"SRIDs are unsigned (\d+)-bit", "crates/wkb_geom/specs/Numbers.antt", r"IsU32 n = n < 2 \^ (\d+)"),
     (r"has (\d+) bytes for each part", "c/wkb.c", r"IS_LAID\(wkb_part, (\d+)"),
-    (r"up to (\d+) times the array|(\d+) times as long as the array", ARROW, r"MOST_COPIES = (\d+)"),
+    (r"more than (\d+) times as long as the array", ARROW, r"MOST_COPIES = (\d+)"),
     (r"time for a byte grows ([\d.]+) times", "checks/hosts/cost", r"GROWTH, TRIES = \d, ([\d.]+)"),
     (r"from (\d+) on is a refusal", "crates/wkb_abi/specs/Classes.antt",
      r"IsRefusalStatus status = (\d+) ≤ status"),
-    (r"exits with status (\d+)(?: it has| \(without|, `cost_hex`)", f"{COMMAND}/program.rt", r"FAILED: u8 = (\d+);"),
+    (r"exits with status (\d+)(?:, a prefix|\))", f"{COMMAND}/program.rt", r"FAILED: u8 = (\d+);"),
     (r"little-endian integers of (\d+) or (\d+) bytes", HEADER, r"offset_size;\s+/\*\*< (\d+) or (\d+)"),
     (r"Rust crate `?wkb`? ([\d.]+\d)", *PEERS),
     (r"Python (\d\.\d+) or later", "python/pyproject.toml", r'requires-python = ">= ([\d.]+)"'),
@@ -55,13 +54,11 @@ FACTS = [
     (r"a C(\d+) compiler", "c/Makefile", r"-std=c(\d+) -Wall"),
     (r'"Copyright \(c\) (\d+) The GeoRust', "LICENSE-MIT", r"Copyright \(c\) (\d+) The GeoRust"),
     (r"octet_length\(wkb\) < (\d+)", "docs/START_SQL.md", r"octet_length\(value\) < (\d+)"),
-    (r"more than (\d+) times as long", "python/src/porchsorrel_wkb/_arrow.py", r"MOST_COPIES = (\d+)"),
     (r"take up to (\d+) KB of stack there", HEADER, r"\((\d+) KB on Windows\)"),
     (r"so (\d+) and (\d+) read as points", FORMAT, r"such as 0, 8, (\d+),\s(\d+),"),
     (r"`Unknown\((\d)\)` is written as (\w+), `Unknown\((\d)\)` as (\w+) and `Unknown\((\d)\)` as (\w+)",
      "crates/wkb_geom/src/common.rt", "(?s:.*?)".join(3 * [r"Unknown\((\d)\) => Ok\(Dimension::(\w+)\)"])),
     (r"at most (\w+) bytes (?:longer than its|more than the) input", "c/wkb.hpp", r"SRID_SIZE = (\d+);"),
-    (r"traits of `geo-traits` ([\d.]+)", "rust/geo/Cargo.toml", r'(?m)^geo-traits = "(.*)"'),
     (r"(?:GCC|with gcc) (\d+)[,;]", SYSTEMS, r"\(gcc (\d+)\."),
     (r"the shortest of (\d+) rounds", SPEED, r"bench/c/speed --write (\d+)"),
     (r"makes ([\d,]+) random geometries of a shape", "bench/c/speed_shapes.hpp", r"ROWS = (\d+);"),
@@ -73,7 +70,6 @@ FACTS = [
     (r"takes over (\d) % more instructions", "bench/instructions", r"LIMIT = 1\.0(\d)"),
     (r"A box has (\d+) bytes", "c/wkb.c", r"IS_LAID\(wkb_box, (\d+)"),
     (r"and a `Found` (\d+),", "c/wkb.c", r"IS_LAID\(wkb_found, (\d+)"),
-    (r"\| ([\d.]+) \| yes \|", "python/pyproject.toml", r'(?m)^version = "(\d+\.\d+)\.'),
     (r"\(glibc (\d)\.(\d+) or later\)", "python/setup.py", r"manylinux_(\d)_(\d+)_"),
     (r"musl on x86-64 \((\d)\.(\d) or later\)", "python/setup.py", r"musllinux_(\d)_(\d)_"),
     (r"\| FreeBSD (\d+), Android \(API (\d+)\)", "checks/systems/unrun_test", r"freebsd(\d+) linux-android(\d+)"),
@@ -121,6 +117,8 @@ def wrong_facts():
             yield f"{path}: no text fits `{source}`"
             continue
         said = [(page, it) for page, text in pages.items() for it in re.finditer(phrase, text)]
+        if not said:
+            yield f"no page says `{phrase}`"
         for page, it in said:
             if numbers_of(it) != numbers_of(meant):
                 yield f"{page}: `{it[0]}`, and {path} has `{meant[0]}`"
@@ -142,6 +140,7 @@ class Limits(judge.Judge):
         *judge.on_each([*PAGES, "CITATION.cff", HEADER], "At most 127 nested collections are read.\n\n",
                        ": `127 nested collections`"),
         (COSTS, "slots_bounded :", "slots_lost :", "no text fits"),
+        ("SECURITY.md", "entries of up to", "entries of at most", "no page says `entries of up to"),
         *judge.on_each(PAGES, "It is 2 * 3 + 1 - 4 / 2 = 6.\n\n", ": `2 * 3 + 1 - 4 / 2 = 6` is 5"),
     ]
 
