@@ -6,7 +6,7 @@
   of the crate that its row names last.
 - c/package/package.md: each file is in the package that c/package/dist writes.
 - docs/SYSTEMS.md: the scripts that are said to have tried a system build for it.
-- CITATION.cff: the licences are those of the files LICENSE-*, and the title begins as README's does.
+- CITATION.cff: the title begins as README's does.
 - CHANGELOG.md: the calls that it lists for one geometry and for columns are in c/wkb.h, and its numbers of types and
   dimensions are those of docs/FORMAT.md.
 - README's rows of other programs are those of docs/DIFFERENCES.md. How many times as fast it says the bounds are,
@@ -219,14 +219,9 @@ def wrong_systems():
 
 
 def wrong_citation():
-    """The errors in the licences and the title of CITATION.cff."""
-    text = text_of("CITATION.cff")
-    listed = re.findall(r"(?m)^  - (.*)$", re.search(r"(?m)^license:\n((?:  - .*\n)+)", text)[1])
-    files = paths("LICENSE-*")
-    if sorted(f"LICENSE-{it.split('-')[0].upper()}" for it in listed) != files:
-        yield f"CITATION.cff: the licences are {files}"
+    """The errors in the title of CITATION.cff."""
     title = re.search(r"(?m)^# (.*)$", text_of("README.md"))[1]
-    if f'\ntitle: "{title}: ' not in text:
+    if f'\ntitle: "{title}: ' not in text_of("CITATION.cff"):
         yield f"CITATION.cff: README's title is {title}"
 
 
@@ -294,7 +289,6 @@ class Tables(judge.Judge):
         ("ARCHITECTURE.md", "`Refusal`), `specs/Errors`", "`Refusal`), `specs/Pieces`", "has no `specs/Pieces`"),
         ("crates.txt", "wkb_geom: byteorder", "wkb_geom: wkb_read", "wkb_geom uses wkb_read"),
         ("c/package/package.md", "| `SUMS` |", "| `SUM` |", "no `SUM`"),
-        ("CITATION.cff", "  - MIT", "  - BSD", "the licences are"),
         ("CITATION.cff", 'title: "Porchsorrel', 'title: "Sorrel', "README's title"),
         ("CHANGELOG.md", "the first four for columns", "the first five for columns", "wkb.h has no wkb_column_same"),
         ("docs/SYSTEMS.md", "/windows_test` |", "/dist_test` |", "checks/systems/dist_test builds nothing for Windows"),

@@ -13,25 +13,6 @@ from items import NAMED, Paths
 LIST = "checks/sources/interface.txt"
 NAME = re.compile(r"(?:private )?(?:(?:use|const|fn|struct|enum|trait|type) )?(?:\w+::)*(\w+)")
 COMMA = re.compile(r", (?![^<]*>)")
-RIGHT = """\
-mod wkb::reader
-const MAX_WKB_NESTING_DEPTH: usize = MAX_NESTING
-struct Polygon<'a>
-    fn clone(&self) -> Result<Polygon<'a>, AllocError>
-    impl Debug, PolygonTrait
-    type PointType = Point<'a>, RingType = LinearRing<'a>
-mod wkb::geom
-trait PointTrait: Dimensioned
-    type CoordType: CoordTrait
-    fn coord(&self) -> Option<Self::CoordType>
-mod wkb::canon
-fn same(alloc: Global, a: &[u8], b: &[u8]) ->
-        WkbResult<bool>
-mod wkb_geom
-use wkb::Endianness
-impl From<Endianness> for u8
-mod wkb_view::reserved
-private fn bounded_capacity(count: u32, remaining: usize, least: usize) -> usize"""
 # Each line by itself: another value, signature or name; what no user can name; and what lacks a part that it has.
 WRONG = """\
 mod wkb::reader | const MAX_WKB_NESTING_DEPTH: usize = 127
@@ -127,7 +108,7 @@ class Sources:
 
 
 class Interface(unittest.TestCase):
-    """The list, one that has to be let pass, and some that have to be rejected."""
+    """The list, and some that have to be rejected."""
 
     listed = staticmethod(lambda: list(rows(pages.text_of(LIST))))
 
@@ -137,9 +118,6 @@ class Interface(unittest.TestCase):
 
     def test_the_list_is_that_of_the_sources(self):
         self.assertEqual([*self.sources.faults(self.listed())], [])
-
-    def test_a_right_list_passes(self):
-        self.assertEqual([*self.sources.faults(list(rows(RIGHT)))], [])
 
     def test_wrong_lists_are_refused(self):
         for lines in WRONG.splitlines():
