@@ -18,6 +18,8 @@ clause. A definition that a row names is reachable from the clauses of the funct
 of any call if it is about none: they name it, or a definition that they name does, and so on. No row and no sentence
 lacks the other, no clause and no words of a test are gone, and a sentence without a clause says that it is tested.
 Whether a clause means the same as a sentence is for readers to check.
+
+A row `PAGE: SENTENCE` is of a page, which has these words. It needs no evidence: a change of one is seen in two files.
 """
 import collections
 import functools
@@ -30,6 +32,8 @@ from pages import ROOT, text_of, texts
 from specs import NAME, WORDS, defined
 
 HEADER, LIST = "c/wkb.h", "checks/sources/sentences.txt"
+# A row of a page.
+OF_PAGE = re.compile(r"([\w/]+\.md): (.*)")
 # The structs that calls only read.
 READ = ("wkb_column.", "wkb_levels.", "wkb_options.")
 # The first sentences of the header cover these.
@@ -209,9 +213,18 @@ def wrong_row(clauses, sentence, carriers):
         yield "it has tests alone, and doesn't say (tested)"
 
 
+def lost_on_pages(listed):
+    """The rows whose page doesn't have the words, however they are wrapped."""
+    for number, sentence, _ in listed:
+        page, words = OF_PAGE.match(sentence).groups()
+        if words not in " ".join(text_of(page).split()):
+            yield f"{LIST}:{number}: {page} has no such sentence: {words}"
+
+
 def wrong(clauses):
     """All that is wrong with the list."""
-    every, listed = [*sentences()], rows()
+    every, listed = [*sentences()], [it for it in rows() if not OF_PAGE.match(it[1])]
+    yield from lost_on_pages(it for it in rows() if OF_PAGE.match(it[1]))
     named = [sentence for _, sentence, _ in listed]
     said = [it for it, reads in every if it in named or not reads]
     yield from (f"{LIST} lacks: {it}" for it in said if it not in named)
@@ -237,7 +250,7 @@ def clauses():
 
 
 class Sentences(judge.Judge):
-    """Something carries each sentence of c/wkb.h."""
+    """Something carries each sentence of c/wkb.h, and the pages have theirs."""
 
     controls = [
         (HEADER, "Texts may change.", "Texts may change. It is fast.", "lacks: WKB_H: It is fast."),
@@ -252,6 +265,7 @@ class Sentences(judge.Judge):
         (LIST, "clause wkb_c wkb_raw_check", "clause wkb_lost wkb_raw_check", "wkb_lost has no wkb_raw_check"),
         ("c/test/interrupted.c", '"the results of calls in a child"', '"children"', "doesn't have the words"),
         (LIST, "test c/test/interrupted.c: ", "test c/test/lost.c: ", "there is no file c/test/lost.c"),
+        ("docs/TRUST.md", "Unless an allocation fails, for", "For", "docs/TRUST.md has no such sentence: Unless"),
         (LIST, "    caller\n", "", "nothing carries it"),
         (LIST, "wkb_c collect_asked", "wkb_c target_asked", "no clause of wkb_raw_collect leads to target_asked"),
         (LIST, "    caller\n", "    test c/test/main.c: int main\n", "it has tests alone"),
