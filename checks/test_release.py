@@ -11,11 +11,13 @@ import unittest
 
 from checks.judge import need, pages
 
+# What a user may have set, and a release doesn't take.
+SET = "CFLAGS CPPFLAGS CXXFLAGS LDFLAGS ASFLAGS MAKEFLAGS PROVED PYTHONPATH WKB_EXTENSION RUSTFLAGS".split()
 STUB = '#!/bin/sh\n[ {name} != "$FAILS" ] || exit 1\n{does}\n'
 # What makes the files, and what its stub does.
 MAKERS = {
     "tools/version": "echo version 9.9.9",
-    "tools/sbom": "echo $SOURCE_DATE_EPOCH $TZ $LC_ALL",
+    "tools/sbom": "echo $SOURCE_DATE_EPOCH $TZ $LC_ALL $" + " $".join(SET),
     "tools/site": 'mkdir "$1" && echo >"$1/index.html"',
     "c/package/dist": 'echo sources >"$1/porchsorrel-wkb-c-9.9.9.tar.gz"',
     "c/package/python": 'mkdir "$2" && echo >"$2/porchsorrel_wkb-9.9.9-$(basename "$1").whl"',
@@ -74,7 +76,7 @@ class Release(unittest.TestCase):
         subprocess.run(["git", "clone", "-q", self.top, other], check=True)
         before = os.umask(0o077)
         try:
-            here = self.release("here", TZ="Asia/Kolkata", CFLAGS="-O0", SOURCE_DATE_EPOCH="7")
+            here = self.release("here", TZ="Asia/Kolkata", SOURCE_DATE_EPOCH="7", **dict.fromkeys(SET, "set"))
         finally:
             os.umask(before)
         self.assertEqual(here, self.release("there", other, LC_ALL="C.UTF-8"))

@@ -8,11 +8,13 @@ import os
 import pathlib
 import pydoc
 import re
+import runpy
 import shutil
 import subprocess
 import sys
 import tempfile
 import unittest
+from unittest import mock
 
 import porchsorrel_wkb as wkb
 from samples import ISO_POLYGON, POINT, POLYGON
@@ -103,6 +105,8 @@ class Names(unittest.TestCase):
     def test_version(self):
         written = re.search(r'^version = "(.*)"$', (TOP / "python/pyproject.toml").read_text(), re.MULTILINE)
         self.assertEqual(wkb.__version__, written.group(1))
+        with mock.patch.object(_wkb, "VERSION", 1123004):
+            self.assertEqual(wkb.version(), (1, 123, 4))
 
 
 class Inside(unittest.TestCase):
@@ -124,6 +128,26 @@ class Inside(unittest.TestCase):
         self.assertTrue(extension.PyInit__wkb)
         for name in ("wkb_check", "wkb_version", "wkb_raw_check"):
             self.assertFalse(hasattr(extension, name))
+
+
+class Tags(unittest.TestCase):
+    """What readelf says of an extension, and the tag of its wheel."""
+
+    NEEDS = " (NEEDED) Shared library: [{}]\n"
+    OF_GLIBC = NEEDS.format("libc.so.6") + "Version needs section:\n Name: GLIBC_{}\n"
+    CASES = [
+        (OF_GLIBC.format("2.2.5"), "manylinux_2_17_it.manylinux2014_it"), (OF_GLIBC.format("2.18"), None),
+        (OF_GLIBC.format("2.17"), "manylinux_2_17_it.manylinux2014_it"), (OF_GLIBC.format("2.39"), None),
+        (NEEDS.format("libc.musl-it.so.1"), "musllinux_1_1_it"), (2 * NEEDS.format("libc.so.6"), None),
+    ]
+
+    @unittest.skipUnless(importlib.util.find_spec("wheel"), "wheel is not here")
+    def test_each(self):
+        with mock.patch("setuptools.setup"):
+            tag = runpy.run_path(str(TOP / "python/setup.py"))["of_any_linux"]
+        for told, wanted in self.CASES:
+            with self.subTest(told), mock.patch("subprocess.run", return_value=mock.Mock(stdout=told)):
+                self.assertEqual(tag("it", "it"), wanted)
 
 
 class OtherProcesses(unittest.TestCase):

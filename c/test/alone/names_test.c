@@ -54,7 +54,6 @@ static const int wkb_postgis20[1] = {0};
 #else
 #define IS(name, value) _Static_assert(name == value, #name)
 #endif
-IS(WKB_VERSION, WKB_VERSION_MAJOR * 1000000 + WKB_VERSION_MINOR * 1000 + WKB_VERSION_PATCH);
 IS(WKB_VERSION_MAJOR, 1);
 IS(WKB_STATUS_OK, 0);
 IS(WKB_STATUS_NO_MEMORY, 1);
@@ -99,6 +98,11 @@ IS(sizeof(wkb_order), 4);
 IS(sizeof(wkb_form), 4);
 IS(WKB_ISO, 1);
 IS(WKB_POINT, 1);
+#undef WKB_VERSION_MINOR
+#undef WKB_VERSION_PATCH
+#define WKB_VERSION_MINOR 2
+#define WKB_VERSION_PATCH 3
+IS(WKB_VERSION, 1002003);
 
 int main(void) {
   wkb_typenum kind = WKB_POINT;
