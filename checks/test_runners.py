@@ -217,9 +217,9 @@ class LeftOut(unittest.TestCase):
     # A log, whether a package is missing, whether the commands of OTHERS find what they look for, and what is wrong.
     CASES = [
         (OK, False, False, []),
-        (OK.replace("OK", "FAILED"), False, False, ["checks/run doesn't say OK"]),
-        (f"== step: rust/run\nRan 99 tests\n{OK.replace('99', '9')}", False, False, ["checks/run ran 9 of 50 tests"]),
-        ("== step: checks/run\nOK\n", False, False, ["checks/run ran none of 50 tests"]),
+        (f"{OK}Ran 98 tests in 9.9s\n\nFAILED\n", False, False, ["checks/run ran 98 of 50 tests: FAILED"]),
+        (OK.replace("99", "9") + OK.replace("checks", "rust"), False, False, ["checks/run ran 9 of 50 tests: OK"]),
+        ("== step: checks/run\nOK\n", False, False, ["checks/run ran 0 of 50 tests: none"]),
         ("== step: it\nit: left out: this, since it rains\n", True, True, []),
         ("== step: it\nit: left out: this, since it rains\n", False, False, ["it left out this, since it rains"]),
         ("== step: it\nleft out: this, since there is no rt\n", False, False, []),
