@@ -7,8 +7,6 @@
 - c/package/package.md: each file is in the package that c/package/dist writes.
 - docs/SYSTEMS.md: the scripts that are said to have tried a system build for it.
 - CITATION.cff: the title begins as README's does.
-- CHANGELOG.md: the calls that it lists for one geometry and for columns are in c/wkb.h, and its numbers of types and
-  dimensions are those of docs/FORMAT.md.
 - README's rows of other programs are those of docs/DIFFERENCES.md. How many times as fast it says the bounds are,
   beside OGR and GEOS, is what the bars of docs/SPEED.md show, and where plain C is faster what its quotients say.
 """
@@ -32,7 +30,6 @@ PAGE, PROGRAM = "docs/PROGRAM.md", program("wkb_hex")
 POLYGON, POINT = text_of("examples/polygon_with_hole.hex").strip(), text_of("examples/point.hex").strip()
 REFUSED = "0107000000ffffffff"
 SILENCE = "The program writes nothing to standard error"
-NUMBERS = {"two": 2, "three": 3, "four": 4, "five": 5, "six": 6, "seven": 7}
 # So much memory that the program starts, and has none for the lists of a long input.
 LITTLE = 16 << 20
 LONG = "0102000000" + (10**6).to_bytes(4, "little").hex() + "00" * 16 * 10**6
@@ -225,22 +222,6 @@ def wrong_citation():
         yield f"CITATION.cff: README's title is {title}"
 
 
-def wrong_changes():
-    """The errors in the calls, and the numbers of kinds and dimensions, that CHANGELOG.md lists."""
-    text, header = " ".join(text_of("CHANGELOG.md").split()), text_of("c/wkb.h")
-    calls = re.search(r"The C library: ([\w, ]+) and (\w+), the first (\w+) for columns too", text)
-    names = [*calls[1].split(", "), calls[2]] if calls else []
-    of_columns = names[: NUMBERS.get(calls[3], 0)] if calls else []
-    wanted = [*(f"wkb_{it}" for it in names), *(f"wkb_column_{it}" for it in of_columns)]
-    wanted += [] if calls and f"wkb_column_{names[-1]}(" not in header else ["a call for columns"]
-    yield from (f"CHANGELOG.md: wkb.h has no {it}" for it in wanted if f" {it}(" not in header)
-    said = re.search(r"all (\w+) kinds and (\w+) dimensions", text)
-    rows = [row for _, heads, row in rows_of("docs/FORMAT.md") if heads == ["k", "geometry type", "q", "dimension"]]
-    meant = [len(rows), sum(1 for row in rows if row[2])]
-    if not said or [NUMBERS.get(it) for it in said.groups()] != meant:
-        yield f"CHANGELOG.md: there are {meant} kinds and dimensions"
-
-
 def timed():
     """The times of docs/SPEED.md, by the table, the row and the column."""
     for _, heads, row in rows_of(SPEED):
@@ -290,7 +271,6 @@ class Tables(judge.Judge):
         ("crates.txt", "wkb_geom: byteorder", "wkb_geom: wkb_read", "wkb_geom uses wkb_read"),
         ("c/package/package.md", "| `SUMS` |", "| `SUM` |", "no `SUM`"),
         ("CITATION.cff", 'title: "Porchsorrel', 'title: "Sorrel', "README's title"),
-        ("CHANGELOG.md", "the first four for columns", "the first five for columns", "wkb.h has no wkb_column_same"),
         ("docs/SYSTEMS.md", "/windows_test` |", "/dist_test` |", "checks/systems/dist_test builds nothing for Windows"),
         ("README.md", "| rejected | rejected | crash", "| rejected | rejected | no crash", "collections: docs/DIFF"),
         ("README.md", "| order byte 2 |", "| order byte 3 |", "README.md: order byte 3: docs/DIFFERENCES.md has None"),
@@ -301,13 +281,12 @@ class Tables(judge.Judge):
         ("docs/SYSTEMS.md", "/cross_test` |", "/windows_test` |", "windows_test builds nothing for aarch64"),
         ("docs/SYSTEMS.md", "in C | `checks/systems/dist", "in C | `checks/systems/pads", "nothing for musl"),
         ("docs/SYSTEMS.md", "/unrun_test` |", "/pads_test` |", "pads_test builds nothing for macOS"),
-        ("CHANGELOG.md", "all seven kinds", "all six kinds", "kinds and dimensions"),
     ]
     is_apart = True
 
     def wrong(self):
         yield from (*wrong_crates(), *lost_places())
-        yield from (*lost_files(), *wrong_systems(), *wrong_citation(), *wrong_changes())
+        yield from (*lost_files(), *wrong_systems(), *wrong_citation())
         yield from (*wrong_peers(), *wrong_times(), *wrong_losses())
 
 
