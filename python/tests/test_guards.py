@@ -1,6 +1,7 @@
 """The extension called directly, with buffers that are too short, missing, read-only or late: each is an error, since
 the package's own tests of its arguments may not be the last ones before memory is written."""
 import array
+import contextlib
 import gc
 import importlib.machinery
 import importlib.util
@@ -167,6 +168,21 @@ class Inputs(unittest.TestCase):
             self.assertEqual(_wkb.first_not_iso((POINT, beyond, None, 8, 2, 1), bytes(1), ends, points), 0)
         for offsets in ([0, 1, 3], [1, 0, 0], [2**62, 2**63 - 1, 0], [0, 0, 0]):
             self.assertEqual(_wkb.first_not_iso(TWO, bytes(2), array.array("q", offsets), parts), 0)
+
+    def test_errors(self):
+        """What an object is asked for may raise any error. Only that it lacks it is none."""
+        written = wkb.Column.of([POINT]).write()
+        for error in (KeyboardInterrupt, ValueError, AttributeError):
+            def fail(*_):
+                raise error
+
+            behind = type("Behind", (bytearray,), {"base": property(fail)})(POINT)
+            shape = type("Meta", (type,), {"wkb": property(fail)})("Shape", (), {})()
+            text = type("Text", (str,), {"__buffer__": fail})()
+            with contextlib.nullcontext() if error == AttributeError else self.assertRaises(error):
+                written._replace(data=behind).__arrow_c_array__()
+            self.assertRaises(TypeError if error == AttributeError else error, wkb.check, shape)
+            self.assertRaises(TypeError if sys.version_info < (3, 12) else error, wkb.check, text)
 
 
 class Structs(unittest.TestCase):

@@ -96,19 +96,18 @@ static int is_whole(const char *format, int64_t rows, const Py_buffer *view, Py_
   return !has_offsets || are_offsets(view[1].buf, size, rows, is_list ? of_children : view[2].len);
 }
 
-/* The package's own memory that a view of Python or an array of numpy shows; null if it shows other memory. The caller
- * lets it go. */
+/* The package's own memory that a view of Python or an array of numpy shows, which the caller lets go; null if it shows
+ * other memory, or with an error. */
 static block *block_behind(state *s, PyObject *shown, const Py_buffer *view) {
   enum { MOST_VIEWS = 8 }; /* of views over views */
   PyObject *it = Py_NewRef(shown);
   block *found = NULL;
   for (int i = 0; it != NULL && (found = block_in(s, it)) == NULL && i < MOST_VIEWS; i++) {
-    PyObject *next = PyObject_GetAttrString(it, PyMemoryView_Check(it) ? "obj" : "base");
+    PyObject *next = look_up(it, PyMemoryView_Check(it) ? "obj" : "base");
     Py_DECREF(it);
     it = next;
   }
   Py_XDECREF(it);
-  PyErr_Clear();
   if (found == NULL || has_bytes(found, view->buf, (size_t)view->len)) return found;
   let_block(found);
   return NULL;
@@ -124,13 +123,14 @@ static int find_buffers(state *s, const char *format, int64_t rows, PyObject *vi
     PyObject *given = PyTuple_GetItem(views, i);
     if (given == Py_None) continue;
     result = PyObject_GetBuffer(given, &view[i], PyBUF_ND);
+    if (result < 0 && PyErr_ExceptionMatches(PyExc_BufferError))
+      PyErr_SetString(PyExc_BufferError, "an array that isn't in one piece can't go out: numpy.ascontiguousarray makes "
+                                         "one that is");
     own->buffers[i] = view[i].buf;
     own->blocks[i] = result < 0 ? NULL : block_behind(s, given, &view[i]);
+    if (own->blocks[i] == NULL && PyErr_Occurred()) result = -1;
     if (own->blocks[i] == NULL && own->others == NULL) own->others = Py_NewRef(views);
   }
-  if (result < 0 && PyErr_ExceptionMatches(PyExc_BufferError))
-    PyErr_SetString(PyExc_BufferError, "an array that isn't in one piece can't go out: numpy.ascontiguousarray makes "
-                                       "one that is");
   if (result == 0) result = is_whole(format, rows, view, count, of_children) ? 0 : -1;
   for (int i = 0; i < MOST_BUFFERS; i++) PyBuffer_Release(&view[i]);
   if (result < 0 && !PyErr_Occurred())

@@ -5,29 +5,36 @@
 /* An input is long from so many bytes on: the lock is given back during a call over it. */
 enum { LONG = 1 << 14 };
 
-/* Says where the bytes are of an object with an attribute wkb, as shapely has it; else its error stays. */
-static void hint_at_wkb(PyObject *data) {
-  PyObject *error[3];
+/* An attribute; null without an error where there is none. */
+PyObject *look_up(PyObject *object, const char *name) {
+  PyObject *it = PyObject_GetAttrString(object, name);
+  if (it == NULL && PyErr_ExceptionMatches(PyExc_AttributeError)) PyErr_Clear();
+  return it;
+}
+
+/* Says where the bytes are of text, and of an object with an attribute wkb, as shapely has it; else its error stays.
+ * Returns -1. */
+static int hint_at_bytes(PyObject *data) {
+  PyObject *error[3], *type = (PyObject *)Py_TYPE(data);
   PyErr_Fetch(&error[0], &error[1], &error[2]);
-  int has_wkb = PyObject_HasAttrString((PyObject *)Py_TYPE(data), "wkb");
-  PyErr_Restore(error[0], error[1], error[2]);
-  if (has_wkb)
-    PyErr_Format(PyExc_TypeError, "a bytes-like object is required, and not %R: its attribute wkb has the bytes",
-                 (PyObject *)Py_TYPE(data));
+  PyObject *wkb = PyUnicode_Check(data) ? NULL : look_up(type, "wkb");
+  if (PyUnicode_Check(data))
+    PyErr_SetString(PyExc_TypeError, "a bytes-like object is required, not 'str': bytes.fromhex(text) makes one of "
+                                     "hexadecimal text, as PostGIS prints geometries");
+  if (wkb != NULL)
+    PyErr_Format(PyExc_TypeError, "a bytes-like object is required, and not %R: its attribute wkb has the bytes", type);
+  Py_XDECREF(wkb);
+  int stays = !PyErr_Occurred();
+  if (stays) PyErr_Restore(error[0], error[1], error[2]);
+  for (int i = 0; i < 3 && !stays; i++) Py_XDECREF(error[i]);
+  return -1;
 }
 
 /* Replaces the error that there are no bytes in one piece by a copy of them, if that is the error. */
 static int hold_copy(PyObject *data, Py_buffer *out) {
-  if (PyUnicode_Check(data)) {
-    PyErr_SetString(PyExc_TypeError, "a bytes-like object is required, not 'str': bytes.fromhex(text) makes one of "
-                                     "hexadecimal text, as PostGIS prints geometries");
-    return -1;
-  }
+  if (PyErr_ExceptionMatches(PyExc_TypeError)) return hint_at_bytes(data);
   /* ValueError is numpy's. */
-  if (!PyErr_ExceptionMatches(PyExc_BufferError) && !PyErr_ExceptionMatches(PyExc_ValueError)) {
-    if (PyErr_ExceptionMatches(PyExc_TypeError)) hint_at_wkb(data);
-    return -1;
-  }
+  if (!PyErr_ExceptionMatches(PyExc_BufferError) && !PyErr_ExceptionMatches(PyExc_ValueError)) return -1;
   PyErr_Clear();
   PyObject *view = PyMemoryView_FromObject(data);
   if (view == NULL) return -1;

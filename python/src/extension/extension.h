@@ -45,6 +45,7 @@ int hold_optional(holds *h, PyObject *data, span *out);
 int hold_aligned(holds *h, PyObject *data, span *out);
 int hold_outputs(holds *h, PyObject *const *given, int count, span *out);
 void let(holds *h);
+PyObject *look_up(PyObject *object, const char *name);
 PyThreadState *unlock(const holds *h, size_t size);
 void lock(PyThreadState *unlocked);
 
