@@ -228,11 +228,15 @@ class Structs(unittest.TestCase):
 class Late(unittest.TestCase):
     """Another extension than that of the package, and calls with other arguments."""
 
-    def ended(self, kept):
-        """End an extension that has made records, of which so many are kept until it should have ended."""
+    def another(self):
         loader = importlib.machinery.ExtensionFileLoader("_wkb", _wkb.__file__)
         other = importlib.util.module_from_spec(importlib.util.spec_from_loader("_wkb", loader))
         loader.exec_module(other)
+        return other
+
+    def ended(self, kept):
+        """End an extension that has made records, of which so many are kept until it should have ended."""
+        other = self.another()
         made = [it for _ in range(25) for it in (other.check(POINT), other.bounds(POINT), other.new_block(9))]
         ending = weakref.ref(other)
         del made[kept:], other
@@ -249,6 +253,20 @@ class Late(unittest.TestCase):
         for kept in 10 * (0, 1, 40):
             self.ended(kept)
         self.assertLess(sys.getallocatedblocks() - before, 30 * 10)
+
+    def test_names(self):
+        """The names of a record's values may be anything, and something else when they are read again."""
+        record = self.another().Range(1.0, 2.0, 3)
+        for first, then, expected in (
+            (("least",), ("least", "count"), "Range(least=1.0)"), (("least",), (1,), "Range(least=1.0)"),
+            ((1,), ("least",), TypeError), (["least"], None, TypeError), (("most",), ("least",), AttributeError),
+        ):
+            type(record).__match_args__ = property(lambda self, it=iter([first]): next(it, then))
+            with self.subTest((first, then)):
+                if isinstance(expected, str):
+                    self.assertEqual(repr(record), expected)
+                else:
+                    self.assertRaises(expected, repr, record)
 
     def test_blocks(self):
         """Memory that is shown keeps its length."""

@@ -207,9 +207,14 @@ static PyObject *new_box(PyTypeObject *type, PyObject *args, PyObject *by_name) 
   return named(type, BOX, &is);
 }
 
-/* What is done with all values of a record: by their names, a tuple. */
+/* What is done with all values of a record: by their names, which a user may change at any time. */
 
-static PyObject *names_of(PyObject *self) { return PyObject_GetAttrString(self, "__match_args__"); }
+static PyObject *names_of(PyObject *self) {
+  PyObject *names = PyObject_GetAttrString(self, "__match_args__");
+  if (names == NULL || PyTuple_Check(names)) return names;
+  Py_DECREF(names);
+  return PyErr_Format(PyExc_TypeError, "__match_args__ is a tuple of the names of all values");
+}
 
 static PyObject *values_of(PyObject *self) {
   PyObject *names = names_of(self);
@@ -244,19 +249,17 @@ static PyObject *reduce_record(PyObject *self, PyObject *unused) {
   return all == NULL ? NULL : Py_BuildValue("(ON)", Py_TYPE(self), all);
 }
 
-/* Found(size=21, parts=1, ..) */
+/* Found(size=21, parts=1, ..). What has a value is the name of an attribute, and so it is a str. */
 static PyObject *repr_record(PyObject *self) {
-  PyObject *names = names_of(self), *all = names == NULL ? NULL : values_of(self);
-  PyObject *text = all == NULL ? NULL : PyType_GetName(Py_TYPE(self));
-  for (Py_ssize_t i = 0; text != NULL && i < PyTuple_Size(all); i++) {
-    PyObject *longer = PyUnicode_FromFormat("%U%s%U=%R", text, i == 0 ? "(" : ", ", PyTuple_GetItem(names, i),
-                                            PyTuple_GetItem(all, i));
-    Py_DECREF(text);
-    text = longer;
+  PyObject *names = names_of(self), *text = names == NULL ? NULL : PyType_GetName(Py_TYPE(self));
+  for (Py_ssize_t i = 0; text != NULL && i < PyTuple_Size(names); i++) {
+    PyObject *name = PyTuple_GetItem(names, i), *it = PyObject_GetAttr(self, name), *before = text;
+    text = it == NULL ? NULL : PyUnicode_FromFormat("%U%s%U=%R", before, i == 0 ? "(" : ", ", name, it);
+    Py_XDECREF(it);
+    Py_DECREF(before);
   }
   PyObject *whole = text == NULL ? NULL : PyUnicode_FromFormat("%U)", text);
   Py_XDECREF(text);
-  Py_XDECREF(all);
   Py_XDECREF(names);
   return whole;
 }
