@@ -254,6 +254,32 @@ class Late(unittest.TestCase):
             self.ended(kept)
         self.assertLess(sys.getallocatedblocks() - before, 30 * 10)
 
+    @unittest.skipIf(sys.version_info < (3, 12), "not tried: no class releases buffers before CPython 3.12")
+    def test_cleared(self):
+        """What the collector clears after an extension may call it, and gets errors. It clears the oldest first."""
+        class Last:
+            def __buffer__(self, flags):
+                return memoryview(POINT)
+
+            def __release_buffer__(self, view):
+                for call, *given in self.calls:
+                    try:
+                        call(*given)
+                    except RuntimeError as error:
+                        self.errors.append(str(error))
+
+        gc.collect()
+        gc.disable()
+        self.addCleanup(gc.enable)
+        other, cycle, last, errors = self.another(), [], Last(), []
+        last.errors, last.calls = errors, [
+            (other.new_block, 9), (other.shorten, b"", 0), (other.check, POINT), (other.check, b""),
+            (other.bounds, POINT), (other.write, POINT, 1.0, None, None), (other.facts, b"", b"", b"")]
+        cycle += cycle, memoryview(last)
+        del other, cycle, last
+        gc.collect()
+        self.assertEqual(errors, 7 * ["the extension has ended"])
+
     def test_names(self):
         """The names of a record's values may be anything, and something else when they are read again."""
         record = self.another().Range(1.0, 2.0, 3)

@@ -81,19 +81,19 @@ static void hide(PyObject *self, Py_buffer *view) { let_block(((holder *)self)->
 /* new_block(size): some memory, which has any bytes. */
 static PyObject *new_block(PyObject *module, PyObject *number) {
   size_t size = PyLong_AsSize_t(number);
-  state *s = state_of(module);
-  if (PyErr_Occurred()) return NULL;
+  PyObject *type = PyErr_Occurred() ? NULL : kept(state_of(module), BLOCK);
+  if (type == NULL) return NULL;
   if (size > PTRDIFF_MAX) return PyErr_NoMemory();
-  holder *made = PyObject_New(holder, (PyTypeObject *)s->it[BLOCK]);
+  holder *made = PyObject_New(holder, (PyTypeObject *)type);
   if (made != NULL && new_memory(size, &made->it) == NULL) Py_CLEAR(made);
   return (PyObject *)made;
 }
 
 /* shorten(block, size): gives back what is behind so many bytes of memory that nothing shows yet. */
 static PyObject *shorten(PyObject *module, PyObject *args) {
-  PyObject *given;
+  PyObject *given, *type = kept(state_of(module), BLOCK);
   Py_ssize_t size;
-  if (!PyArg_ParseTuple(args, "O!n", state_of(module)->it[BLOCK], &given, &size)) return NULL;
+  if (type == NULL || !PyArg_ParseTuple(args, "O!n", type, &given, &size)) return NULL;
   block *it = ((holder *)given)->it;
   if (atomic_load(&it->holders) != 1 || size < 0 || (size_t)size > it->size)
     return PyErr_Format(PyExc_ValueError, "the memory is shown, or is not so long");

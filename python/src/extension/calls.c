@@ -77,7 +77,8 @@ static int read_options(state *s, PyObject *const *given, wkb_options *out) {
       (!has_srid || is_number(given[2], UINT32_MAX, &out->srid)) &&
       has_srid == (out->form == WKB_FORM_EWKB_WITH_SRID))
     return 0;
-  PyObject *made = PyObject_CallFunctionObjArgs(s->it[OPTIONS], given[0], given[1], given[2], NULL);
+  PyObject *make = kept(s, OPTIONS);
+  PyObject *made = make == NULL ? NULL : PyObject_CallFunctionObjArgs(make, given[0], given[1], given[2], NULL);
   int is_made = made != NULL && PyArg_ParseTuple(made, "III", &out->order, &out->form, &out->srid);
   Py_XDECREF(made);
   return is_made ? 0 : -1;
@@ -208,7 +209,7 @@ static PyObject *read_part_of(state *s, PyObject *const *args, Py_ssize_t count,
   if (read_part(s, args[1], &part) < 0 || hold_input(&h, args[0], &in) < 0) return NULL;
   PyObject *result;
   if (!is_there(in, &part))
-    result = PyObject_CallFunctionObjArgs(s->it[NO_SUCH], args[1], NULL);
+    result = kept(s, NO_SUCH) == NULL ? NULL : PyObject_CallFunctionObjArgs(s->it[NO_SUCH], args[1], NULL);
   else if (for_place)
     result = Py_BuildValue("(nn)", (Py_ssize_t)part.offset, (Py_ssize_t)(part.offset + 8 * part.width * part.count));
   else

@@ -17,8 +17,8 @@ _Static_assert(sizeof(size_t) == 8, "sizes and offsets are 64-bit integers");
 /* Memory that counts who holds it (blocks.c). */
 typedef struct block block;
 
-/* What a module keeps: its types of records and of memory; then what it takes of the package: tuples of members of
- * enums, another enum, an error, and functions. */
+/* What a module keeps, until the collector clears it: its types of records and of memory; then what it takes of the
+ * package: tuples of members of enums, another enum, an error, and functions. */
 enum { FOUND, FAULT, PART, RANGE, BOX, BLOCK, KINDS, DIMENSIONS, ORDERS, STATUS, REFUSED, OPTIONS, NO_SUCH, HELD };
 typedef struct {
   PyObject *it[HELD];
@@ -84,5 +84,11 @@ static inline uint32_t width_of(uint32_t dimension) {
 }
 
 static inline state *state_of(PyObject *module) { return PyModule_GetState(module); }
+/* What the module keeps; null with an error where it has ended. */
+static inline PyObject *kept(state *s, int which) {
+  if (s == NULL || s->it[which] == NULL) return PyErr_Format(PyExc_RuntimeError, "the extension has ended");
+  return s->it[which];
+}
+
 
 #endif

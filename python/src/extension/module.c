@@ -28,10 +28,10 @@ static int take(state *s) {
 static int start(PyObject *module) {
   PyMethodDef *const calls[] = {CALLS,       COLUMN_CALLS,    FACT_CALLS, ROW_CALLS,
                                 ARROW_CALLS, ARROW_OUT_CALLS, DUMP_CALLS, BLOCK_CALLS, NULL};
+  if (add_records(module) < 0 || add_blocks(module) < 0 || take(state_of(module)) < 0) return -1;
   for (int i = 0; calls[i] != NULL; i++)
     if (PyModule_AddFunctions(module, calls[i]) < 0) return -1;
-  if (PyModule_AddIntConstant(module, "VERSION", (long)wkb_version()) < 0) return -1;
-  return add_records(module) < 0 || add_blocks(module) < 0 ? -1 : take(state_of(module));
+  return PyModule_AddIntConstant(module, "VERSION", (long)wkb_version());
 }
 
 static int visit_state(PyObject *module, visitproc visit, void *arg) {

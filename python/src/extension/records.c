@@ -37,12 +37,6 @@ static PyObject *new_of_type(PyObject *type, const void *from, size_t size) {
   return it == NULL ? NULL : (memcpy(&it->is, from, size), (PyObject *)it);
 }
 
-/* What the module keeps; null with an error where it has ended. */
-static PyObject *kept(state *s, int which) {
-  if (s == NULL || s->it[which] == NULL) return PyErr_Format(PyExc_RuntimeError, "the extension has ended");
-  return s->it[which];
-}
-
 PyObject *new_record(state *s, int which, const void *from) {
   PyObject *type = kept(s, which);
   return type == NULL ? NULL : new_of_type(type, from, SIZES[which]);

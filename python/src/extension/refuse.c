@@ -10,7 +10,7 @@ PyObject *refuse(state *s, uint32_t status, const wkb_fault *fault, uint32_t whi
   PyObject *fault_of_it = new_record(s, FAULT, fault);
   const char *other = wkb_dump_other(fault, input.at, input.size);
   PyObject *values = Py_BuildValue("(NIss)", fault_of_it, which, text, other);
-  if (values != NULL) PyErr_SetObject(s->it[REFUSED], values);
+  if (values != NULL && kept(s, REFUSED) != NULL) PyErr_SetObject(s->it[REFUSED], values);
   Py_XDECREF(values);
   return NULL;
 }
