@@ -123,10 +123,6 @@ class RowsOfBytes(unittest.TestCase):
         self.assertEqual(Column.of(rows).write(Order.BIG).rows[4090:4100],
                          [row and BIG_POINT for row in rows[4090:4100]])
 
-    def test_from_coordinates(self):
-        it = column_from_coordinates(Kind.POINT, array.array("d", [1, 2, 5, 5]), validity=b"\1")
-        self.assertEqual(list(it.rows), [POINT, None])
-
     @unittest.skipUnless(pandas, "pandas or numpy is not here")
     def test_pandas(self):
         frame = pandas.DataFrame({"wkb": ROWS})
@@ -196,12 +192,6 @@ class Released(unittest.TestCase):
         del self.data[-1]
         return False
 
-    def test_capsules(self):
-        capsules = self.it.__arrow_c_array__()
-        self.assertTrue(self.is_held())
-        del capsules
-        self.assertFalse(self.is_held())
-
     def test_moved(self):
         """A consumer moves the structs, and releases them after the capsules' end, from any thread."""
         capsules = self.it.__arrow_c_array__()
@@ -232,12 +222,6 @@ class Released(unittest.TestCase):
         self.assertEqual(items_of(*moved, False), [[[1.0, 2.0]]])
         for it in moved:
             ctypes.CFUNCTYPE(None, ctypes.c_void_p)(it.release)(ctypes.addressof(it))
-
-    def test_taken_twice(self):
-        pair = self.it.__arrow_c_array__()
-        once = type("Once", (), {"__arrow_c_array__": lambda self: pair})()
-        self.assertEqual(list(Column.from_arrow(once).check()), [0])
-        self.assertRaisesRegex(ValueError, "is released already", Column.from_arrow, once)
 
 
 def part(code, *parts):

@@ -64,7 +64,7 @@ class Buffers(unittest.TestCase):
         validity.append(0)
         self.assertEqual(list(column.check()), [0])
         del offsets[1:]
-        self.assertRaises(ValueError, column.check)
+        self.assertRaisesRegex(ValueError, "1 offsets are left, too few for 1 rows", column.check)
         offsets.append(21)
         validity.clear()
         self.assertRaises(ValueError, column.check)

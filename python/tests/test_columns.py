@@ -187,12 +187,6 @@ class Taken(unittest.TestCase):
                 Column(data, offsets, **options)
             self.assertIn(text, str(raised.exception))
 
-    def test_offsets_taken_away(self):
-        data, offsets = rows_of(*[POINT] * 3)
-        column = Column(data, offsets)
-        del offsets[3:]
-        self.assertRaisesRegex(ValueError, "3 offsets are left, too few for 3 rows", column.check)
-
     def test_wrong_validity(self):
         data, offsets = rows_of(*[POINT] * 9)
         for validity, first in ((b"\xff", 0), (b"\xff", 8), (b"", 0)):

@@ -13,30 +13,19 @@ import porchsorrel_wkb as wkb
 
 # Programs that hold what a call has made, in a cycle that is there until the interpreter ends.
 BEGIN = """
-import gc, struct, sys, threading
+import gc, struct, sys
 import porchsorrel_wkb as wkb
-class Holder: pass
 class Layer:
     def __init__(self, **held): self.__dict__.update(held, on=self.redraw)
     def redraw(self): pass
 point = struct.pack("<BIdd", 1, 1, 1.0, 2.0)
 """
 HOLDERS = {
-    "object": "h = Holder(); h.me = h; h.z = wkb.bounds(point).z",
-    "list": "l = []; l.append(l); l.append(wkb.bounds(point).z)",
-    "method": "layer = Layer(extent=wkb.bounds(point), z=wkb.bounds(point).z)",
-    "dictionary": "layer = Layer(ranges={'z': wkb.bounds(point).z, 'm': wkb.bounds(point).m})",
-    "facts": "f = wkb.Column.of([point]).facts(); layer = Layer(z=f.box.z); del f",
-    "generator": "def g():\n    z = wkb.bounds(point).z\n    me = yield\n    yield z\nit = g(); next(it); it.send(it)",
-    "thread": "class Of(threading.Thread):\n    def run(self): self.z = wkb.bounds(point).z; self.me = self\n"
-              "layer = Of(); layer.start(); layer.join()",
-    "exception": "try:\n    z = wkb.bounds(point).z\n    raise ValueError(z)\n"
-                 "except ValueError as e:\n    kept = e; kept.me = kept\ndel z",
-    "module": "for _ in range(3):\n    h = Holder(); h.me = h; h.z = wkb.bounds(point).z; del h, wkb\n"
+    "module": "for _ in range(3):\n    layer = Layer(z=wkb.bounds(point).z); del layer, wkb\n"
               "    for name in [it for it in sys.modules if it.startswith('porchsorrel_wkb')]: del sys.modules[name]\n"
               "    gc.collect()\n    import porchsorrel_wkb as wkb",
-    "records": "layer = Layer(of=[wkb.check(point), wkb.parts(point)[0], *wkb.Column.of([b'']).faults().values()])",
-    "tables": "layer = Layer(of=[wkb.parts(point), wkb.Column.of([point]).found()])",
+    "records": "layer = Layer(of=[wkb.check(point), *wkb.parts(point), *wkb.Column.of([b'']).faults().values(),\n"
+               "                  wkb.parts(point), wkb.Column.of([point]).found()])",
     "arrays": "c = wkb.Column.of([point])\n"
               "layer = Layer(of=[c.write().__arrow_c_array__(), wkb.Column.from_arrow(c.write())]); del c",
 }
@@ -93,8 +82,8 @@ int main(int count, char **words) {
   return count == 5 ? failures : 99;
 }
 """
-# What runs in a sub-interpreter, and what in the main one besides. numpy can't be imported a second time.
-INSIDE = """
+# What runs in both, in the sub-interpreter, and in the main one. numpy can't be imported a second time.
+BOTH = """
 import sys
 sys.path[:0] = {path!r}
 if not {has_numpy}: sys.modules["numpy"] = None
@@ -105,8 +94,18 @@ class Holder: pass
 holder = Holder()
 holder.me, holder.z, holder.out = holder, wkb.bounds(point).z, [column.faults(), column.facts(), column.coordinates()]
 """
-OUTSIDE = INSIDE + """
-out = column.write().__arrow_c_array__()[1]
+INSIDE = BOTH + """
+try: held = column.write().__arrow_c_array__()
+except RuntimeError as error: assert "sub-interpreter" in str(error)
+else: __import__("os")._exit(98)  # without a release, which would wait
+"""
+OUTSIDE = BOTH + """
+class Kept(bytearray):  # keeps the module past the interpreter's end, and may not be let go later
+    def __del__(self): sys.stderr.flush()
+kept = Kept(3 * point)
+kept.z = wkb.bounds(point).z
+out = (column.write() if {has_numpy} else column.write()._replace(data=kept)).__arrow_c_array__()[1]
+del kept
 holder.out += [column.coordinates().__arrow_c_array__(), wkb.Column.from_arrow(column.write())]
 """
 ENVIRONMENT = dict(os.environ, PYTHONDEVMODE="1", PYTHONPATH=os.pathsep.join(filter(None, sys.path)))

@@ -254,6 +254,16 @@ class Late(unittest.TestCase):
             self.ended(kept)
         self.assertLess(sys.getallocatedblocks() - before, 30 * 10)
 
+    def test_handed_out(self):
+        """An array that has gone out lets go what it holds, also after its extension's end."""
+        data, other = bytearray(POINT), self.another()
+        it = other.export((b"Z", b"", None, 0, 1, 0, (None, memoryview(OFFSETS)[:2], memoryview(data)), ()), True)
+        del other
+        gc.collect()
+        self.assertRaises(BufferError, data.append, 1)
+        del it
+        data.append(1)
+
     @unittest.skipIf(sys.version_info < (3, 12), "not tried: no class releases buffers before CPython 3.12")
     def test_cleared(self):
         """What the collector clears after an extension may call it, and gets errors. It clears the oldest first."""

@@ -1,15 +1,12 @@
 """Arrays of Arrow that are handed out: what they show lies in one piece, and is as long as they say. Arrays that are
-handed over twice, and sub-interpreters, which no call hangs in."""
+handed over twice."""
 import array
-import ctypes
 import gc
-import subprocess
-import sys
 import unittest
 import weakref
 
 import porchsorrel_wkb as wkb
-from capsules import Array, Arrow, Lists, Records, Schema, address_of
+from capsules import Arrow, Lists, Records
 from samples import POINT, ROWS
 from porchsorrel_wkb import Column, Dimension, Kind, column_from_coordinates
 
@@ -17,14 +14,6 @@ try:
     import numpy
 except ImportError:
     numpy = None
-try:
-    import _testcapi
-except ImportError:
-    _testcapi = None
-
-
-# What takes longer hangs.
-LONG = 300
 
 
 def handed_out_twice(source):
@@ -150,65 +139,3 @@ class Held(unittest.TestCase):
         gc.collect()
         self.assertIsNone(watched())
         self.assertEqual(list(Column.from_arrow(handed_out).check()), [0, 16, 16, 0, 16])
-
-    def test_others(self):
-        """Other memory is held until the array is released, and no longer."""
-        kept = bytearray(POINT)
-        result = Column.of([POINT]).write()._replace(data=kept)
-        capsules = result.__arrow_c_array__()
-        del result
-        self.assertRaises(BufferError, kept.append, 1)
-        for capsule, name, struct in zip(capsules, (b"arrow_schema", b"arrow_array"), (Schema, Array)):
-            held = struct.from_address(address_of(id(capsule), name))
-            ctypes.CFUNCTYPE(None, ctypes.c_void_p)(held.release)(ctypes.addressof(held))
-            self.assertIsNone(held.release)
-        kept.append(1)
-
-
-# A sub-interpreter hands no arrays out. numpy can't be imported in a second one of a process.
-INSIDE = """
-import os, sys
-sys.path[:], sys.modules["numpy"] = {path!r}, None
-import porchsorrel_wkb as wkb
-column = wkb.Column.of([{point!r}])
-assert wkb.check(*column.write().rows) == wkb.check({point!r}) and wkb.bounds({point!r}).x.least == 1.0
-try:
-    held = column.write().__arrow_c_array__()
-except RuntimeError as error:
-    assert "sub-interpreter" in str(error)
-else:
-    os._exit(3)  # without a release, which would wait
-"""
-
-
-class SubInterpreter(unittest.TestCase):
-    @unittest.skipUnless(_testcapi, "this Python can't make sub-interpreters")
-    def test_inside(self):
-        inside = INSIDE.format(path=sys.path, point=POINT)
-        program = f"import _testcapi; raise SystemExit(sum(_testcapi.run_in_subinterp({inside!r}) for _ in range(3)))"
-        ran = subprocess.run([sys.executable, "-c", program], stderr=subprocess.PIPE, timeout=LONG)
-        self.assertEqual((ran.returncode, ran.stderr.decode()), (0, ""))
-
-
-# A consumer moves an array, and releases it after the interpreter's end.
-AFTER_THE_END = """
-import ctypes, sys
-sys.path[:] = {path!r}
-import porchsorrel_wkb as wkb
-from capsules import Array, address_of
-libc = ctypes.CDLL(None)
-libc.malloc.restype = ctypes.c_void_p
-_, capsule = wkb.Column.of([{point!r}]).write()._replace(data=bytearray({point!r})).__arrow_c_array__()
-held, moved = address_of(id(capsule), b"arrow_array"), libc.malloc(ctypes.c_size_t(ctypes.sizeof(Array)))
-ctypes.memmove(moved, held, ctypes.sizeof(Array))
-Array.from_address(held).release = None
-libc.__cxa_atexit(ctypes.c_void_p(Array.from_address(moved).release), ctypes.c_void_p(moved), None)
-"""
-
-
-class AfterTheEnd(unittest.TestCase):
-    @unittest.skipUnless(hasattr(ctypes.CDLL(None), "__cxa_atexit"), "this system's C has no __cxa_atexit")
-    def test_release(self):
-        program = AFTER_THE_END.format(path=sys.path, point=POINT)
-        ran = subprocess.run([sys.executable, "-c", program], stderr=subprocess.PIPE, timeout=LONG)
-        self.assertEqual((ran.returncode, ran.stderr.decode()), (0, ""))

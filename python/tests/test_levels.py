@@ -87,6 +87,7 @@ class Written(unittest.TestCase):
             it = column_from_coordinates(*arguments, validity=validity, validity_offset=first)
             self.assertEqual(list(it.statuses), [0, Status.NULL_ROW, 0])
             self.assertEqual(rows_in(it), [part(4, [POINT]), b"", part(4, [POINT])])
+            self.assertEqual(list(it.rows), [part(4, [POINT]), None, part(4, [POINT])])
         column = Column(it.data, it.offsets, b"\x05")
         self.assertEqual(list(column.check()), [0, Status.NULL_ROW, 0])
 

@@ -16,7 +16,7 @@ typedef struct {
   const void *buffers[MOST_BUFFERS];
   block *blocks[MOST_BUFFERS]; /* with its texts, or with its buffers where these are in the package's own memory */
   PyObject *others;            /* what holds other buffers, or null */
-  block *running;              /* of the module that handed it out */
+  block *running;              /* of the interpreter that handed it out */
   Py_ssize_t count;
   void *children[MOST_CHILDREN];
   union {

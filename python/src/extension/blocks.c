@@ -10,7 +10,7 @@ struct block {
   _Atomic size_t holders;
   size_t size;
   char *at;
-  _Atomic int is_running; /* of the memory that a module keeps: whether that module is there */
+  _Atomic int is_running; /* of the memory that a module keeps: whether its interpreter is there */
 };
 
 void *new_memory(size_t size, block **out) {
@@ -47,9 +47,22 @@ int has_bytes(const block *it, const void *at, size_t size) {
 
 int is_running(block *it) { return atomic_load(&it->is_running); }
 
-void end_running(block *it) {
-  if (it != NULL) atomic_store(&it->is_running, 0);
+static void end_running(PyObject *capsule) {
+  block *it = PyCapsule_GetPointer(capsule, NULL);
+  atomic_store(&it->is_running, 0);
   let_block(it);
+}
+
+/* Makes the memory that says whether the interpreter is there. Its dictionary for extensions ends with it, and not with
+ * the module: an object may keep that for ever. */
+static int add_running(state *s) {
+  PyObject *of = PyInterpreterState_GetDict(PyInterpreterState_Get());
+  if (of == NULL || new_memory(0, &s->running) == NULL) return -1;
+  PyObject *end = PyCapsule_New(s->running, NULL, end_running);
+  if (end != NULL) hold_block(s->running);
+  int result = end == NULL ? -1 : PyDict_SetItem(of, end, Py_None);
+  Py_XDECREF(end);
+  return result;
 }
 
 /* An object that holds such memory, and shows it as a buffer. */
@@ -114,7 +127,7 @@ int add_blocks(PyObject *module) {
                              Py_TPFLAGS_DEFAULT | Py_TPFLAGS_DISALLOW_INSTANTIATION, slots};
   state *s = state_of(module);
   s->it[BLOCK] = PyType_FromModuleAndSpec(module, &spec, NULL);
-  return s->it[BLOCK] == NULL || new_memory(0, &s->running) == NULL ? -1 : 0;
+  return s->it[BLOCK] == NULL ? -1 : add_running(s);
 }
 
 PyMethodDef BLOCK_CALLS[] = {

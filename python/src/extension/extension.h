@@ -22,7 +22,7 @@ typedef struct block block;
 enum { FOUND, FAULT, PART, RANGE, BOX, BLOCK, KINDS, DIMENSIONS, ORDERS, STATUS, REFUSED, OPTIONS, NO_SUCH, HELD };
 typedef struct {
   PyObject *it[HELD];
-  block *running; /* says to arrays of Arrow that have gone out whether the module is there */
+  block *running; /* says to arrays of Arrow that have gone out whether the interpreter is there */
 } state;
 
 /* Some bytes. */
@@ -59,7 +59,7 @@ PyObject *read_record(PyObject *module, PyObject *args);
 PyObject *refuse(state *s, uint32_t status, const wkb_fault *fault, uint32_t which, span input);
 
 /* blocks.c: new memory, or null with an error; holds it once more, and once less; that of an object, which is held, or
- * null; whether it has these bytes. A module keeps one that says whether it is there. */
+ * null; whether it has these bytes; whether its interpreter is there, of the memory that says so. */
 int add_blocks(PyObject *module);
 void *new_memory(size_t size, block **out);
 block *hold_block(block *it);
@@ -67,7 +67,6 @@ void let_block(block *it);
 block *block_in(state *s, PyObject *object);
 int has_bytes(const block *it, const void *at, size_t size);
 int is_running(block *it);
-void end_running(block *it);
 
 /* columns.c: holds a column; an error unless something is as long as so many rows need; an offset of a column. */
 int hold_column(holds *h, PyObject *given, wkb_column *out);
@@ -84,11 +83,11 @@ static inline uint32_t width_of(uint32_t dimension) {
 }
 
 static inline state *state_of(PyObject *module) { return PyModule_GetState(module); }
+
 /* What the module keeps; null with an error where it has ended. */
 static inline PyObject *kept(state *s, int which) {
   if (s == NULL || s->it[which] == NULL) return PyErr_Format(PyExc_RuntimeError, "the extension has ended");
   return s->it[which];
 }
-
 
 #endif

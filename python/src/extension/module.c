@@ -49,7 +49,7 @@ static int clear_state(PyObject *module) {
 static void free_state(void *module) {
   state *s = state_of(module);
   clear_state(module);
-  if (s != NULL) end_running(s->running);
+  if (s != NULL) let_block(s->running);
 }
 
 static PyModuleDef_Slot SLOTS[] = {{Py_mod_exec, (void *)start}, {0, NULL}};
