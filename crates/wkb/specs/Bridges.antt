@@ -7,14 +7,15 @@ use Rattle.std.proofs.Math.Seq.{take-append_seam}
 use Rattle.std.proofs.lemmas.List.{drop-take, length-map}
 use Rattle.std.proofs.lemmas.Result.{IfOk-at_ok}
 use Rattle.std.specs.Io.KnownBytes.{Appends}
-use Rattle.wkb.specs.Prelude.{Dimension, WkbError, IsMemory, Endianness, Form, as_dimensions}
+use Rattle.wkb.specs.Prelude.{Dimension, WkbError, IsMemory, Tells, Endianness, Form, as_dimensions}
+use Rattle.wkb.specs.Checks.{Refused, IsRefusedFor}
 use Rattle.wkb_geom.specs.declared.error.WkbError.TheVariants as errors
 use Rattle.wkb.specs.Values.{Coordinate, Value, Values, each, members, collection, nest}
 use Rattle.wkb.specs.Spellings.{Spelling, node, Spellings, no_spellings, spelling, header, Front, max_nesting}
 use Rattle.wkb.specs.Spellings.{HasOptions}
 use Rattle.wkb.specs.Geometries.{Geometry, normal}
 use Rattle.wkb.specs.Encodings.{Fault, encoding, refusal, form_srid}
-use Rattle.wkb.specs.Reads.{Item, spellings, values, IfRefused, IsFront, IsCollectionOf}
+use Rattle.wkb.specs.Reads.{Item, spellings, values, IfRefused, IsRefusal, IsFront, IsCollectionOf}
 use Rattle.wkb.specs.Reads.{list_of_spellings}
 use Rattle.wkb.specs.Reads.{members_spelled, spelling_at, Listed, fitted_parts, fitted_members, fitted_line_string}
 use Rattle.wkb.specs.Reads.{fitted_line_strings}
@@ -31,6 +32,11 @@ memory_or P (errors.General x) h = inr h
 memory_or P (errors.NestingDepthExceeded x) h = inr h
 memory_or P (errors.OverflowError x) h = inr h
 memory_or P (errors.IOError x) h = inr h
+
+-- What `check` and `bounds` say of a refusal is what the reader says, by an error that tells its cause.
+pub refused_for : {buf : List ℕ} (r : Refused) (e : WkbError) → IsRefusedFor buf r → Tells e r.cause → IsRefusal buf e
+refused_for r e h tells =
+    record { cause = r.cause; turns = r.part; slots = h.slots; refuses = h.refuses; tells = tells }
 
 one_of_each : {A : Type 0} (f : A → Value) (ss : Spellings) (l : List A) (k : ℕ) (s : Spelling) (a : A)
     → Some s ≡ slice_get (list_of_spellings ss) k

@@ -1,5 +1,6 @@
 -- All coordinates of a value, and what a walk over them says of its visitor.
-use Rattle.std.specs.Prelude.{List, [], ◌∷◌, ◌++◌, flat_map, Option, Some, None}
+use Rattle.std.specs.Prelude.{◌≡◌, ℕ, List, [], ◌∷◌, ◌++◌, flat_map, Option, Some, None}
+use Rattle.wkb.specs.Prelude.{Dimension}
 use Rattle.wkb.specs.Values.{Coordinate, Value, Values, point, line_string, polygon, multi_point, multi_line_string}
 use Rattle.wkb.specs.Values.{multi_polygon, collection, no_members, member}
 
@@ -26,6 +27,25 @@ abbrev mutual
   pub coordinates_of_each : Values → List Coordinate
   coordinates_of_each no_members = []
   coordinates_of_each (member t ts) = coordinates_of t ++ coordinates_of_each ts
+
+-- the words of coordinates, one after another
+abbrev pub words_of : List Coordinate → List ℕ
+words_of cs = flat_map (λ c. c) cs
+
+-- a value has this dimension, and so has each member of a collection in it
+abbrev mutual
+  pub HasOnly : Dimension → Value → Type 0
+  HasOnly d (point e c) = e ≡ d
+  HasOnly d (line_string e cs) = e ≡ d
+  HasOnly d (polygon e rings) = e ≡ d
+  HasOnly d (multi_point e points) = e ≡ d
+  HasOnly d (multi_line_string e lines) = e ≡ d
+  HasOnly d (multi_polygon e polygons) = e ≡ d
+  HasOnly d (collection e ts) = (e ≡ d) × HaveOnly d ts
+
+  pub HaveOnly : Dimension → Values → Type 0
+  HaveOnly d no_members = Unit {0}
+  HaveOnly d (member t ts) = HasOnly d t × HaveOnly d ts
 
 -- whatever coordinates the visitor had visited before, it has visited these after them
 pub record Visits {S : Type 0} (has_visited : S → List Coordinate → Type 0) (old new : S) (cs : List Coordinate)

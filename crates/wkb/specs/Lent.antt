@@ -1,14 +1,15 @@
 -- Lemmas: where the bytes are that views lend, a member's in those of the whole, a ring's in those of its polygon.
-use Rattle.std.proofs.Common.{◌≡◌, ℕ, suc, ◌+◌, ◌*◌, List, length, drop, Some, refl, sym, ap, subst, ◌∙◌}
-use Rattle.std.proofs.Common.{slice_get, drop-drop}
-use Rattle.wkb.specs.Prelude.{width, AreBytes, number}
+use Rattle.std.proofs.Common.{◌≡◌, ℕ, suc, ◌+◌, ◌*◌, List, ◌++◌, length, take, drop, Some, refl, sym, ap, subst, ◌∙◌}
+use Rattle.std.proofs.Common.{slice_get, drop-drop, append_assoc, length-append, arith}
+use Rattle.std.proofs.Math.Seq.{take-append_seam, drop-append_seam}
+use Rattle.wkb.specs.Prelude.{width, AreBytes, number, Endianness, Dimension}
 use Rattle.wkb.specs.Values.{Coordinate, point, line_string, polygon, multi_line_string, multi_polygon}
 use Rattle.wkb.specs.Spellings.{SpellsCoordinates}
 use Rattle.wkb.specs.Reads.{Listed, Item, whole_of, spelling_at, order_of, Point, LineString, MultiPoint, LinearRing}
 use Rattle.wkb.specs.Reads.{point_seen, point_dimension, seen_coordinate, point_value, multi_point_seen}
 use Rattle.wkb.specs.Reads.{multi_point_dimension, seen_points, line_string_seen, line_string_dimension}
 use Rattle.wkb.specs.Reads.{seen_coordinates, ring_seen, ring_encoding, ring_order, ring_dimension, Lends}
-use Rattle.wkb.specs.Laws.{IsMember, IsWordOf, StandsAt, member_start, ring_start}
+use Rattle.wkb.specs.Laws.{IsMember, IsWordOf, StandsAt, HoldsMember, HoldsRing, member_start, ring_start}
 use Rattle.wkb.specs.Known.{spelled_in_full, members_in_place, rings_in_place, words_stand, next_start, size_of_spelled}
 use Rattle.wkb.specs.Bridges.{part_is_member, stands_within, begins_there}
 pub use Rattle.wkb.specs.Terms.{IsRingAt}
@@ -90,15 +91,47 @@ ring_stands p j r out coordinates bytes order same at =
       at = at;
     }
 
--- A word of a ring's coordinate is in bytes around the polygon, as many words after the ring's count.
+-- A word of the coordinates that bytes spell is in bytes around these, as many words after their count.
+pub word_stands : (order : Endianness) (d : Dimension) (cs : List Coordinate) (i n w start : ℕ) {bytes outer : List ℕ}
+    → SpellsCoordinates order d cs bytes → StandsAt start bytes outer → IsWordOf cs i n w
+    → number order 8 (drop (start + 4 + 8 * (width d * i + n)) outer) ≡ w
+word_stands order d cs i n w start {bytes = bytes} {outer = outer} spelled stands word =
+    let here = 4 + 8 * (width d * i + n) in
+    let far : start + 4 + 8 * (width d * i + n) ≡ start + here = omega arith in
+    ap (number order 8)
+    (ap (λ k. drop k outer) far ∙ sym (drop-drop here start outer) ∙ ap (drop here) (begins_there stands))
+    ∙ words_stand order d cs bytes (drop (length bytes) (drop start outer)) i n w spelled word
+
+-- So is a word of a ring in bytes around the polygon's own.
 pub ring_word_stands : (p : Listed (List (List Coordinate))) (j i n w : ℕ) (r : LinearRing) (start : ℕ)
-    (outer : List ℕ) → StandsAt start p.encoding outer → IsRingAt p j r → IsWordOf (ring_seen r) i n w
+    {lent outer : List ℕ} → Lends (whole_of polygon p) lent → StandsAt start lent outer → IsRingAt p j r
+    → IsWordOf (ring_seen r) i n w
     → number (order_of p.spelled) 8
-    (drop (start + ring_start j p.spelled p.dimension p.parts + (4 + 8 * (width p.dimension * i + n))) outer) ≡ w
-ring_word_stands p j i n w r start outer stands ring word =
-    let at = start + ring_start j p.spelled p.dimension p.parts in
-    let here = 4 + 8 * (width p.dimension * i + n) in
-    let rest = drop (length (ring_encoding r)) (drop at outer) in
-    ap (number (order_of p.spelled) 8)
-    (sym (drop-drop here at outer) ∙ ap (drop here) (begins_there (stands_within ring.stands stands)))
-    ∙ words_stand (order_of p.spelled) p.dimension (ring_seen r) (ring_encoding r) rest i n w ring.spelled word
+    (drop (start + ring_start j p.spelled p.dimension p.parts + 4 + 8 * (width p.dimension * i + n)) outer) ≡ w
+ring_word_stands p j i n w r start {outer = outer} own stands ring word =
+    word_stands (order_of p.spelled) p.dimension (ring_seen r) i n w (start + ring_start j p.spelled p.dimension p.parts)
+    ring.spelled (stands_within ring.stands (subst (λ b. StandsAt start b outer) own.encoding stands)) word
+
+-- ---- where the records of `Laws` have them
+
+part_stands : (whole head before part after : List ℕ) (start : ℕ) → whole ≡ head ++ (before ++ (part ++ after))
+    → start ≡ length head + length before → StandsAt start part whole
+part_stands whole head before part after start is at =
+    let whole_is : whole ≡ (head ++ before) ++ (part ++ after) = is ∙ sym (append_assoc head before (part ++ after)) in
+    let far : start ≡ length (head ++ before) = at ∙ sym (length-append head before) in
+    let behind : drop start whole ≡ part ++ after =
+    (λ i. drop (far i) (whole_is i)) ∙ drop-append_seam (head ++ before) (part ++ after) in
+    record {
+      within = omega (arith, ap length whole_is, far, length-append {A = ℕ});
+      is = ap (take (length part)) behind ∙ take-append_seam part after;
+    }
+
+-- The member's bytes that `members_stand` finds are in those of the whole.
+pub held_member_stands : {whole part : Item} {k : ℕ} (m : HoldsMember whole k part)
+    → StandsAt m.start part.encoding whole.encoding
+held_member_stands m = part_stands _ m.head m.before _ m.after m.start m.parts m.start_is
+
+-- The ring's bytes that `rings_stand` finds are in those of the polygon.
+pub held_ring_stands : {whole : Item} {j : ℕ} {ring : List Coordinate} (r : HoldsRing whole j ring)
+    → StandsAt r.start r.bytes whole.encoding
+held_ring_stands r = part_stands _ r.head r.before r.bytes r.after r.start r.parts r.start_is

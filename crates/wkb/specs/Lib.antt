@@ -1,6 +1,7 @@
 pub mod Canonical
 pub mod Checks
 pub mod Coordinates
+pub mod AllCoordinates
 pub mod Prelude
 pub mod Values
 pub mod Spellings

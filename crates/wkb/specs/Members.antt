@@ -22,39 +22,28 @@ item_found xs i a inside is = slice_get-get_or xs i a (ltb-true i (length xs) (s
 pub item_missing : {A : Type 0} (xs : List A) (i : ℕ) → false ≡ nat_lt i (length xs) → slice_get xs i ≡ None
 item_missing xs i past = slice_get_past xs i (ltb-false i (length xs) (sym past))
 
--- A list that ends before this number has no member of it.
-pub no_member_listed : (ms : List Item) (k : ℕ) (s : Spelling) (t : Value) → slice_get ms k ≡ None
+no_member_listed : (ms : List Item) (k : ℕ) (s : Spelling) (t : Value) → slice_get ms k ≡ None
     → IsOneOf k (spellings ms) (values ms) s t → ⊥
 no_member_listed [] zero s t is h = h
 no_member_listed [] (suc k) s t is h = h
 no_member_listed (x ∷ ms) zero s t is h = absurd (cc)
 no_member_listed (x ∷ ms) (suc k) s t is h = no_member_listed ms k s t is h
 
--- The member of this number in a list has the value of what is listed there.
-pub listed_value : (ms : List Item) (k : ℕ) (s : Spelling) (t : Value) (m : Item) → slice_get ms k ≡ Some m
-    → IsOneOf k (spellings ms) (values ms) s t → t ≡ m.value
-listed_value [] zero s t m is h = absurd h
-listed_value [] (suc k) s t m is h = absurd h
-listed_value (x ∷ ms) zero s t m is h =
-    let same : x ≡ m = cc in
-    h.1 ∙ ap (λ (i : Item). i.value) same
-listed_value (x ∷ ms) (suc k) s t m is h = listed_value ms k s t m is h
-
 among_members : (u : Spelling) (d : Dimension) (vs : Values) (k : ℕ) (s : Spelling) (t : Value)
     → IsMember k u (collection d vs) s t
     → IsOneOf k (members_spelled u) vs s t
 among_members (node g ws ss) d vs k s t h = h
 
--- A member of a collection is one of those that `as_type` hands out.
-pub member_listed : (w : Item) (ms : List Item) (k : ℕ) (s : Spelling) (t : Value) → IsCollectionOf w ms
-    → IsMember k w.spelled w.value s t
-    → IsOneOf k (spellings ms) (values ms) s t
-member_listed w ms k s t c h =
+-- A collection whose members, as `as_type` hands them out, end before this number has no member of it.
+pub no_member : (w : Item) (ms : List Item) (k : ℕ) (s : Spelling) (t : Value) → IsCollectionOf w ms
+    → slice_get ms k ≡ None → IsMember k w.spelled w.value s t → ⊥
+no_member w ms k s t c none h =
     let inside =
     among_members c.whole.spelled c.whole.dimension c.whole.parts k s t
     (subst (λ (v : Item). IsMember k v.spelled v.value s t) (sym c.is) h) in
-    subst (λ vs. IsOneOf k (spellings ms) vs s t) (sym c.all.value)
-    (subst (λ ss. IsOneOf k ss c.whole.parts s t) (sym c.all.spelled) inside)
+    no_member_listed ms k s t none
+    (subst (λ vs. IsOneOf k (spellings ms) vs s t) (sym c.all.value)
+    (subst (λ ss. IsOneOf k ss c.whole.parts s t) (sym c.all.spelled) inside))
 
 one_of_number : (k : ℕ) (ss : Spellings) (vs : Values) (s u : Spelling) (t v : Value) → IsOneOf k ss vs s t
     → IsOneOf k ss vs u v → t ≡ v

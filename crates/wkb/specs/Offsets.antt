@@ -1,5 +1,6 @@
 -- Lemmas: what the reader's clauses say of the geometry at an offset in a blob, and of its words.
-use Rattle.std.proofs.Common.{◌≡◌, ℕ, List, drop, ◌⊎◌, Some, None, Err, ap, subst, ◌∙◌, slice_get}
+use Rattle.std.proofs.Common.{◌≡◌, ℕ, List, drop, ◌⊎◌, inl, inr, Some, None, Err, sym, ap, subst, ◌∙◌}
+use Rattle.std.proofs.Common.{slice_get}
 use Rattle.wkb.specs.Prelude.{WkbError, IsMemory}
 use Rattle.wkb.specs.Values.{Coordinate}
 use Rattle.wkb.specs.Reads.{Item, IsFront, IsOnlyFront, HasNoFront, IfRefused}
@@ -13,22 +14,23 @@ pub begins_at : (blob : List ℕ) (offset : ℕ) (behind : List ℕ) (w : Item) 
 begins_at blob offset behind w same front only =
     record { front = subst (λ b. IsFront b w) same front; only = subst (λ b. IsOnlyFront b w) same only }
 
--- There is none if the reader rejects these bytes for a cause other than memory.
-pub none_begins_at : (blob : List ℕ) (offset : ℕ) (behind : List ℕ) (e : WkbError) → behind ≡ drop offset blob
-    → IfRefused (Err e) (λ _. HasNoFront behind)
-    → IsMemory e ⊎ HasNoFront (drop offset blob)
-none_begins_at blob offset behind e same h =
-    subst (λ b. IsMemory e ⊎ HasNoFront b) same (memory_or (λ _. HasNoFront behind) e h)
+-- There is none if the reader rejects these bytes for a cause other than memory; nor what follows from that.
+pub none_begins_at : {Q : Type 0} (blob : List ℕ) (offset : ℕ) (behind : List ℕ) (e : WkbError)
+    → behind ≡ drop offset blob → IfRefused (Err e) (λ _. HasNoFront behind) → (HasNoFront (drop offset blob) → Q)
+    → IsMemory e ⊎ Q
+none_begins_at blob offset behind e same h follows =
+    elim (memory_or (λ _. HasNoFront behind) e h) [
+      | inl memory ↦ inl memory
+      | inr none ↦ inr (follows (subst HasNoFront same none))
+    ]
 
--- What is said to be there has its value.
-pub value_there : (blob : List ℕ) (offset : ℕ) (w v : Item) → BeginsAt blob offset w → IsFront (drop offset blob) v
-    → v.value ≡ w.value
-value_there blob offset w v there f = (there.only v.spelled v.value f.rest f.front).2
-
--- What is said to be there has its spelling.
-pub spelling_there : (blob : List ℕ) (offset : ℕ) (w v : Item) → BeginsAt blob offset w
-    → IsFront (drop offset blob) v → v.spelled ≡ w.spelled
-spelling_there blob offset w v there f = (there.only v.spelled v.value f.rest f.front).1
+-- What is said to be there is this one.
+pub one_there : (blob : List ℕ) (offset : ℕ) (w v : Item) → BeginsAt blob offset w → IsFront (drop offset blob) v
+    → v ≡ w
+one_there blob offset w v there f =
+    let one = there.only v.spelled v.value f.rest f.front in
+    let encoding : v.encoding ≡ w.encoding = sym f.encoding_is ∙ one.0 in
+    λ i. record { encoding = encoding i; spelled = one.1 i; value = one.2 i }
 
 -- A coordinate that is there and too short has no such word.
 pub no_word : (cs : List Coordinate) (c : Coordinate) (i n x : ℕ) → Some c ≡ slice_get cs i → None ≡ slice_get c n

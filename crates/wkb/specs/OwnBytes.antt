@@ -3,13 +3,15 @@ use Rattle.std.proofs.Common.{◌≡◌, ℕ, List, Result, Ok, Err, Bool, true,
 use Rattle.std.proofs.Common.{◌≤◌, length, arith}
 use Rattle.std.specs.Prelude.{IfOk, IfErr, MatchBool, Vec}
 use Rattle.std.specs.Global.{Global}
-use Rattle.wkb.specs.Prelude.{WkbError, IsMemory, Endianness, Ewkb, Iso}
+use Rattle.wkb.specs.Prelude.{WkbError, IsMemory, Dimension, Endianness, Ewkb, Iso}
 use Rattle.wkb_geom.specs.declared.error.WkbError.TheVariants as errors
 use Rattle.wkb.specs.Spellings.{header, Spells}
+use Rattle.wkb.specs.Values.{Value}
 use Rattle.wkb.specs.Geometries.{geometry_of}
 use Rattle.wkb.specs.Encodings.{encoding, IsRewritingWithSrid}
 use Rattle.wkb.specs.Writes.{WriteOptions, IsEncodingOf}
-use Rattle.wkb.specs.Reads.{Item, IsFront, IsOnlyFront, IsRead, HasNoFront, IsRefusal, IsNotMemory, Reads, Wkb}
+use Rattle.wkb.specs.Reads.{Item, Listed, whole_of, IsFront, IsOnlyFront, IsRead, HasNoFront, IsRefusal, IsNotMemory}
+use Rattle.wkb.specs.Reads.{Reads, Wkb}
 use Rattle.wkb.specs.Canonical.{HaveOneValue, HaveTwoValues, IsRewritingUnder, IsRefusedUnder, IsPairRefusal, IsSize}
 use Rattle.wkb.specs.Bridges.{memory_or}
 use Rattle.wkb.specs.Known.{never_both, has_one_front, has_one_encoding, length_of_front}
@@ -54,6 +56,13 @@ one_item {v = v} {w = w} r q s t =
     let here = subst (λ x. Spells x w.value v.encoding) s (subst (λ x. Spells v.spelled x v.encoding) t (whole v r)) in
     let same = has_one_encoding w.spelled w.value v.encoding w.encoding r.bytes q.bytes here (whole w q) in
     λ i. record { encoding = same i; spelled = s i; value = t i }
+
+-- So are two views of the parts of geometries that were read, such as polygons.
+pub one_listed : {A : Type 0} (f : Dimension → A → Value) {p q : Listed A} → IsRead (whole_of f p)
+    → IsRead (whole_of f q) → p.spelled ≡ q.spelled → p.dimension ≡ q.dimension → p.parts ≡ q.parts → p ≡ q
+one_listed f r s spelled dims parts =
+    let one = one_item r s spelled (λ i. f (dims i) (parts i)) in
+    λ i. record { encoding = (one i).encoding; spelled = spelled i; dimension = dims i; parts = parts i }
 
 -- A geometry that was read is written in either order in as many bytes as its own, or in fewer.
 pub no_longer : (order : Endianness) {w : Item} → IsRead w

@@ -1,13 +1,15 @@
 -- Lemmas: what is read of an encoding that was written.
-use Rattle.std.proofs.Common.{◌≡◌, ℕ, List, Some, None, Bool, true, false, if◌then◌else◌, refl, sym, ap, subst, ◌∙◌}
-use Rattle.std.proofs.Common.{◌++◌}
-use Rattle.wkb.specs.Prelude.{Dimension, all_nan}
-use Rattle.wkb.specs.Values.{Coordinate, Value, point}
-use Rattle.wkb.specs.Spellings.{Spelling, Front}
+use Rattle.std.proofs.Common.{◌≡◌, ◌≤◌, ℕ, List, [], Option, Some, None, Result, Ok, Bool, true, false}
+use Rattle.std.proofs.Common.{if◌then◌else◌, refl, sym, ap, subst, ◌∙◌, ◌++◌}
+use Rattle.std.specs.declared.io.Error.{Error}
+use Rattle.wkb.specs.Prelude.{Dimension, WkbError, all_nan}
+use Rattle.wkb.specs.Values.{Coordinate, Value, point, nest}
+use Rattle.wkb.specs.Spellings.{Front, max_nesting}
 use Rattle.wkb.specs.Geometries.{Geometry, IsGeometry, normal, normal_point}
 use Rattle.wkb.specs.Encodings.{IsForm, encoding_of, refusal_of}
-use Rattle.wkb.specs.Writes.{WriteOptions}
+use Rattle.wkb.specs.Writes.{WriteOptions, Writes}
 use Rattle.wkb.specs.Reads.{Item, IsOnlyFront, point_of}
+use Rattle.wkb.specs.Bridges.{read_again}
 use Rattle.wkb.specs.Known.{writable_is_read}
 pub use Rattle.wkb.specs.Terms.{IsReadBefore}
 
@@ -20,11 +22,14 @@ encoding_is_read rest options g encoding bytes fits lawful is fine whole shallow
     let same = whole ∙ ap (λ l. l ++ rest) is in
     (read.0, subst (λ b. Front b read.0 (normal g) rest) (sym same) read.1, read.2)
 
--- What the reader returns of such bytes has the value that they begin with.
-pub value_is_read : (bytes : List ℕ) (s : Spelling) (t : Value) (rest input : List ℕ) (w : Item) → Front bytes s t rest
-    → input ≡ bytes → IsOnlyFront input w → t ≡ w.value
-value_is_read bytes s t rest input w front same only =
-    (only s t rest (subst (λ b. Front b s t rest) (sym same) front)).2
+-- What the reader returns of what a writer put into an empty sink has the value that the geometry stands for.
+pub value_is_read : {options : WriteOptions} {g : Geometry} {r : Result (Unit {0}) WkbError} {x : Unit {0}}
+    {untouched : Type 0} {old new input : List ℕ} {failed : Bool} {fails_by : Option Error → Type 0} {w : Item}
+    → old ≡ [] → Writes options g r untouched (Some old) (Some new) failed fails_by → r ≡ Ok x
+    → nest (normal g) ≤ max_nesting → input ≡ new → IsOnlyFront input w → normal g ≡ w.value
+value_is_read {g = g} empty written is shallow same only =
+    let read = read_again empty written is shallow in
+    (only read.0 (normal g) [] (subst (λ b. Front b read.0 (normal g) []) (sym same) read.1)).2
 
 empty_by : (b : Bool) (words : Coordinate) → None ≡ (if b then None else Some words) → b ≡ true
 empty_by true words h = refl

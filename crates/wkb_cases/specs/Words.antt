@@ -8,7 +8,9 @@ pub use Rattle.wkb.specs.Checks.{BoundsOnlyFront, FindsBounds, nothing, Axis, x_
 pub use Rattle.wkb.specs.Checks.{axis_place, words_in, words_on, words_of_each, words_on_each, rank, lower, higher}
 pub use Rattle.wkb.specs.Checks.{no_numbers, with_number, with_word, widened, range_of, Range, Bounds, type_kind}
 pub use Rattle.wkb.specs.Checks.{type_dimension, type_of}
-pub use Rattle.wkb.specs.Coordinates.{of_point, of_parts, coordinates_of, coordinates_of_each, Visits}
+pub use Rattle.wkb.specs.Coordinates.{of_point, of_parts, coordinates_of, coordinates_of_each, words_of, HasOnly}
+pub use Rattle.wkb.specs.Coordinates.{HaveOnly, Visits}
+pub use Rattle.wkb.specs.AllCoordinates.{all_fit, words_are_whole, coordinates_again, few_are_written, many_are_refused}
 pub use Rattle.wkb.specs.Prelude.{Endianness, BigEndian, LittleEndian, Form, Iso, Ewkb, Dimension, Xy, Xyz, Xym, Xyzm}
 pub use Rattle.wkb.specs.Prelude.errors as errors
 pub use Rattle.wkb.specs.Prelude.causes as causes
@@ -143,9 +145,9 @@ pub use Rattle.wkb.specs.Known.{spelled_is_writable, equal_spelled, equal_spelle
 pub use Rattle.wkb.specs.Known.{have_one_encoding, coordinate_has_one_encoding, first_start, next_start}
 pub use Rattle.wkb.specs.Known.{first_ring_start, next_ring_start, members_stand, rings_stand, members_in_place}
 pub use Rattle.wkb.specs.Known.{rings_in_place, words_stand, line_string_words_stand, ranks_in_order}
-pub use Rattle.wkb.specs.Bridges.{memory_or, part_is_member, member_of, appended, encoding_alone, read_before}
-pub use Rattle.wkb.specs.Bridges.{read_again, front_stands, rest_stands, stands_within, begins_there, parts_counted}
-pub use Rattle.wkb.specs.Bridges.{members_counted, srid_of_options}
+pub use Rattle.wkb.specs.Bridges.{memory_or, refused_for, part_is_member, member_of, appended, encoding_alone}
+pub use Rattle.wkb.specs.Bridges.{read_before, read_again, front_stands, rest_stands, stands_within, begins_there}
+pub use Rattle.wkb.specs.Bridges.{parts_counted, members_counted, srid_of_options}
 pub use Rattle.wkb.specs.Handed.{Handed, handed_kind, kind_handed, not_point, not_line_string, not_polygon}
 pub use Rattle.wkb.specs.Handed.{not_multi_point, not_multi_line_string, not_multi_polygon, not_collection}
 pub use Rattle.wkb.specs.Kept.{Keeps, none, kept, left, KeepsBefore, keeping_starts, keeps_one, leaves_one}
@@ -154,15 +156,14 @@ pub use Rattle.wkb.specs.Lawful.{coord_view_lawful, ring_view_lawful, point_view
 pub use Rattle.wkb.specs.Lawful.{multi_point_view_lawful, parts_view_lawful, members_view_lawful, word_is_there}
 pub use Rattle.wkb.specs.Lawful.{has_two, x_is_there, y_is_there}
 pub use Rattle.wkb.specs.Lent.{IsRingAt, point_is_member, line_string_is_member, polygon_is_member, member_stands}
-pub use Rattle.wkb.specs.Lent.{next_member_stands, ring_stands, ring_word_stands}
-pub use Rattle.wkb.specs.Members.{item_found, item_missing, no_member_listed, listed_value, member_listed, one_member}
-pub use Rattle.wkb.specs.Members.{member_falls, items_lawful}
-pub use Rattle.wkb.specs.Offsets.{BeginsAt, begins_at, none_begins_at, value_there, spelling_there, no_word}
-pub use Rattle.wkb.specs.Offsets.{no_word_there}
+pub use Rattle.wkb.specs.Lent.{next_member_stands, ring_stands, word_stands, ring_word_stands, held_member_stands}
+pub use Rattle.wkb.specs.Lent.{held_ring_stands}
+pub use Rattle.wkb.specs.Members.{item_found, item_missing, no_member, one_member, member_falls, items_lawful}
+pub use Rattle.wkb.specs.Offsets.{BeginsAt, begins_at, none_begins_at, one_there, no_word, no_word_there}
 pub use Rattle.wkb.specs.Order.{is_number, not_nan, HasNumbers, IsBetween, stay_numbers, range_has_numbers, between}
 pub use Rattle.wkb.specs.OwnBytes.{own_options, never_refused, memory_alone, read_the_same, only_front, one_item}
-pub use Rattle.wkb.specs.OwnBytes.{no_longer, no_refusal, not_refused, not_refused_under, always_compared, own_encoding}
-pub use Rattle.wkb.specs.OwnBytes.{own_encoding_with_srid, values_compared}
+pub use Rattle.wkb.specs.OwnBytes.{one_listed, no_longer, no_refusal, not_refused, not_refused_under, always_compared}
+pub use Rattle.wkb.specs.OwnBytes.{own_encoding, own_encoding_with_srid, values_compared}
 pub use Rattle.wkb.specs.Ranges.{IsWithin, BringsWithin, stays_within, within_range_of, number_within, item_within}
 pub use Rattle.wkb.specs.Ranges.{ordinate_within, member_within, drop_at, widened_next, counts_once, same_bounds}
 pub use Rattle.wkb.specs.ReadBack.{IsReadBefore, encoding_is_read, value_is_read, empty_point_read, point_read}

@@ -1,11 +1,11 @@
 -- Keys, found among others or missing, and the values that they are read as.
-use Rattle.std.proofs.Common.{◌≡◌, ℕ, zero, suc, List, [], ◌∷◌, ◌++◌, map, Bool, true, false, refl}
+use Rattle.std.proofs.Common.{◌≡◌, ℕ, ◌<◌, List, [], ◌∷◌, ◌++◌, map, length, get_or, Bool, true, false}
 use Rattle.std.proofs.Common.{sym, ap, subst, ◌∙◌, arith}
-use Rattle.std.specs.Prelude.{bytes_eq, Contains, ◌||◌}
-use Rattle.std.specs.List.{AllByRecursion, list_any}
-use Rattle.std.proofs.lemmas.List.{append-nil, map-append}
+use Rattle.std.specs.Prelude.{bytes_eq, Contains, MatchBool}
+use Rattle.std.specs.List.{All, list_any}
+use Rattle.std.proofs.lemmas.List.{append-nil, get_or-map, length-map}
+use Rattle.std.proofs.lemmas.List.Folds.{Any-from_list_any, list_any_at}
 use Rattle.wkb_clients.specs.Common.{LittleEndian, Iso, AreBytes, Value, Front}
-use Rattle.std.specs.Bool.{Decides}
 use Rattle.std.proofs.lemmas.Slice.Eq.{bytes_eq-Decides}
 use Rattle.wkb.specs.Encodings.{IsRewriting}
 use Rattle.wkb.specs.Known.{equal_encodings, front_is_read, rewriting_is_read}
@@ -31,86 +31,47 @@ key_read input key bytes k =
     let f : Front key r.0 k.value [] = subst (λ b. Front b r.0 k.value []) (append-nil _ ∙ sym k.is) r.1 in
     ap (λ (x : _). value_read x.1) (front_is_read key r.0 k.value [] f)
 
--- ---- among others
-
-module _ {V : Type 0} (bytes_of : V → List ℕ) (key : List ℕ) (t : Value) where
-  known_by : (k : V) (ks : List V) (found : Bool) → Decides found (bytes_of k ≡ key) → value_in key ≡ t
-      → (list_any (λ y. bytes_eq (bytes_of y) key) ks ≡ true → Contains (map (λ y. value_in (bytes_of y)) ks) t)
-      → (found ≡ false → list_any (λ y. bytes_eq (bytes_of y) key) ks ≡ true)
-      → Contains (map (λ y. value_in (bytes_of y)) (k ∷ ks)) t
-  known_by k ks true decides is later h = (0, omega arith, ap value_in (decides.0 refl) ∙ is)
-  known_by k ks false decides is later h = let c = later (h refl) in (suc c.0, omega (arith, c.1), c.2)
-
-  rest_true : (a b : Bool) → (a || b) ≡ true → a ≡ false → b ≡ true
-  rest_true true b h e = absurd (cc)
-  rest_true false b h e = h
-
-  pub known : (ks : List V) → value_in key ≡ t → list_any (λ y. bytes_eq (bytes_of y) key) ks ≡ true
-      → Contains (map (λ y. value_in (bytes_of y)) ks) t
-  known [] is h = absurd (cc)
-  known (k ∷ ks) is h =
-      known_by k ks (bytes_eq (bytes_of k) key) (bytes_eq-Decides (bytes_of k) key) is (known ks is)
-      (rest_true (bytes_eq (bytes_of k) key) (list_any (λ y. bytes_eq (bytes_of y) key) ks) h)
-
-  rest_false : (a b : Bool) → (a || b) ≡ false → (a ≡ false) × (b ≡ false)
-  rest_false true b h = absurd (cc)
-  rest_false false b h = (refl, h)
-
-  differs : (found : Bool) (x : List ℕ) → Decides found (x ≡ key) → found ≡ false → x ≡ key → ⊥
-  differs found x decides is_false same = let is_true = decides.1 same in absurd (cc)
-
-  pub unknown : (ks : List V) → AllByRecursion (λ y. bytes_of y ≡ key_of (value_in (bytes_of y))) ks → key ≡ key_of t
-      → list_any (λ y. bytes_eq (bytes_of y) key) ks ≡ false
-      → Contains (map (λ y. value_in (bytes_of y)) ks) t → ⊥
-  unknown [] all is none c = absurd (omega (arith, c.1))
-  unknown (k ∷ ks) all is none (zero, below, at) =
-      let both = rest_false (bytes_eq (bytes_of k) key) (list_any (λ y. bytes_eq (bytes_of y) key) ks) none in
-      differs (bytes_eq (bytes_of k) key) (bytes_of k) (bytes_eq-Decides (bytes_of k) key) both.0
-      (all.0 ∙ ap key_of at ∙ sym is)
-  unknown (k ∷ ks) all is none (suc n, below, at) =
-      let both = rest_false (bytes_eq (bytes_of k) key) (list_any (λ y. bytes_eq (bytes_of y) key) ks) none in
-      unknown ks all.1 is both.1 (n, omega (arith, below), at)
-
-pub all_with : {V : Type 0} (bytes_of : V → List ℕ) (ks : List V) (k : V)
-    → AllByRecursion (λ y. bytes_of y ≡ key_of (value_in (bytes_of y))) ks
-    → bytes_of k ≡ key_of (value_in (bytes_of k))
-    → AllByRecursion (λ y. bytes_of y ≡ key_of (value_in (bytes_of y))) (ks ++ k ∷ [])
-all_with bytes_of [] k all is = (is, tt)
-all_with bytes_of (x ∷ ks) k all is = (all.0, all_with bytes_of ks k all.1 is)
-
--- ---- what an insertion did
-
-pub was_known : {V : Type 0} (bytes_of : V → List ℕ) (ks : List V) (input key : List ℕ)
-    → AreBytes input → IsKey input key
-    → list_any (λ y. bytes_eq (bytes_of y) key) ks ≡ true
-    → Inserts (map (λ y. value_in (bytes_of y)) ks) (map (λ y. value_in (bytes_of y)) ks) input true
-was_known bytes_of ks input key bytes k found =
-    record {
-      spelled = k.spelled;
-      value = k.value;
-      rest = k.rest;
-      front = k.front;
-      known = known bytes_of key k.value ks (key_read input key bytes k) found;
-      kept = refl;
-    }
-
-pub is_stored : {V : Type 0} (bytes_of : V → List ℕ) (ks : List V) (input : List ℕ) (v : V) → AreBytes input
-    → IsKey input (bytes_of v)
-    → AllByRecursion (λ y. bytes_of y ≡ key_of (value_in (bytes_of y))) ks
-    → list_any (λ y. bytes_eq (bytes_of y) (bytes_of v)) ks ≡ false
-    → Inserts (map (λ y. value_in (bytes_of y)) ks) (map (λ y. value_in (bytes_of y)) (ks ++ v ∷ [])) input false
-is_stored bytes_of ks input v bytes k all none =
-    record {
-      spelled = k.spelled;
-      value = k.value;
-      rest = k.rest;
-      front = k.front;
-      known = unknown bytes_of (bytes_of v) k.value ks all k.is none;
-      kept = map-append (λ y. value_in (bytes_of y)) ks (v ∷ [])
-          ∙ ap (λ w. map (λ y. value_in (bytes_of y)) ks ++ w ∷ [])
-          (key_read input (bytes_of v) bytes k);
-    }
-
+-- so it is the key of that value
 pub is_its_own : (input key : List ℕ) → AreBytes input → (k : IsKey input key)
     → key ≡ key_of (value_in key)
 is_its_own input key bytes k = k.is ∙ ap key_of (sym (key_read input key bytes k))
+
+module _ {V : Type 0} (bytes_of : V → List ℕ) where
+  abbrev value_of : V → Value
+  value_of v = value_in (bytes_of v)
+
+  -- whether the key is among others decides whether its value is among theirs
+  judged : (ks : List V) (v : V) (t : Value) (was : Bool) → bytes_of v ≡ key_of t → value_of v ≡ t
+      → All (λ y. bytes_of y ≡ key_of (value_of y)) ks
+      → was ≡ list_any (λ y. bytes_eq (bytes_of y) (bytes_of v)) ks
+      → MatchBool was (Contains (map value_of ks) t) (Contains (map value_of ks) t → ⊥)
+  judged ks v t true key value all is =
+      let k = Any-from_list_any (λ y. bytes_eq (bytes_of y) (bytes_of v)) ks (sym is) in
+      let same = (bytes_eq-Decides (bytes_of k.1) (bytes_of v)).0 k.4 in
+      let at : get_or (map value_of ks) k.0 t ≡ t =
+      get_or-map value_of ks k.0 k.1 t k.2 ∙ ap value_of k.3 ∙ ap value_in same ∙ value in
+      (k.0, omega (arith, k.2, length-map ks value_of), at)
+  judged ks v t false key value all is = λ c.
+      let below : c.0 < length ks = omega (arith, c.1, length-map ks value_of) in
+      let y = get_or ks c.0 v in
+      let at : value_of y ≡ t = sym (get_or-map value_of ks c.0 v t below) ∙ c.2 in
+      let found = list_any_at (λ y. bytes_eq (bytes_of y) (bytes_of v)) ks c.0 v below
+      ((bytes_eq-Decides (bytes_of y) (bytes_of v)).1 (all c.0 v below ∙ ap key_of at ∙ sym key)) in
+      absurd (cc)
+
+  -- what an insertion did
+  pub inserts : (ks : List V) (old new : List Value) (input : List ℕ) (v : V) (was : Bool) → AreBytes input
+      → (k : IsKey input (bytes_of v)) → All (λ y. bytes_of y ≡ key_of (value_of y)) ks
+      → map value_of ks ≡ old → was ≡ list_any (λ y. bytes_eq (bytes_of y) (bytes_of v)) ks
+      → MatchBool was (new ≡ old) (new ≡ old ++ value_of v ∷ []) → Inserts old new input was
+  inserts ks old new input v was bytes k all view is kept =
+      let value = key_read input (bytes_of v) bytes k in
+      record {
+        spelled = k.spelled;
+        value = k.value;
+        rest = k.rest;
+        front = k.front;
+        known = subst (λ l. MatchBool was (Contains l k.value) (Contains l k.value → ⊥)) view
+            (judged ks v k.value was k.is value all is);
+        kept = subst (λ t. MatchBool was (new ≡ old) (new ≡ old ++ t ∷ [])) value kept;
+      }

@@ -30,12 +30,10 @@ FindsRing whole k j found = MatchOption found (HasNoRing whole k j) (λ r. IsRin
 -- the polygon, and the polygon where it does in the collection.
 pub record IsRingWordAt (blob : List ℕ) (offset k j i n w : ℕ) : Type 0 where
   pub whole : Item
-  pub dimension : Dimension
-  pub members : Values
-  pub part : Item
-  pub ring : List Coordinate
   pub front : IsFront (drop offset blob) whole
-  pub value_is : whole.value ≡ collection dimension members
+  pub ring : List Coordinate
+  pub is_ring : IsRingOf whole k j ring
+  pub part : Item
   pub polygon : HoldsMember whole k part
   pub of_polygon : HoldsRing part j ring
   pub word : IsWordOf ring i n w

@@ -1,35 +1,15 @@
 -- All coordinates of a value, and the multi point that has a point at each of them.
-use Rattle.std.specs.Prelude.{◌≡◌, ◌⊎◌, ◌≤◌, ◌^◌, ℕ, List, [], map, flat_map, length, Option, Some}
+use Rattle.std.specs.Prelude.{◌≡◌, ◌⊎◌, ◌≤◌, ◌^◌, ℕ, List, [], map, length, Option, Some}
 use Rattle.std.specs.Prelude.{MatchOption, Vec}
 use Rattle.std.specs.Global.{Global}
-use Rattle.wkb.specs.Prelude.{Dimension, as_dimensions, WkbError, IsMemory}
-use Rattle.wkb.specs.Values.{Coordinate, Value, Values, point, line_string, polygon, multi_point, multi_line_string}
-use Rattle.wkb.specs.Values.{multi_polygon, collection, no_members, member, dimension}
-use Rattle.wkb.specs.Coordinates.{coordinates_of}
+use Rattle.wkb.specs.Prelude.{as_dimensions, WkbError, IsMemory}
+use Rattle.wkb.specs.Values.{Value, multi_point, dimension}
+use Rattle.wkb.specs.Coordinates.{coordinates_of, HasOnly}
 use Rattle.wkb.specs.Spellings.{Spelling, Front}
 use Rattle.wkb.specs.Geometries.{Geometry, normal_point}
 use Rattle.wkb.specs.Geometries.{multi_point as points_of}
 use Rattle.wkb.specs.Encodings.{encoding_of, refusal_of}
 use Rattle.wkb.specs.Writes.{WriteOptions, Reports}
-
--- the words of coordinates, one after another
-abbrev pub words_of : List Coordinate → List ℕ
-words_of cs = flat_map (λ c. c) cs
-
--- a value has this dimension, and so has each member of a collection in it
-abbrev mutual
-  pub HasOnly : Dimension → Value → Type 0
-  HasOnly d (point e c) = e ≡ d
-  HasOnly d (line_string e cs) = e ≡ d
-  HasOnly d (polygon e rings) = e ≡ d
-  HasOnly d (multi_point e points) = e ≡ d
-  HasOnly d (multi_line_string e lines) = e ≡ d
-  HasOnly d (multi_polygon e polygons) = e ≡ d
-  HasOnly d (collection e ts) = (e ≡ d) × HaveOnly d ts
-
-  pub HaveOnly : Dimension → Values → Type 0
-  HaveOnly d no_members = Unit {0}
-  HaveOnly d (member t ts) = HasOnly d t × HaveOnly d ts
 
 -- a collection in the value has a member of another dimension
 abbrev pub HasOther : Value → Type 0

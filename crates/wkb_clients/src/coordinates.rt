@@ -1,8 +1,9 @@
 //! All coordinates of a geometry of any kind, as the points of one multi point.
 
 ghost use Rattle.std.specs.Prelude.{MatchBool, IfOk, IfErr};
+ghost use Rattle.wkb.specs.Coordinates.{HasOnly, HaveOnly};
 ghost use Rattle.wkb.specs.Reads.{values};
-ghost use Rattle.wkb_clients.specs.Coordinates.{HasOnly, HaveOnly, FindsPoints, IsWantOfRoom};
+ghost use Rattle.wkb_clients.specs.Coordinates.{FindsPoints, IsWantOfRoom};
 
 use std::alloc::{AllocError, Global};
 use wkb::coordinates::{Visitor, visit_coordinates};
@@ -50,7 +51,7 @@ struct Words {
 
 impl Visitor for Words {
     ghost use Rattle.std.specs.Prelude.{◌≡◌};
-    ghost use Rattle.wkb_clients.specs.Coordinates.{words_of};
+    ghost use Rattle.wkb.specs.Coordinates.{words_of};
 
     ghost has_visited = { λ w cs. w.words.items ≡ words_of cs };
 

@@ -41,7 +41,7 @@ pub struct Store {
 
 impl Model for Store {
     ghost use Rattle.std.specs.Prelude.{◌≡◌, List, map};
-    ghost use Rattle.std.specs.List.{AllByRecursion};
+    ghost use Rattle.std.specs.List.{All};
     ghost use Rattle.std.specs.Coded.{coded_list};
     ghost use Rattle.wkb.specs.Reads.{value_code};
     ghost use Rattle.wkb.specs.Values.{Value as Geometry};
@@ -53,8 +53,7 @@ impl Model for Store {
 
     ghost view = { λ s. map (λ k. value_in k.items) s.keys.items };
 
-    ghost invariant = { λ s.
-        AllByRecursion (λ k. k.items ≡ key_of (value_in k.items)) s.keys.items };
+    ghost invariant = { λ s. All (λ k. k.items ≡ key_of (value_in k.items)) s.keys.items };
 }
 
 impl Store {

@@ -1,38 +1,34 @@
 use Rattle.std.proofs.Common.{◌≡◌, slice_index, sym, ap, ◌∙◌, arith}
-use Rattle.wkb.specs.Bridges.{read_again}
+use Rattle.wkb.specs.Geometries.{normal_point}
 use Rattle.wkb.specs.Handed.{not_point}
 use Rattle.wkb.specs.ReadBack.{value_is_read, empty_point_read, point_read}
-use Rattle.wkb_clients.specs.Common.{Xy, kind, words_seen, point_seen}
+use Rattle.wkb_clients.specs.Common.{Xy, kind, point, words_seen, point_seen}
 use Rattle.wkb_cases.specs.Places.{place_words}
 use Rattle.wkb_clients.proofs.places.round_trip.Goals as goal
+use Rattle.wkb_clients.proofs.places.round_trip.Goals.{After-as_type}
+
+-- what was read is the point that was written
+value : (c : After-as_type) → point Xy (normal_point (Some (place_words c.args.place.now))) ≡ c.in-Ok-read_wkb.geometry.value
+value c =
+    value_is_read c.new-sink.ensures.bytes c.write_point.ensures c.in-Ok.is (omega arith)
+    (c.as_slice.ensures.value ∙ c.into_vec-bytes.ensures) c.in-Ok-read_wkb.ensures.one_front
 
 pub returns-in_default : goal.returns-in_default
 returns-in_default c =
-    let again = read_again c.new-sink.ensures.bytes c.write_point.ensures c.in-Ok.is (omega arith) in
-    let input = c.as_slice.ensures.value ∙ c.into_vec-bytes.ensures in
-    let value =
-    value_is_read _ again.0 _ _ _ c.in-Ok-read_wkb.geometry again.1 input c.in-Ok-read_wkb.ensures.one_front in
     absurd (not_point c.in-Ok-read_wkb.geometry c.as_type.result c.as_type.ensures.view c.in_default.not-Point
-    (ap kind (sym value)))
+    (ap kind (sym (value (goal.at.returns-in_default c).After-as_type))))
 
 pub returns-in-Some : goal.returns-in-Some
 returns-in-Some c =
-    let again = read_again c.new-sink.ensures.bytes c.write_point.ensures c.in-Ok.is (omega arith) in
-    let input = c.as_slice.ensures.value ∙ c.into_vec-bytes.ensures in
-    let value =
-    value_is_read _ again.0 _ _ _ c.in-Ok-read_wkb.geometry again.1 input c.in-Ok-read_wkb.ensures.one_front in
     let words =
     point_read Xy (place_words c.args.place.now) (words_seen c.in-Some.coord) (point_seen c.in-Point.point.now).value
-    (value ∙ ap (λ v. v.value) (sym c.in-Point.ensures.view)) c.in-Some.ensures.value in
+    (value (goal.at.returns-in-Some c).After-as_type ∙ ap (λ v. v.value) (sym c.in-Point.ensures.view))
+    c.in-Some.ensures.value in
     let x : c.x_y.result.0 ≡ c.args.place.now.longitude = c.x_y.ensures.x ∙ ap (λ l. slice_index l 0) words in
     let y : c.x_y.result.1 ≡ c.args.place.now.latitude = c.x_y.ensures.y ∙ ap (λ l. slice_index l 1) words in
     λ i. (x i, y i)
 
 pub returns : goal.returns
 returns c =
-    let again = read_again c.new-sink.ensures.bytes c.write_point.ensures c.in-Ok.is (omega arith) in
-    let input = c.as_slice.ensures.value ∙ c.into_vec-bytes.ensures in
-    let value =
-    value_is_read _ again.0 _ _ _ c.in-Ok-read_wkb.geometry again.1 input c.in-Ok-read_wkb.ensures.one_front in
     empty_point_read Xy (place_words c.args.place.now) (point_seen c.in-Point.point.now).value
-    (value ∙ ap (λ v. v.value) (sym c.in-Point.ensures.view)) c.in-None.ensures.value
+    (value (goal.at.returns c).After-as_type ∙ ap (λ v. v.value) (sym c.in-Point.ensures.view)) c.in-None.ensures.value

@@ -1,8 +1,10 @@
-use Rattle.std.proofs.Common.{◌≡◌, ℕ, List, map, Vec, Global, true, false, sym, ap, subst, ◌∙◌}
+use Rattle.std.proofs.Common.{◌++◌, ◌∷◌, [], ℕ, List, map, Vec, Global, true, false, refl, sym, ap, subst, ◌∙◌}
 use Rattle.std.specs.Prelude.{bytes_eq}
-use Rattle.std.specs.List.{AllByRecursion, list_any}
-use Rattle.wkb_clients.specs.Keys.{key_of, value_in, Inserts}
-use Rattle.wkb_clients.proofs.KeysFound.{was_known, is_stored, is_its_own, all_with}
+use Rattle.std.specs.List.{All, list_any}
+use Rattle.std.proofs.lemmas.List.{map-append}
+use Rattle.std.proofs.lemmas.List.Elements.{All-push}
+use Rattle.wkb_clients.specs.Keys.{key_of, value_in}
+use Rattle.wkb_clients.proofs.KeysFound.{inserts, is_its_own}
 use Rattle.wkb_clients.proofs.keys.Store.insert.Goals as goal
 
 -- the bytes of a key
@@ -11,34 +13,27 @@ bytes_of v = v.items
 
 pub returns-then-contains-clause-ok : goal.returns-then-contains-clause-ok
 returns-then-contains-clause-ok c =
-    let keys = c.self.inside.keys.items in
-    let found : list_any (λ y. bytes_eq (bytes_of y) c.in-Ok.key.items) keys ≡ true =
-    ap (λ l. list_any (λ y. bytes_eq (bytes_of y) c.in-Ok.key.items) l) (sym c.deref.ensures.value)
-    ∙ sym c.contains.ensures.value ∙ c.if-contains.true in
-    subst (λ s. Inserts s s c.args.bytes.now true) c.self.view_is
-    (was_known bytes_of keys c.args.bytes.now
-    c.in-Ok.key.items c.are_bytes.ensures
-    c.in-Ok.ensures.ok found)
+    let key = c.in-Ok.key in
+    inserts bytes_of c.self.inside.keys.items _ _ c.args.bytes.now key true c.are_bytes.ensures c.in-Ok.ensures.ok
+    c.self.invariant c.self.view_is
+    (sym c.if-contains.true ∙ c.contains.ensures.value
+    ∙ ap (λ l. list_any (λ y. bytes_eq (bytes_of y) key.items) l) c.deref.ensures.value) refl
 
 pub invariant_of-self-2 : goal.invariant_of-self-2
 invariant_of-self-2 c =
-    subst (λ l. AllByRecursion (λ y. bytes_of y ≡ key_of (value_in (bytes_of y))) l) (sym c.in_ok-push.ensures.items)
-    (all_with bytes_of c.self.inside.keys.items c.in-Ok.key c.self.invariant
-    (is_its_own c.args.bytes.now c.in-Ok.key.items
-    c.are_bytes.ensures c.in-Ok.ensures.ok))
+    let P = λ (y : Vec ℕ Global). bytes_of y ≡ key_of (value_in (bytes_of y)) in
+    subst (All P) (sym c.in_ok-push.ensures.items)
+    (All-push P c.self.inside.keys.items c.in-Ok.key c.self.invariant
+    (is_its_own c.args.bytes.now c.in-Ok.key.items c.are_bytes.ensures c.in-Ok.ensures.ok))
 
 pub returns-clause-ok : goal.returns-clause-ok
 returns-clause-ok c =
+    let key = c.in-Ok.key in
     let keys = c.self.inside.keys.items in
-    let none : list_any (λ y. bytes_eq (bytes_of y) c.in-Ok.key.items) keys ≡ false =
-    ap (λ l. list_any (λ y. bytes_eq (bytes_of y) c.in-Ok.key.items) l) (sym c.deref.ensures.value)
-    ∙ sym c.contains.ensures.value ∙ c.if-contains.false in
-    let stored =
-    is_stored bytes_of keys c.args.bytes.now c.in-Ok.key
-    c.are_bytes.ensures
-    c.in-Ok.ensures.ok c.self.invariant none in
-    subst (λ s. Inserts s (map (λ y. value_in (bytes_of y)) c.push.new.self.items) c.args.bytes.now false)
-    c.self.view_is
-    (subst (λ l. Inserts (map (λ y. value_in (bytes_of y)) keys)
-    (map (λ y. value_in (bytes_of y)) l) c.args.bytes.now false) (sym c.in_ok-push.ensures.items)
-    stored)
+    inserts bytes_of keys _ _ c.args.bytes.now key false c.are_bytes.ensures c.in-Ok.ensures.ok
+    c.self.invariant c.self.view_is
+    (sym c.if-contains.false ∙ c.contains.ensures.value
+    ∙ ap (λ l. list_any (λ y. bytes_eq (bytes_of y) key.items) l) c.deref.ensures.value)
+    (ap (map (λ y. value_in (bytes_of y))) c.in_ok-push.ensures.items
+    ∙ map-append (λ y. value_in (bytes_of y)) keys (key ∷ [])
+    ∙ ap (λ l. l ++ value_in (bytes_of key) ∷ []) c.self.view_is)
