@@ -2,7 +2,6 @@ mod ThereAndBackLevels
 mod ThereAndBackKinds
 mod ThereAndBackRows
 mod ThereAndBackEncodings
-mod ThereAndBackGiven
 mod ThereAndBack
 mod ThereAndBackColumns
 mod ThereAndBackExample

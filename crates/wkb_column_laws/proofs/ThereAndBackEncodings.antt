@@ -1,7 +1,7 @@
 -- What bytes spell, with the words of its empty points, can be written; and where these are the words that are written
 -- of empty points, its encoding is that of the value.
-use Rattle.wkb_abi.proofs.Common.{◌≡◌, ℕ, suc, ◌+◌, ◌*◌, ◌≤◌, ◌<◌, ◌^◌, List, [], ◌∷◌, ◌++◌, length, Option, Some, None}
-use Rattle.wkb_abi.proofs.Common.{refl, sym}
+use Rattle.wkb_abi.proofs.Common.{◌≡◌, ℕ, suc, ◌≤◌, ◌<◌, ◌^◌, List, [], ◌∷◌, ◌++◌, length, Option, Some, None}
+use Rattle.wkb_abi.proofs.Common.{refl}
 use Rattle.wkb_abi.proofs.Common.{ap, ◌∙◌, arith, is_some, Dimension, Coordinate, Spelling, node, Spellings}
 use Rattle.wkb_abi.proofs.Common.{no_spellings, spelling, Spells, SpellsEach, SpellsCoordinate, Value, point}
 use Rattle.wkb_abi.proofs.Common.{multi_point, IsNumber}
@@ -10,13 +10,11 @@ use Rattle.std.specs.List.{AllByRecursion}
 use Rattle.std.proofs.Common.{lt-ltb}
 use Rattle.std.proofs.lemmas.List.{length-map}
 use Rattle.wkb_geom.specs.Dimensions.{as_dimensions, written_dimension}
-use Rattle.wkb_geom.specs.Encodings.{encoding, point_encoding, point_words, members_encoding, fault, dimensions_fault}
-use Rattle.wkb_geom.specs.Encodings.{count_fault, or_else, size_fault, refusal, inner, form_srid}
-use Rattle.wkb_geom.specs.Geometries as geometries
-use Rattle.wkb_geom.specs.Geometries.{Geometry, geometry_of, normal, normal_point, IsGeometry, IsCoordinate, IsPoint}
+use Rattle.wkb_geom.specs.Encodings.{encoding, point_encoding, point_words, fault}
+use Rattle.wkb_geom.specs.Encodings.{or_else, size_fault, refusal, inner, form_srid}
+use Rattle.wkb_geom.specs.Geometries.{geometry_of, normal, IsGeometry, IsCoordinate, IsPoint}
 use Rattle.wkb_geom.specs.Grammar.{IsEach}
 use Rattle.wkb_geom.specs.Numbers.{AreBytes, IsWord}
-use Rattle.wkb_geom.specs.Sizes.{point_size}
 use Rattle.wkb_geom.specs.Spellings.{part}
 use Rattle.wkb_geom.specs.Values.{each}
 use Rattle.wkb_geom.specs.declared.common.Dimension.TheVariants.{Xy}
@@ -76,16 +74,12 @@ like_value s (point d c) bytes b spelled =
     record { lawful = point_lawful s d c bytes b spelled; same_fault = refl; same_size = refl }
 like_value (node h words ss) (multi_point d points) bytes b spelled =
     let members = spelled.second in
-    let here = (bytes_of members (bytes_of spelled b).1).1 in
-    let many : length (map (λ c. Some c) (points_spelled ss points)) ≡ length points =
-    length-map (points_spelled ss points) (λ c. Some c) ∙ as_many d ss points members.rest members.second in
+    let many = as_many d ss points members.rest members.second in
     record {
-      lawful = points_lawful d ss points members.rest here members.second;
-      same_fault = ap (λ n. or_else (dimensions_fault (as_dimensions d)) (count_fault n)) many;
-      same_size =
-          ap (λ n. 9 + n * point_size (as_dimensions (written_dimension (as_dimensions d))))
-          (length-map (map (λ c. Some c) (points_spelled ss points)) normal_point ∙ many
-          ∙ sym (length-map points normal_point));
+      lawful =
+          points_lawful d ss points members.rest (bytes_of members (bytes_of spelled b).1).1 members.second;
+      same_fault = simp (length-map, many);
+      same_size = simp (length-map, many);
     }
 like_value s t bytes b spelled =
     record { lawful = lawful-geometry_of t (spelled_good s t bytes b spelled).0; same_fault = refl; same_size = refl }
@@ -103,57 +97,37 @@ spelled_writable order form s t bytes b small spelled =
     let good = spelled_good s t bytes b spelled in
     let like = like_value s t bytes b spelled in
     let fine = like.same_fault ∙ good.1 in
-    let long = encoding_length order form (as_spelled s t) like.lawful fine in
-    let same : value_size (normal (geometry_of t)) ≡ value_size t = ap value_size (normal-geometry_of t good.0) in
     let fits : length (encoding order form (as_spelled s t)) < 2 ^ 64 =
     omega (
       arith,
-      long,
-      like.same_size,
-      same,
+      encoding_length order form (as_spelled s t) like.lawful fine,
+      ap value_size (normal-geometry_of t good.0),
       spelled_length s t bytes spelled,
-      small,
       at_most_one (is_some (form_srid form)),
     ) in
-    ap (λ z. or_else z (size_fault (length (encoding order form (as_spelled s t))))) fine
-    ∙ rw (lt-ltb (length (encoding order form (as_spelled s t))) (2 ^ 64) fits) refl
+    rw (fine, lt-ltb (length (encoding order form (as_spelled s t))) (2 ^ 64) fits)
 
 -- ---- its encoding
-
-written_as_itself : (d : Dimension) → written_dimension (as_dimensions d) ≡ d
-written_as_itself Xy = refl
-written_as_itself _ = refl
-
-point_again : (order : Endianness) (form : Form) (d : Dimension) (c : Option Coordinate)
-    → point_encoding order form d (Some (point_words d c)) ≡ point_encoding order form d c
-unfolding point_encoding point_words
-point_again order form d None = refl
-point_again order form d (Some c) = refl
 
 point_same : (order : Endianness) (form : Form) (d : Dimension) (c : Option Coordinate)
     → point_encoding order form (written_dimension (as_dimensions d)) (Some (point_words d c))
     ≡ point_encoding order form (written_dimension (as_dimensions d)) c
-point_same order form d c =
-    let is = written_as_itself d in
-    ap (λ e. point_encoding order form e (Some (point_words d c))) is ∙ point_again order form d c
-    ∙ ap (λ e. point_encoding order form e c) (sym is)
+unfolding point_encoding point_words
+point_same order form d (Some c) = refl
+point_same order form Xy None = refl
+point_same order form _ None = refl
 
 points_same : (order : Endianness) (form : Form) (d : Dimension) (points : List (Option Coordinate))
     → flat_map (point_encoding order form (written_dimension (as_dimensions d)))
     (map (λ c. Some c) (map (point_words d) points))
     ≡ flat_map (point_encoding order form (written_dimension (as_dimensions d))) points
 points_same order form d [] = refl
-points_same order form d (c ∷ points) =
-    λ i. point_same order form d c i ++ points_same order form d points i
+points_same order form d (c ∷ points) = λ i. point_same order form d c i ++ points_same order form d points i
 
 pub same_encoding : (order : Endianness) (form : Form) (s : Spelling) (t : Value) → HasEmptyWords s t
     → encoding order form (as_spelled s t) ≡ encoding order form (geometry_of t)
-same_encoding order form s (point d c) h =
-    ap (λ p. point_encoding order form (written_dimension (as_dimensions d)) (Some p)) h ∙ point_same order form d c
+same_encoding order form s (point d c) h = rw h (point_same order form d c)
 same_encoding order form (node head words ss) (multi_point d points) h =
-    let e = written_dimension (as_dimensions d) in
-    let many : length (map (λ c. Some c) (map (point_words d) points)) ≡ length points =
-    length-map (map (point_words d) points) (λ c. Some c) ∙ length-map points (point_words d) in
-    ap (λ cs. encoding order form (geometries.multi_point (as_dimensions d) (map (λ c. Some c) cs))) h
-    ∙ (λ i. members_encoding order form 4 e (many i) (points_same order (inner form) d points i))
+    let wrapped = length-map (map (point_words d) points) (λ c. Some c) in
+    rw (h, wrapped, length-map points (point_words d), points_same order (inner form) d points)
 same_encoding order form s _ h = refl

@@ -1,28 +1,31 @@
 -- The singles of a geometry: what its subjects give each level, and the geometry that they mean.
-use Rattle.wkb_abi.proofs.Common.{◌≡◌, ℕ, ◌<◌, List, [], ◌∷◌, ◌++◌, length, Option, Some, None, refl, sym, ap, ◌∙◌}
-use Rattle.wkb_abi.proofs.Common.{subst, arith, append-nil, append_assoc, Dimension, width, Coordinate}
-use Rattle.wkb_abi.proofs.Common.{Spelling, node, Spellings, no_spellings, spelling, Spells, SpellsEach, Value, Values}
-use Rattle.wkb_abi.proofs.Common.{point, line_string, polygon, multi_point, multi_line_string, multi_polygon, collection}
-use Rattle.wkb_abi.proofs.Common.{no_members, member, members, kind, dimension, SpellsCoordinate, SpellsCoordinates}
-use Rattle.std.specs.Prelude.{map, flat_map, slice_index, option_and_then}
-use Rattle.std.specs.Option.{option_map}
+use Rattle.wkb_abi.proofs.Common.{◌≡◌, ℕ, ◌<◌, List, [], ◌∷◌, ◌++◌, length, Option, Some, None, refl, ap, arith}
+use Rattle.wkb_abi.proofs.Common.{append-nil, Dimension, width, Coordinate}
+use Rattle.wkb_abi.proofs.Common.{Spelling, node, Spellings, no_spellings, spelling, Spells, SpellsEach, SpellsBody}
+use Rattle.wkb_abi.proofs.Common.{Value, Values, point, line_string, polygon, multi_point, multi_line_string, Header}
+use Rattle.wkb_abi.proofs.Common.{multi_polygon, collection, no_members, member, members, kind, dimension}
+use Rattle.wkb_abi.proofs.Common.{SpellsCoordinate, SpellsCoordinates}
+use Rattle.std.specs.Prelude.{◌-◌, map, flat_map, sum}
+use Rattle.std.specs.List.{AllByRecursion}
+use Rattle.std.proofs.Common.{lt-ltb}
+use Rattle.std.proofs.lemmas.List.{map-append, length-map, map-id}
 use Rattle.std.proofs.lemmas.List.Concat.{flat_map-append}
 use Rattle.wkb_geom.specs.Dimensions.{as_dimensions}
-use Rattle.wkb_geom.specs.Geometries as geometries
 use Rattle.wkb_geom.specs.Grammar.{IsEach}
-use Rattle.wkb_geom.specs.Spellings.{part}
+use Rattle.wkb_geom.specs.Spellings.{Wanted, part, member_part}
 use Rattle.wkb_geom.specs.Values.{each}
 use Rattle.wkb_geom.specs.declared.common.Dimension.TheVariants.{Xy, Xyz, Xym, Xyzm}
 use Rattle.wkb_geom.specs.declared.common.Endianness.{Endianness}
-use Rattle.wkb_check.specs.Subjects.{Subject, whole, subjects, subjects_of_rings, subjects_of_each, coordinates_of}
+use Rattle.wkb_check.specs.Subjects.{Subject, whole, ring, subjects, subjects_of_rings, subjects_of_each, coordinates_of}
+use Rattle.wkb_check.specs.Subjects.{dimension_in, subject_coordinates, rings_of}
 use Rattle.wkb_levels.specs.Cuts.{only_each}
-use Rattle.wkb_levels.specs.Meant.{kind_meant, rings_meant}
+use Rattle.wkb_levels.specs.Meant.{kind_meant}
 use Rattle.wkb_levels.specs.declared.row.Kind.{Kind}
 use Rattle.wkb_levels.specs.declared.row.Kind.TheVariants as kinds
 use Rattle.wkb_abi.specs.Coordinates.{words_asked, asked_subject_words, ring_counts, single_counts}
 use Rattle.wkb_abi.specs.LevelTargets.{kind_named}
 use Rattle.wkb_column_laws.specs.ThereAndBack.{points_spelled, as_spelled}
-use Rattle.wkb_column_laws.proofs.ThereAndBackLevels.{joined, sizes_of, AreWide}
+use Rattle.wkb_column_laws.proofs.ThereAndBackLevels.{joined, sizes_of, sizes_sum, AreWide}
 
 -- the singles of a geometry, each with its rings
 abbrev mutual
@@ -37,248 +40,190 @@ abbrev mutual
   singles_of_each no_spellings (member t ts) = []
   singles_of_each (spelling s ss) (member t ts) = singles_in s t ++ singles_of_each ss ts
 
--- ---- lists one behind another
+-- ---- what subjects give each level
 
-module _ {A : Type 0} where
-  joined_append : (x y : List (List A)) → joined (x ++ y) ≡ joined x ++ joined y
-  joined_append [] y = refl
-  joined_append (a ∷ x) y =
-      ap (λ z. a ++ z) (joined_append x y) ∙ sym (append_assoc a (joined x) (joined y))
+-- these subjects give these singles
+abbrev pub Give : List Subject → List (List (List Coordinate)) → Type 0
+Give xs singles =
+    (flat_map single_counts xs ≡ sizes_of singles)
+    × (flat_map ring_counts xs ≡ sizes_of (joined singles))
+    × (flat_map subject_coordinates xs ≡ joined (joined singles))
 
-  sizes_append : (x y : List (List A)) → sizes_of (x ++ y) ≡ sizes_of x ++ sizes_of y
-  sizes_append [] y = refl
-  sizes_append (a ∷ x) y = ap (λ z. length a ∷ z) (sizes_append x y)
+give_both : (xs ys : List Subject) (s u : List (List (List Coordinate))) → Give xs s → Give ys u
+    → Give (xs ++ ys) (s ++ u)
+give_both xs ys s u a b = (
+  simp (flat_map-append, map-append) (λ i. a.0 i ++ b.0 i),
+  simp (flat_map-append, map-append) (λ i. a.1 i ++ b.1 i),
+  simp flat_map-append (λ i. a.2 i ++ b.2 i),
+)
 
-wide_append : (w : ℕ) (x y : List Coordinate) → AreWide w x → AreWide w y → AreWide w (x ++ y)
-wide_append w [] y a b = b
-wide_append w (c ∷ x) y a b = (a.0, wide_append w x y a.1 b)
+rings_give : (order : Endianness) (d : Dimension) (rings : List (List Coordinate))
+    → (flat_map single_counts (subjects_of_rings order d rings) ≡ [])
+    × (flat_map ring_counts (subjects_of_rings order d rings) ≡ sizes_of rings)
+    × (flat_map subject_coordinates (subjects_of_rings order d rings) ≡ joined rings)
+rings_give order d [] = (refl, refl, refl)
+rings_give order d (cs ∷ rings) =
+    let others = rings_give order d rings in
+    (others.0, ap (λ z. length cs ∷ z) others.1, ap (λ z. cs ++ z) others.2)
 
--- ---- the words of coordinates
+mutual
+  pub gives : (s : Spelling) (t : Value) → Give (subjects s t) (singles_in s t)
+  gives (node h words ss) (point d None) = (refl, refl, refl)
+  gives (node h words ss) (point d (Some c)) = (refl, refl, refl)
+  gives (node h words ss) (line_string d cs) = (refl, refl, refl)
+  gives (node h words ss) (polygon d rings) =
+      let own = rings_give h.order d rings in (
+        rw (append-nil (subjects_of_rings h.order d rings), own.0),
+        rw (append-nil (subjects_of_rings h.order d rings), append-nil rings) own.1,
+        rw (append-nil (subjects_of_rings h.order d rings), append-nil rings) own.2,
+      )
+  gives (node h words ss) t = each_gives ss (members t)
 
-two : (c : Coordinate) → length c ≡ 2 → slice_index c 0 ∷ slice_index c 1 ∷ [] ≡ c
-two (x ∷ y ∷ []) h = refl
-two [] h = absurd (omega (arith, h))
-two (x ∷ []) h = absurd (omega (arith, h))
-two (x ∷ y ∷ z ∷ c) h = absurd (omega (arith, h))
+  each_gives : (ss : Spellings) (ts : Values) → Give (subjects_of_each ss ts) (singles_of_each ss ts)
+  each_gives ss no_members = (refl, refl, refl)
+  each_gives no_spellings (member t ts) = (refl, refl, refl)
+  each_gives (spelling s ss) (member t ts) =
+      give_both (subjects s t) (subjects_of_each ss ts) (singles_in s t) (singles_of_each ss ts) (gives s t)
+      (each_gives ss ts)
 
-three : (c : Coordinate) → length c ≡ 3 → slice_index c 0 ∷ slice_index c 1 ∷ slice_index c 2 ∷ [] ≡ c
-three (x ∷ y ∷ z ∷ []) h = refl
-three [] h = absurd (omega (arith, h))
-three (x ∷ []) h = absurd (omega (arith, h))
-three (x ∷ y ∷ []) h = absurd (omega (arith, h))
-three (x ∷ y ∷ z ∷ m ∷ c) h = absurd (omega (arith, h))
+-- its singles have as many rings as there are
+pub counted : (s : Spelling) (t : Value)
+    → sum (flat_map single_counts (subjects s t)) ≡ length (flat_map ring_counts (subjects s t))
+counted s t =
+    let g = gives s t in
+    rw (g.0, g.1, sizes_sum (singles_in s t), length-map (joined (singles_in s t)))
 
-four : (c : Coordinate) → length c ≡ 4
-    → slice_index c 0 ∷ slice_index c 1 ∷ slice_index c 2 ∷ slice_index c 3 ∷ [] ≡ c
-four (x ∷ y ∷ z ∷ m ∷ []) h = refl
-four [] h = absurd (omega (arith, h))
-four (x ∷ []) h = absurd (omega (arith, h))
-four (x ∷ y ∷ []) h = absurd (omega (arith, h))
-four (x ∷ y ∷ z ∷ []) h = absurd (omega (arith, h))
-four (x ∷ y ∷ z ∷ m ∷ n ∷ c) h = absurd (omega (arith, h))
+-- ---- their words, in their own dimension
 
--- in its own dimension all words of a coordinate are asked for
+-- a coordinate has all the words that are asked for
 all_asked : (d : Dimension) (c : Coordinate) → length c ≡ width d → words_asked d d c ≡ c
-all_asked Xy c h = two c h
-all_asked Xyz c h = three c h
-all_asked Xym c h = three c h
-all_asked Xyzm c h = four c h
+all_asked Xy (x ∷ y ∷ []) h = refl
+all_asked Xyz (x ∷ y ∷ z ∷ []) h = refl
+all_asked Xym (x ∷ y ∷ m ∷ []) h = refl
+all_asked Xyzm (x ∷ y ∷ z ∷ m ∷ []) h = refl
+all_asked _ _ h = absurd (omega (arith, h))
 
 coordinate_words : (d : Dimension) (cs : List Coordinate) → AreWide (width d) cs
     → flat_map (words_asked d d) cs ≡ joined cs
 coordinate_words d [] wide = refl
 coordinate_words d (c ∷ cs) wide = λ i. all_asked d c wide.0 i ++ coordinate_words d cs wide.1 i
 
--- ---- what subjects give each level
+-- these subjects have words of this dimension
+record HaveOwnWords (d : Dimension) (xs : List Subject) : Type 0 where
+  words_are : flat_map (asked_subject_words d) xs ≡ joined (flat_map subject_coordinates xs)
+  wide : AreWide (width d) (flat_map subject_coordinates xs)
 
--- these subjects give these singles in this dimension
-pub record Give (d : Dimension) (xs : List Subject) (singles : List (List (List Coordinate))) : Type 0 where
-  pub singles_are : flat_map single_counts xs ≡ sizes_of singles
-  pub rings_are : flat_map ring_counts xs ≡ sizes_of (joined singles)
-  pub words_are : flat_map (asked_subject_words d) xs ≡ joined (joined (joined singles))
-  pub wide : AreWide (width d) (joined (joined singles))
+all_both : {A : Type 0} (P : A → Type 0) (xs ys : List A) → AllByRecursion P xs → AllByRecursion P ys
+    → AllByRecursion P (xs ++ ys)
+all_both P [] ys a b = b
+all_both P (x ∷ xs) ys a b = (a.0, all_both P xs ys a.1 b)
 
-give_none : (d : Dimension) → Give d [] []
-give_none d = record { singles_are = refl; rings_are = refl; words_are = refl; wide = tt }
+words_none : (d : Dimension) → HaveOwnWords d []
+words_none d = record { words_are = refl; wide = tt }
 
-give_both : {d : Dimension} {xs ys : List Subject} {s u : List (List (List Coordinate))} → Give d xs s → Give d ys u
-    → Give d (xs ++ ys) (s ++ u)
-give_both {d} {xs} {ys} {s} {u} a b =
-    let rings = joined_append s u in
-    let coordinates : joined (joined (s ++ u)) ≡ joined (joined s) ++ joined (joined u) =
-    ap joined rings ∙ joined_append (joined s) (joined u) in
-    record {
-      singles_are =
-          flat_map-append single_counts xs ys ∙ (λ i. a.singles_are i ++ b.singles_are i) ∙ sym (sizes_append s u);
-      rings_are =
-          flat_map-append ring_counts xs ys ∙ (λ i. a.rings_are i ++ b.rings_are i)
-          ∙ sym (sizes_append (joined s) (joined u)) ∙ ap sizes_of (sym rings);
-      words_are =
-          flat_map-append (asked_subject_words d) xs ys ∙ (λ i. a.words_are i ++ b.words_are i)
-          ∙ sym (joined_append (joined (joined s)) (joined (joined u))) ∙ ap joined (sym coordinates);
-      wide =
-          subst (AreWide (width d)) (sym coordinates) (wide_append (width d) (joined (joined s)) (joined (joined u))
-          a.wide b.wide);
-    }
-
--- one ring is one single
-one_ring : (d : Dimension) (x : Subject) (cs : List Coordinate) → single_counts x ≡ 1 ∷ []
-    → ring_counts x ≡ length cs ∷ [] → asked_subject_words d x ≡ flat_map (words_asked d d) cs → AreWide (width d) cs
-    → Give d (x ∷ []) ((cs ∷ []) ∷ [])
-one_ring d x cs single_is ring_is words_are wide = record {
-  singles_are = λ i. single_is i ++ [];
-  rings_are = λ i. ring_is i ++ [];
-  words_are =
-      append-nil (asked_subject_words d x) ∙ words_are ∙ coordinate_words d cs wide
-      ∙ ap joined (sym (append-nil cs));
-  wide = subst (AreWide (width d)) (sym (append-nil cs)) wide;
+words_both : {d : Dimension} (xs ys : List Subject) → HaveOwnWords d xs → HaveOwnWords d ys
+    → HaveOwnWords d (xs ++ ys)
+words_both xs ys a b = record {
+  words_are = simp flat_map-append (λ i. a.words_are i ++ b.words_are i);
+  wide = rw flat_map-append (all_both _ (flat_map subject_coordinates xs) _ a.wide b.wide);
 }
 
--- ---- rings
+words_more : (d : Dimension) (x : Subject) (xs : List Subject) → dimension_in x ≡ d
+    → AreWide (width d) (subject_coordinates x) → HaveOwnWords d xs → HaveOwnWords d (x ∷ xs)
+words_more d x xs dimension_is wide others = record {
+  words_are = rw (flat_map-append, dimension_is, coordinate_words d _ wide, others.words_are);
+  wide = all_both _ (subject_coordinates x) _ wide others.wide;
+}
 
+-- what bytes spell has
 each_wide : (order : Endianness) (d : Dimension) (cs : List Coordinate) (bytes : List ℕ)
     → IsEach (SpellsCoordinate order d) cs bytes → AreWide (width d) cs
 each_wide order d [] bytes h = tt
 each_wide order d (c ∷ cs) bytes h = (h.first.len, each_wide order d cs h.rest h.second)
 
-rings_wide : (order : Endianness) (d : Dimension) (rings : List (List Coordinate)) (bytes : List ℕ)
-    → IsEach (SpellsCoordinates order d) rings bytes → AreWide (width d) (joined rings)
-rings_wide order d [] bytes h = tt
-rings_wide order d (cs ∷ rings) bytes h =
-    wide_append (width d) cs (joined rings) (each_wide order d cs h.first.rest h.first.second)
-    (rings_wide order d rings h.rest h.second)
+rings_words : (order : Endianness) (d : Dimension) (rings : List (List Coordinate)) (bytes : List ℕ)
+    → IsEach (SpellsCoordinates order d) rings bytes → HaveOwnWords d (subjects_of_rings order d rings)
+rings_words order d [] bytes h = words_none d
+rings_words order d (cs ∷ rings) bytes h =
+    words_more d (ring order d cs) _ refl (each_wide order d cs h.first.rest h.first.second)
+    (rings_words order d rings h.rest h.second)
 
-no_singles : (order : Endianness) (d : Dimension) (rings : List (List Coordinate))
-    → flat_map single_counts (subjects_of_rings order d rings) ≡ []
-no_singles order d [] = refl
-no_singles order d (cs ∷ rings) = no_singles order d rings
+-- a geometry with its own rings
+head_words : (h : Header) (words : List ℕ) (ss : Spellings) (t : Value) (bytes : List ℕ)
+    → SpellsBody h.order words t bytes
+    → HaveOwnWords (dimension t) (whole (node h words ss) t ∷ subjects_of_rings h.order (dimension t) (rings_of t))
+head_words h words ss (point d None) bytes b = words_more d _ [] refl (b.1.len, tt) (words_none d)
+head_words h words ss (point d (Some c)) bytes b = words_more d _ [] refl (b.2.len, tt) (words_none d)
+head_words h words ss (line_string d cs) bytes b =
+    words_more d _ [] refl (each_wide h.order d cs b.1.rest b.1.second) (words_none d)
+head_words h words ss (polygon d rings) bytes b =
+    words_more d _ _ refl tt (rings_words h.order d rings b.1.rest b.1.second)
+head_words h words ss t bytes b = words_more (dimension t) _ [] refl tt (words_none (dimension t))
 
-their_counts : (order : Endianness) (d : Dimension) (rings : List (List Coordinate))
-    → flat_map ring_counts (subjects_of_rings order d rings) ≡ sizes_of rings
-their_counts order d [] = refl
-their_counts order d (cs ∷ rings) = ap (λ z. length cs ∷ z) (their_counts order d rings)
+plain_part : (k : ℕ) (d : Dimension) → k < 7 → member_part k d ≡ part (k - 3) d
+plain_part k d low = rw (lt-ltb k 7 low)
 
-their_words : (order : Endianness) (d : Dimension) (rings : List (List Coordinate)) → AreWide (width d) (joined rings)
-    → flat_map (asked_subject_words d) (subjects_of_rings order d rings) ≡ flat_map (words_asked d d) (joined rings)
-their_words order d [] wide = refl
-their_words order d (cs ∷ rings) wide =
-    ap (λ z. flat_map (words_asked d d) cs ++ z) (their_words order d rings (rest cs wide))
-    ∙ sym (flat_map-append (words_asked d d) cs (joined rings))
-  where
-    rest : (cs : List Coordinate) → AreWide (width d) (cs ++ joined rings) → AreWide (width d) (joined rings)
-    rest [] w = w
-    rest (c ∷ cs) w = rest cs w.1
+mutual
+  own_words : (s : Spelling) (t : Value) (bytes : List ℕ) → kind t < 7 → Spells s t bytes
+      → HaveOwnWords (dimension t) (subjects s t)
+  own_words (node h words ss) t bytes low spelled =
+      words_both (whole (node h words ss) t ∷ subjects_of_rings h.order (dimension t) (rings_of t))
+      (subjects_of_each ss (members t)) (head_words h words ss t spelled.second.front spelled.second.first)
+      (each_words (kind t - 3) (dimension t) ss (members t) spelled.second.rest (omega (arith, low))
+      (rw (plain_part (kind t) (dimension t) low) at spelled.second.second))
 
--- a polygon is one single
-one_polygon : (d : Dimension) (x : Subject) (order : Endianness) (rings : List (List Coordinate))
-    → single_counts x ≡ length rings ∷ [] → ring_counts x ≡ [] → asked_subject_words d x ≡ []
-    → AreWide (width d) (joined rings) → Give d (x ∷ (subjects_of_rings order d rings ++ [])) (rings ∷ [])
-one_polygon d x order rings single_is ring_is word_is wide =
-    let own = subjects_of_rings order d rings in
-    let all = append-nil own in
-    let same = append-nil rings in
-    record {
-      singles_are = λ i. single_is i ++ (ap (flat_map single_counts) all ∙ no_singles order d rings) i;
-      rings_are =
-          (λ i. ring_is i ++ (ap (flat_map ring_counts) all ∙ their_counts order d rings) i)
-          ∙ ap sizes_of (sym same);
-      words_are =
-          (λ i. word_is i ++ (ap (flat_map (asked_subject_words d)) all ∙ their_words order d rings wide) i)
-          ∙ coordinate_words d (joined rings) wide ∙ ap (λ z. joined (joined z)) (sym same);
-      wide = subst (λ z. AreWide (width d) (joined z)) (sym same) wide;
-    }
+  each_words : (k : ℕ) (d : Dimension) (ss : Spellings) (ts : Values) (bytes : List ℕ) → k < 7
+      → SpellsEach (part k d) ss ts bytes → HaveOwnWords d (subjects_of_each ss ts)
+  each_words k d ss no_members bytes low spelled = words_none d
+  each_words k d no_spellings (member t ts) bytes low spelled = absurd spelled
+  each_words k d (spelling s ss) (member t ts) bytes low spelled =
+      let wanted = spelled.first.1 in
+      words_both (subjects s t) (subjects_of_each ss ts)
+      (rw wanted.1 at (own_words s t spelled.front (omega (arith, low, wanted.0)) spelled.first.0))
+      (each_words k d ss ts spelled.rest low spelled.second)
 
--- ---- geometries
+-- what the levels of a geometry that is no collection hold
+pub record HaveWords (d : Dimension) (xs : List Subject) (singles : List (List (List Coordinate))) : Type 0 where
+  pub words_are : flat_map (asked_subject_words d) xs ≡ joined (joined (joined singles))
+  pub wide : AreWide (width d) (joined (joined singles))
 
--- a point, a line string or a polygon
-leaf : (s : Spelling) (t : Value) (bytes : List ℕ) → kind t < 4 → Spells s t bytes
-    → Give (dimension t) (subjects s t) (singles_in s t)
-leaf (node h words ss) (point d None) bytes low spelled =
-    one_ring d (whole (node h words ss) (point d None)) (words ∷ []) refl refl refl (spelled.second.first.1.len, tt)
-leaf (node h words ss) (point d (Some c)) bytes low spelled =
-    one_ring d (whole (node h words ss) (point d (Some c))) (c ∷ []) refl refl refl (spelled.second.first.2.len, tt)
-leaf (node h words ss) (line_string d cs) bytes low spelled =
-    one_ring d (whole (node h words ss) (line_string d cs)) cs refl refl refl
-    (each_wide h.order d cs spelled.second.first.1.rest spelled.second.first.1.second)
-leaf (node h words ss) (polygon d rings) bytes low spelled =
-    one_polygon d (whole (node h words ss) (polygon d rings)) h.order rings refl refl refl
-    (rings_wide h.order d rings spelled.second.first.1.rest spelled.second.first.1.second)
-leaf s _ bytes low spelled = absurd (omega (arith, low))
-
--- members of a multi geometry
-each_gives : (k : ℕ) (d : Dimension) (ss : Spellings) (ts : Values) (bytes : List ℕ) → k < 4
-    → SpellsEach (part k d) ss ts bytes → Give d (subjects_of_each ss ts) (singles_of_each ss ts)
-each_gives k d ss no_members bytes low spelled = give_none d
-each_gives k d no_spellings (member t ts) bytes low spelled = absurd spelled
-each_gives k d (spelling s ss) (member t ts) bytes low spelled =
-    let wanted = spelled.first.1 in
-    give_both
-    (subst (λ d. Give d (subjects s t) (singles_in s t)) wanted.1
-    (leaf s t spelled.front (omega (arith, low, wanted.0)) spelled.first.0))
-    (each_gives k d ss ts spelled.rest low spelled.second)
-
--- a multi geometry gives what its members do
-abbrev only_members : {d : Dimension} {xs : List Subject} {singles : List (List (List Coordinate))} (x : Subject)
-    → single_counts x ≡ [] → ring_counts x ≡ [] → asked_subject_words d x ≡ [] → Give d xs singles
-    → Give d (x ∷ xs) singles
-only_members x single_is ring_is words_are g = record {
-  singles_are = (λ i. single_is i ++ g.singles_are i);
-  rings_are = (λ i. ring_is i ++ g.rings_are i);
-  words_are = (λ i. words_are i ++ g.words_are i);
-  wide = g.wide;
-}
-
-pub geometry_gives : (s : Spelling) (t : Value) (bytes : List ℕ) → kind t < 7 → Spells s t bytes
-    → Give (dimension t) (subjects s t) (singles_in s t)
-geometry_gives (node h words ss) (multi_point d points) bytes low spelled =
-    only_members (whole (node h words ss) (multi_point d points)) refl refl refl
-    (each_gives 1 d ss (each (point d) points) spelled.second.rest (omega arith) spelled.second.second)
-geometry_gives (node h words ss) (multi_line_string d lines) bytes low spelled =
-    only_members (whole (node h words ss) (multi_line_string d lines)) refl refl refl
-    (each_gives 2 d ss (each (line_string d) lines) spelled.second.rest (omega arith) spelled.second.second)
-geometry_gives (node h words ss) (multi_polygon d polygons) bytes low spelled =
-    only_members (whole (node h words ss) (multi_polygon d polygons)) refl refl refl
-    (each_gives 3 d ss (each (polygon d) polygons) spelled.second.rest (omega arith) spelled.second.second)
-geometry_gives s (collection d ts) bytes low spelled = absurd (omega (arith, low))
-geometry_gives s (point d c) bytes low spelled = leaf s (point d c) bytes (omega arith) spelled
-geometry_gives s (line_string d cs) bytes low spelled = leaf s (line_string d cs) bytes (omega arith) spelled
-geometry_gives s (polygon d rings) bytes low spelled = leaf s (polygon d rings) bytes (omega arith) spelled
+pub have_words : (s : Spelling) (t : Value) (bytes : List ℕ) → kind t < 7 → Spells s t bytes
+    → HaveWords (dimension t) (subjects s t) (singles_in s t)
+have_words s t bytes low spelled =
+    let own = own_words s t bytes low spelled in
+    record { words_are = rw (← (gives s t).2) own.words_are; wide = rw (← (gives s t).2) own.wide }
 
 -- ---- what the singles mean
 
 only_ones : {A : Type 0} (xs : List A) → only_each (map (λ a. a ∷ []) xs) ≡ Some xs
 only_ones [] = refl
-only_ones (x ∷ xs) = ap (λ z. option_map (λ more. x ∷ more) z) (only_ones xs)
+only_ones (x ∷ xs) = rw (only_ones xs)
 
--- a point of words, as a single
-abbrev as_single : Coordinate → List (List Coordinate)
-as_single c = (c ∷ []) ∷ []
-
-points_in : (d : Dimension) (ss : Spellings) (points : List (Option Coordinate)) (bytes : List ℕ)
-    → SpellsEach (part 1 d) ss (each (point d) points) bytes
+points_in : (w : Wanted) (d : Dimension) (ss : Spellings) (points : List (Option Coordinate)) (bytes : List ℕ)
+    → SpellsEach w ss (each (point d) points) bytes
     → singles_of_each ss (each (point d) points) ≡ map (λ r. r ∷ []) (map (λ c. c ∷ []) (points_spelled ss points))
-points_in d ss [] bytes spelled = refl
-points_in d no_spellings (c ∷ points) bytes spelled = absurd spelled
-points_in d (spelling (node h words us) ss) (None ∷ points) bytes spelled =
-    ap (λ z. as_single words ∷ z) (points_in d ss points spelled.rest spelled.second)
-points_in d (spelling (node h words us) ss) (Some c ∷ points) bytes spelled =
-    ap (λ z. as_single c ∷ z) (points_in d ss points spelled.rest spelled.second)
+points_in w d ss [] bytes spelled = refl
+points_in w d no_spellings (c ∷ points) bytes spelled = absurd spelled
+points_in w d (spelling (node h words us) ss) (None ∷ points) bytes spelled =
+    rw (points_in w d ss points spelled.rest spelled.second)
+points_in w d (spelling (node h words us) ss) (Some c ∷ points) bytes spelled =
+    rw (points_in w d ss points spelled.rest spelled.second)
 
-lines_in : (d : Dimension) (ss : Spellings) (lines : List (List Coordinate)) (bytes : List ℕ)
-    → SpellsEach (part 2 d) ss (each (line_string d) lines) bytes
-    → singles_of_each ss (each (line_string d) lines) ≡ map (λ r. r ∷ []) lines
-lines_in d ss [] bytes spelled = refl
-lines_in d no_spellings (cs ∷ lines) bytes spelled = absurd spelled
-lines_in d (spelling (node h words us) ss) (cs ∷ lines) bytes spelled =
-    ap (λ z. (cs ∷ []) ∷ z) (lines_in d ss lines spelled.rest spelled.second)
+-- members that are one single each, whatever their spellings
+members_in : {A : Type 0} (f : A → Value) (single : A → List (List Coordinate))
+    → ((s : Spelling) (a : A) → singles_in s (f a) ≡ single a ∷ []) → (w : Wanted) (ss : Spellings) (xs : List A)
+    (bytes : List ℕ) → SpellsEach w ss (each f xs) bytes → singles_of_each ss (each f xs) ≡ map single xs
+members_in f single one w ss [] bytes spelled = refl
+members_in f single one w no_spellings (a ∷ xs) bytes spelled = absurd spelled
+members_in f single one w (spelling s ss) (a ∷ xs) bytes spelled =
+    rw (one s a, members_in f single one w ss xs spelled.rest spelled.second)
 
-polygons_in : (d : Dimension) (ss : Spellings) (polygons : List (List (List Coordinate))) (bytes : List ℕ)
-    → SpellsEach (part 3 d) ss (each (polygon d) polygons) bytes
-    → singles_of_each ss (each (polygon d) polygons) ≡ polygons
-polygons_in d ss [] bytes spelled = refl
-polygons_in d no_spellings (rings ∷ polygons) bytes spelled = absurd spelled
-polygons_in d (spelling (node h words us) ss) (rings ∷ polygons) bytes spelled =
-    ap (λ z. rings ∷ z) (polygons_in d ss polygons spelled.rest spelled.second)
+one_line : (d : Dimension) (s : Spelling) (cs : List Coordinate) → singles_in s (line_string d cs) ≡ (cs ∷ []) ∷ []
+one_line d (node h words ss) cs = refl
+
+one_polygon : (d : Dimension) (s : Spelling) (rings : List (List Coordinate))
+    → singles_in s (polygon d rings) ≡ rings ∷ []
+one_polygon d (node h words ss) rings = refl
 
 -- the number of the kind names it, and as this kind the singles mean what the bytes spell
 pub record Means (s : Spelling) (t : Value) : Type 0 where
@@ -297,31 +242,16 @@ singles_mean (node h words ss) (polygon d rings) bytes low spelled =
     record { kind_is = kinds.Polygon; named = refl; meant = refl }
 singles_mean (node h words ss) (multi_point d points) bytes low spelled =
     let cs = points_spelled ss points in
+    let are = points_in _ d ss points spelled.second.rest spelled.second.second in
     record {
       kind_is = kinds.MultiPoint;
       named = refl;
-      meant =
-          ap (kind_meant kinds.MultiPoint (as_dimensions d)) (points_in d ss points spelled.second.rest
-          spelled.second.second)
-          ∙ ap (option_and_then (rings_meant kinds.MultiPoint (as_dimensions d)))
-          (only_ones (map (λ c. c ∷ []) cs))
-          ∙ ap (option_map (λ cs. geometries.multi_point (as_dimensions d) (map (λ c. Some c) cs))) (only_ones cs);
+      meant = rw (are, only_ones (map (λ c. c ∷ []) cs), only_ones cs);
     }
 singles_mean (node h words ss) (multi_line_string d lines) bytes low spelled =
-    record {
-      kind_is = kinds.MultiLineString;
-      named = refl;
-      meant =
-          ap (kind_meant kinds.MultiLineString (as_dimensions d)) (lines_in d ss lines spelled.second.rest
-          spelled.second.second)
-          ∙ ap (option_and_then (rings_meant kinds.MultiLineString (as_dimensions d))) (only_ones lines);
-    }
+    let are = members_in (line_string d) (λ cs. cs ∷ []) (one_line d) _ ss lines _ spelled.second.second in
+    record { kind_is = kinds.MultiLineString; named = refl; meant = rw (are, only_ones lines) }
 singles_mean (node h words ss) (multi_polygon d polygons) bytes low spelled =
-    record {
-      kind_is = kinds.MultiPolygon;
-      named = refl;
-      meant =
-          ap (kind_meant kinds.MultiPolygon (as_dimensions d))
-          (polygons_in d ss polygons spelled.second.rest spelled.second.second);
-    }
+    let are = members_in (polygon d) (λ r. r) (one_polygon d) _ ss polygons _ spelled.second.second in
+    record { kind_is = kinds.MultiPolygon; named = refl; meant = rw (are, map-id polygons) }
 singles_mean s (collection d ts) bytes low spelled = absurd (omega (arith, low))
