@@ -22,8 +22,8 @@ use Rattle.wkb_levels.specs.Columns.{IsClear, singles_of}
 use Rattle.wkb_levels.specs.Meant.{kind_meant}
 use Rattle.wkb_levels.specs.RowWrites.{HasRowEncoding}
 use Rattle.wkb_abi.specs.Columns.{is_unset_bit}
-use Rattle.wkb_abi.specs.Coordinates.{LevelLists, HasRoomUpTo, ends, ring_counts}
-use Rattle.wkb_abi.specs.Coordinates.{AreColumnCoordinates, asked_subject_words}
+use Rattle.wkb_abi.specs.Coordinates.{LevelLists, ends, ring_counts}
+use Rattle.wkb_abi.specs.Coordinates.{asked_subject_words}
 use Rattle.wkb_abi.specs.LevelRows.{HasLevelEncoding, LacksLevels, null_row, unknown, unfit}
 use Rattle.wkb_abi.specs.LevelTargets.{levels_in, target_with, target_asked}
 use Rattle.wkb_abi.specs.Requests.{IsRequested, request_of, options_for}
@@ -39,14 +39,14 @@ use Rattle.wkb_abi.specs.declared.options.Request.{Request}
 use Rattle.wkb_abi.specs.declared.options.Request.TheVariants.{Encoding, OwnSrid}
 use Rattle.wkb_abi.specs.declared.options.TheConstants.{EWKB_OWN_SRID}
 use Rattle.wkb_abi.proofs.OneRow.{one_row}
-use Rattle.wkb_abi.proofs.Rooms.{Reaches, row_says, room_before, room_in}
+use Rattle.wkb_abi.proofs.Rooms.{Reaches, row_says, room_before}
 use Rattle.wkb_column_laws.proofs.ThereAndBackEncodings.{spelled_writable, same_encoding}
 use Rattle.wkb_column_laws.proofs.ThereAndBackKinds.{singles_in, gives, HaveWords, have_words, Means, singles_mean}
 use Rattle.wkb_column_laws.proofs.ThereAndBackLevels.{IsHeld, held_on, sizes_sum, joined, joined_length}
 use Rattle.wkb_column_laws.proofs.ThereAndBackLevels.{HoldsSingles, singles_are, levels_are, spans_are}
-use Rattle.wkb_column_laws.proofs.ThereAndBackRows.{Stage, stage, IsDone, rows_done, Keeps, keeps_on, reach_on}
-use Rattle.wkb_column_laws.proofs.ThereAndBackRows.{as_long_back, IsWritten, row_written, HoldsEnds, holds_ends}
-use Rattle.wkb_column_laws.proofs.ThereAndBackRows.{holds_words, row_goes, given, single_level, ring_level, keeps_given}
+use Rattle.wkb_column_laws.proofs.ThereAndBackRows.{Stage, Done, stage, IsDone, rows_done, Keeps, keeps_on, reach_on}
+use Rattle.wkb_column_laws.proofs.ThereAndBackRows.{HoldsLevels, row_there}
+use Rattle.wkb_column_laws.proofs.ThereAndBackRows.{row_goes, given, single_level, ring_level, keeps_given}
 use Rattle.wkb_column_laws.proofs.ThereAndBackRows.{BeginsAt, begins_at}
 
 range_bytes : (bytes : List ℕ) (start end : ℕ) → AreBytes bytes → AreBytes (slice_range bytes start end)
@@ -59,10 +59,8 @@ module _ {c : Column} {dimension : ℕ} {asked : Dimension} {statuses : List ℕ
     (g : AreGivenOn c dimension asked statuses rows l) where
   -- a row whose levels were written
   module _ {i : ℕ} (below : i < rows) {s : Spelling} {t : Value} (lv : IsLevelled c asked statuses i s t) where
-    behind : Stage c dimension asked statuses g.row_ends g.out (suc i) g.to g.now
-    behind =
-        stage c dimension g.asked_is statuses g.row_ends g.out g.short rows (suc i) g.to g.now (omega (arith, below))
-        g.written
+    behind : Stage asked (Done g (suc i)) g.to g.now
+    behind = stage g rows (suc i) g.to g.now (omega (arith, below)) g.written
 
     abbrev from : Totals
     from = behind.done.0
@@ -73,20 +71,17 @@ module _ {c : Column} {dimension : ℕ} {asked : Dimension} {statuses : List ℕ
     abbrev to : Totals
     to = behind.at
 
-    abbrev rows_before : AreColumnCoordinates c dimension statuses g.row_ends g.out i from before
+    abbrev rows_before : Done g i from before
     rows_before = behind.done.1.1.0
 
     done_before : IsDone asked g.row_ends g.out i from before
-    done_before = rows_done c dimension g.asked_is statuses g.row_ends g.out g.short i from before rows_before
+    done_before = rows_done g i from before rows_before
 
     far : Reaches from to
     far = (row_says behind.done.1.1.1 done_before.small).far
 
-    put : IsWritten asked (subjects s t) from to before behind.lists
-    put = row_written g.asked_is lv.row lv.rest lv.is_row lv.front lv.ok behind.done.1.1.1
-
-    room : HasRoomUpTo asked g.out to
-    room = room_in asked before g.out to (as_long_back done_before.long) put.room
+    there : HoldsLevels asked g.out behind.lists from to (subjects s t)
+    there = row_there g.short done_before.long g.asked_is lv.ok lv.is_row lv.front behind.done.1.1.1
 
     -- what is written stays
     kept : Keeps asked to behind.lists (given g)
@@ -96,26 +91,21 @@ module _ {c : Column} {dimension : ℕ} {asked : Dimension} {statuses : List ℕ
     kept_before = keeps_on (row_goes g.short done_before.long g.asked_is behind.done.1.1.1).keeps far kept
 
     begin : BeginsAt (levels_in l) i from
-    begin = begins_at g i from before rows_before kept_before (room_before asked g.out from to far room)
+    begin = begins_at g i from before rows_before kept_before (room_before asked g.out from to far there.room)
 
     end : BeginsAt (levels_in l) (suc i) to
-    end = begins_at g (suc i) to behind.lists behind.done kept room
+    end = begins_at g (suc i) to behind.lists behind.done kept there.room
 
     -- an earlier row ends before it at each level
     earlier : (j : ℕ) → j < i → (at : Totals) × (Reaches at from × BeginsAt (levels_in l) (suc j) at)
     earlier j before_it =
-        let s =
-        stage c dimension g.asked_is statuses g.row_ends g.out g.short i (suc j) from before (omega (arith, before_it))
-        rows_before in
-        let fits = room_before asked g.out s.at to (reach_on s.far far) room in
+        let s = stage g i (suc j) from before (omega (arith, before_it)) rows_before in
+        let fits = room_before asked g.out s.at to (reach_on s.far far) there.room in
         let begins = begins_at g (suc j) s.at s.lists s.done (keeps_on s.kept s.far kept_before) fits in
         (s.at, (s.far, begins))
 
     abbrev own : List (List (List (List ℕ)))
     own = singles_in s t
-
-    ends_are : HoldsEnds behind.lists from to (subjects s t)
-    ends_are = holds_ends g.short done_before.long put
 
     words_are : HaveWords asked (subjects s t) own
     words_are =
@@ -128,12 +118,8 @@ module _ {c : Column} {dimension : ℕ} {asked : Dimension} {statuses : List ℕ
     rings_are : length (flat_map ring_counts (subjects s t)) ≡ length (joined own)
     rings_are = rw (gives s t).1 (length-map (joined own) (λ cs. length cs))
 
-    words_held : IsHeld behind.lists.words (width asked * from.coordinates) (width asked * to.coordinates)
-        (flat_map (asked_subject_words asked) (subjects s t))
-    words_held =
-        holds_words g.short done_before.long put
-        (ap length words_are.words_are ∙ joined_length (width asked) (joined (joined own)) words_are.wide
-        ∙ ap (λ n. width asked * n) (sym sum_is))
+    many : length (flat_map (asked_subject_words asked) (subjects s t)) ≡ width asked * sum (flat_map ring_counts (subjects s t))
+    many = rw (words_are.words_are, sum_is) (joined_length (width asked) (joined (joined own)) words_are.wide)
 
     -- the levels of the row hold the singles of its geometry
     holds : HoldsSingles (levels_in l) (as_dimensions asked) i own
@@ -142,15 +128,15 @@ module _ {c : Column} {dimension : ℕ} {asked : Dimension} {statuses : List ℕ
       wide = rw (← named_width asked) words_are.wide;
       single_ends =
           subst (λ T. T) (λ k. IsHeld (sym (single_level g).ends k) (sym begin.singles k) (sym end.singles k)
-          (ends (sym begin.rings k) ((gives s t).0 k))) (held_on ends_are.single_ends kept.single_ends);
+          (ends (sym begin.rings k) ((gives s t).0 k))) (held_on there.single_ends kept.single_ends);
       ring_ends =
           subst (λ T. T) (λ k. IsHeld (sym (ring_level g).ends k) (sym begin.rings k) (sym end.rings k)
-          (ends (sym begin.coordinates k) ((gives s t).1 k))) (held_on ends_are.ring_ends kept.ring_ends);
+          (ends (sym begin.coordinates k) ((gives s t).1 k))) (held_on there.ring_ends kept.ring_ends);
       words =
           subst (λ T. T) (λ k. IsHeld l.words.now (named_width asked k * sym begin.coordinates k)
-          (named_width asked k * sym end.coordinates k) (words_are.words_are k)) (held_on words_held kept.words);
-      rings = omega (arith, begin.rings, end.rings, ends_are.rings, rings_are);
-      coordinates = end.coordinates ∙ ends_are.coordinates ∙ (λ k. sym begin.coordinates k + sum_is k);
+          (named_width asked k * sym end.coordinates k) (words_are.words_are k)) (held_on (there.words many) kept.words);
+      rings = omega (arith, begin.rings, end.rings, there.rings, rings_are);
+      coordinates = end.coordinates ∙ there.coordinates ∙ (λ k. sym begin.coordinates k + sum_is k);
     }
 
     clear : IsClear (levels_in l) (as_dimensions asked) i

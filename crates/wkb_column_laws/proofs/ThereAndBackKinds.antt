@@ -86,9 +86,12 @@ mutual
       give_both (subjects s t) (subjects_of_each ss ts) (singles_in s t) (singles_of_each ss ts) (gives s t)
       (each_gives ss ts)
 
--- its singles have as many rings as there are
-pub counted : (s : Spelling) (t : Value)
-    → sum (flat_map single_counts (subjects s t)) ≡ length (flat_map ring_counts (subjects s t))
+-- the singles of subjects have as many rings as there are
+abbrev pub AreCounted : List Subject → Type 0
+AreCounted xs = sum (flat_map single_counts xs) ≡ length (flat_map ring_counts xs)
+
+-- those of a geometry have
+pub counted : (s : Spelling) (t : Value) → AreCounted (subjects s t)
 counted s t =
     let g = gives s t in
     rw (g.0, g.1, sizes_sum (singles_in s t), length-map (joined (singles_in s t)))

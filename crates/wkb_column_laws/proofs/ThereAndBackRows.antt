@@ -19,7 +19,7 @@ use Rattle.wkb_levels.specs.EndLists.{start_of, ends_of, begin_of}
 use Rattle.wkb_levels.proofs.Pieces.{start_behind, last_of_part}
 use Rattle.wkb_abi.specs.Columns.{IsRow, IsRefusedWith}
 use Rattle.wkb_abi.specs.Coordinates.{LevelLists, levels, HasRoomUpTo, totals_after, with_levels, ArePut, written, no_room}
-use Rattle.wkb_abi.specs.Coordinates.{IsCoordinatesRow, handed, failed, LacksCoordinates, no_row, unknown, refused}
+use Rattle.wkb_abi.specs.Coordinates.{IsCoordinatesRow, HasCoordinates, handed, failed, no_row, unknown, refused}
 use Rattle.wkb_abi.specs.Coordinates.{AreColumnCoordinates, ends, ring_counts, single_counts, asked_subject_words}
 use Rattle.wkb_abi.specs.LevelTargets.{levels_in}
 use Rattle.wkb_abi.specs.declared.column.Column.{Column}
@@ -30,7 +30,7 @@ use Rattle.wkb_abi.proofs.OneRow.{one_row, never_lacks, never_refused}
 use Rattle.wkb_abi.proofs.Levels.{AreSmall, ends_length, sum-first, wide_enough}
 use Rattle.wkb_abi.proofs.Rooms.{AreAsLong, Reaches, row_says, long_more, scaled, room_before, room_in, one_dimension}
 use Rattle.wkb_column_laws.specs.ThereAndBack.{AreShort, AreGivenOn}
-use Rattle.wkb_column_laws.proofs.ThereAndBackKinds.{counted}
+use Rattle.wkb_column_laws.proofs.ThereAndBackKinds.{AreCounted, counted}
 use Rattle.wkb_column_laws.proofs.ThereAndBackLevels.{IsHeld, held_put}
 
 -- ---- lists that keep what they have
@@ -55,10 +55,6 @@ keeps_on {asked} {at} {to} k far l = record {
 
 pub reach_on : {a b c : Totals} → Reaches a b → Reaches b c → Reaches a c
 reach_on p q = record { coordinates = omega arith; rings = omega arith; singles = omega arith }
-
-pub as_long_back : {a b : LevelLists} → AreAsLong a b → AreAsLong b a
-as_long_back long =
-    record { words = sym long.words; ring_ends = sym long.ring_ends; single_ends = sym long.single_ends }
 
 -- ---- where the next row begins
 
@@ -102,69 +98,68 @@ take_before k at xs (a ∷ items) h =
 take_stays : {A : Type 0} (n : ℕ) (xs items : List A) → take n (sets xs n items) ≡ take n xs
 take_stays n xs items = take_before n n xs items (omega arith)
 
--- the levels of these subjects were written
-pub record IsWritten (asked : Dimension) (xs : List Subject) (from to : Totals) (before after : LevelLists) : Type 0
+-- the levels of these subjects are in the lists, from some totals to others
+pub record HoldsLevels (asked : Dimension) (out lists : LevelLists) (from to : Totals) (xs : List Subject) : Type 0
   where
-    pub to_is : to ≡ totals_after from xs
-    pub room : HasRoomUpTo asked before to
-    pub after_is : after ≡ with_levels asked xs from before
+    pub room : HasRoomUpTo asked out to
+    pub coordinates : to.coordinates ≡ from.coordinates + sum (flat_map ring_counts xs)
+    pub rings : to.rings ≡ from.rings + length (flat_map ring_counts xs)
+    pub single_ends : IsHeld lists.single_ends from.singles to.singles (ends from.rings (flat_map single_counts xs))
+    pub ring_ends : IsHeld lists.ring_ends from.rings to.rings (ends from.coordinates (flat_map ring_counts xs))
+    pub words : length (flat_map (asked_subject_words asked) xs) ≡ width asked * sum (flat_map ring_counts xs)
+        → IsHeld lists.words (width asked * from.coordinates) (width asked * to.coordinates)
+        (flat_map (asked_subject_words asked) xs)
 
 -- what a row does to lists: up to where it begins they stay, and with room for it they end where the totals say
 pub record GoesOn (asked : Dimension) (out : LevelLists) (from to : Totals) (before after : LevelLists) : Type 0 where
   pub keeps : Keeps asked from before after
   pub placed : IsPlaced before from → HasRoomUpTo asked out to → IsPlaced after to
 
--- from some totals to others the lists hold the ends of these subjects
-pub record HoldsEnds (lists : LevelLists) (from to : Totals) (xs : List Subject) : Type 0 where
-  pub coordinates : to.coordinates ≡ from.coordinates + sum (flat_map ring_counts xs)
-  pub rings : to.rings ≡ from.rings + length (flat_map ring_counts xs)
-  pub ring_ends : IsHeld lists.ring_ends from.rings to.rings (ends from.coordinates (flat_map ring_counts xs))
-  pub single_ends : IsHeld lists.single_ends from.singles to.singles (ends from.rings (flat_map single_counts xs))
+module _ {asked : Dimension} (xs : List Subject) (from : Totals) {out before : LevelLists} (short : AreShort out)
+    (long : AreAsLong before out) (room : HasRoomUpTo asked before (totals_after from xs)) where
+  abbrev rings : List ℕ
+  rings = flat_map ring_counts xs
 
-module _ {asked : Dimension} {xs : List Subject} {from to : Totals} {out before after : LevelLists}
-    (short : AreShort out) (long : AreAsLong before out) (w : IsWritten asked xs from to before after) where
-  pub holds_ends : HoldsEnds after from to xs
-  holds_ends = record {
-    coordinates = omega (arith, ap (λ z. z.coordinates) w.to_is, wide_enough asked to.coordinates);
-    rings = omega (arith, ap (λ z. z.rings) w.to_is);
-    ring_ends =
-        rw (ap (λ z. z.ring_ends) w.after_is) (held_put before.ring_ends _ from.rings to.rings
-        (omega (arith, ap (λ z. z.rings) w.to_is, ends_length from.coordinates (flat_map ring_counts xs)))
-        w.room.rings_fit);
-    single_ends =
-        rw (ap (λ z. z.single_ends) w.after_is) (held_put before.single_ends _ from.singles to.singles
-        (omega (arith, ap (λ z. z.singles) w.to_is, ends_length from.rings (flat_map single_counts xs)))
-        w.room.singles_fit);
-  }
+  abbrev singles : List ℕ
+  singles = flat_map single_counts xs
 
-  -- and their words, if these are as many as are counted
-  pub holds_words : length (flat_map (asked_subject_words asked) xs) ≡ width asked * sum (flat_map ring_counts xs)
-      → IsHeld after.words (width asked * from.coordinates) (width asked * to.coordinates)
-      (flat_map (asked_subject_words asked) xs)
-  holds_words wide =
-      rw (ap (λ z. z.words) w.after_is) (held_put before.words _ _ _
-      (ap (λ n. width asked * n) holds_ends.coordinates ∙ mul-add (width asked) from.coordinates _
-      ∙ ap (λ n. width asked * from.coordinates + n) (sym wide)) w.room.words_fit)
+  abbrev to : Totals
+  to = totals_after from xs
 
-  written_goes : sum (flat_map single_counts xs) ≡ length (flat_map ring_counts xs)
-      → GoesOn asked out from to before after
-  written_goes many =
-      let keeps : Keeps asked from before after = record {
-        words = rw (ap (λ z. z.words) w.after_is, take_stays);
-        ring_ends = rw (ap (λ z. z.ring_ends) w.after_is, take_stays);
-        single_ends = rw (ap (λ z. z.single_ends) w.after_is, take_stays);
-      } in
-      let e = holds_ends in
+  abbrev after : LevelLists
+  after = with_levels asked xs from before
+
+  -- where there is room they are put
+  put_levels : HoldsLevels asked out after from to xs
+  put_levels =
+      let coordinates : to.coordinates ≡ from.coordinates + sum rings = omega (arith, wide_enough asked to.coordinates) in
+      record {
+        room =
+            room_in asked before out to
+            (record { words = sym long.words; ring_ends = sym long.ring_ends; single_ends = sym long.single_ends }) room;
+        coordinates = coordinates;
+        rings = omega arith;
+        single_ends =
+            held_put before.single_ends _ _ _ (omega (arith, ends_length from.rings singles)) room.singles_fit;
+        ring_ends =
+            held_put before.ring_ends _ _ _ (omega (arith, ends_length from.coordinates rings)) room.rings_fit;
+        words = λ wide.
+            held_put before.words _ _ _ (rw (wide, ← mul-add) (ap (λ n. width asked * n) coordinates)) room.words_fit;
+      }
+
+  put_goes : AreCounted xs → GoesOn asked out from to before after
+  put_goes counted =
+      let keeps : Keeps asked from before after =
+      record { words = rw take_stays; ring_ends = rw take_stays; single_ends = rw take_stays } in
+      let e = put_levels in
       record {
         keeps = keeps;
         placed = λ is fits.
             let p = placed_on keeps is in
             record {
               singles =
-                  held_ends from.rings (flat_map single_counts xs) e.single_ends p.singles
-                  ∙ omega (arith, many, e.rings);
-              rings =
-                  held_ends from.coordinates (flat_map ring_counts xs) e.ring_ends p.rings ∙ sym e.coordinates;
+                  held_ends from.rings singles e.single_ends p.singles ∙ omega (arith, counted, e.rings);
+              rings = held_ends from.coordinates rings e.ring_ends p.rings ∙ sym e.coordinates;
             };
       }
 
@@ -179,44 +174,74 @@ module _ {asked : Dimension} {from to : Totals} {out before after : LevelLists} 
     placed = λ is fits. rw (same, at fits) is;
   }
 
-  put_goes : {status : ℕ} {xs : List Subject} → sum (flat_map single_counts xs) ≡ length (flat_map ring_counts xs)
-      → ArePut asked xs status from to before after → GoesOn asked out from to before after
-  put_goes {xs = xs} many (written ok to_is room after_is) =
-      written_goes {xs = xs} short long (record { to_is = to_is; room = room; after_is = after_is }) many
-  put_goes many (no_room told to_is lacks same) =
+  -- a geometry goes on, and where the status is OK its levels are there
+  geometry_goes : {status : ℕ} {xs : List Subject} → AreCounted xs → ArePut asked xs status from to before after
+      → GoesOn asked out from to before after
+  geometry_goes {xs = xs} counted (written ok to_is room after_is) =
+      rw (after_is, to_is) (put_goes xs from short long (rw to_is at room) counted)
+  geometry_goes counted (no_room told to_is lacks same) =
       stays same (λ fits. absurd (lacks (room_in asked out before to long fits)))
 
-  pub row_goes : {c : Column} {dimension i status : ℕ} → dimension_of_thousands dimension ≡ Some asked
-      → IsCoordinatesRow c dimension i status from to before after → GoesOn asked out from to before after
-  row_goes {dimension = dimension} {status = status} named (handed other xs has put) =
-      put_goes (rw has.are (counted has.s has.t))
-      (subst (λ d. ArePut d xs status from to before after) (one_dimension dimension other asked has.asked_is named) put)
-  row_goes named (failed why to_is same) = stays same (λ fits. to_is)
+  geometry_there : {status : ℕ} {xs : List Subject} → status ≡ OK → ArePut asked xs status from to before after
+      → HoldsLevels asked out after from to xs
+  geometry_there {xs = xs} ok (written told to_is room after_is) =
+      rw (after_is, to_is) (put_levels xs from short long (rw to_is at room))
+  geometry_there ok (no_room told to_is lacks same) = absurd (omega (arith, ok, told))
 
--- a row of the status OK that begins with this geometry is written
-module _ {c : Column} {dimension : ℕ} {asked : Dimension} (named : dimension_of_thousands dimension ≡ Some asked)
-    {i status : ℕ} {s : Spelling} {t : Value} (row rest : List ℕ) (is : IsRow c i row)
-    (front : Front row s t rest) where
-  never_failed : LacksCoordinates c dimension i status → ⊥
-  never_failed (no_row lacks) = never_lacks is lacks
-  never_failed (unknown other is' none told) = absurd (cc named)
-  never_failed (refused other d is' n why) =
-      never_refused (record { s = s; t = t; rest = rest; front = front })
-      (subst (λ z. IsRefusedWith z status) (one_row is' is) why)
+  -- so does a row
+  module _ {c : Column} {dimension i status : ℕ} (named : dimension_of_thousands dimension ≡ Some asked) where
+    in_asked : {other : Dimension} {xs : List Subject} → HasCoordinates c dimension i other xs
+        → ArePut other xs status from to before after → ArePut asked xs status from to before after
+    in_asked {other} {xs} has put =
+        subst (λ d. ArePut d xs status from to before after)
+        (one_dimension dimension other asked has.asked_is named) put
 
-  pub row_written : {from to : Totals} {before after : LevelLists} → status ≡ OK
-      → IsCoordinatesRow c dimension i status from to before after
-      → IsWritten asked (subjects s t) from to before after
-  row_written {from} {to} {before} {after} ok (handed other xs has (written told to_is room after_is)) =
-      let same : other ≡ asked = one_dimension dimension other asked has.asked_is named in
-      let own : Front row has.s has.t has.rest =
-      subst (λ z. Front z has.s has.t has.rest) (one_row has.is_row is) has.front in
-      let one = one_front_lem row has.s s has.t t has.rest rest own front in
-      let are : xs ≡ subjects s t = has.are ∙ (λ k. subjects (one.1 k) (one.2 k)) in
-      subst (λ T. T) (λ k. IsWritten (same k) (are k) from to before after)
-      (record { to_is = to_is; room = room; after_is = after_is })
-  row_written ok (handed other xs has (no_room told to_is lacks same)) = absurd (omega (arith, ok, told))
-  row_written ok (failed why to_is same) = absurd (never_failed why)
+    pub row_goes : IsCoordinatesRow c dimension i status from to before after → GoesOn asked out from to before after
+    row_goes (handed other xs has put) = geometry_goes (rw has.are (counted has.s has.t)) (in_asked has put)
+    row_goes (failed why to_is same) = stays same (λ fits. to_is)
+
+    -- a row of the status OK is there, if it begins with this geometry
+    pub row_there : {row rest : List ℕ} {s : Spelling} {t : Value} → status ≡ OK → IsRow c i row → Front row s t rest
+        → IsCoordinatesRow c dimension i status from to before after
+        → HoldsLevels asked out after from to (subjects s t)
+    row_there {row} {rest} {s} {t} ok is front (handed other xs has put) =
+        let own : Front row has.s has.t has.rest =
+        subst (λ z. Front z has.s has.t has.rest) (one_row has.is_row is) has.front in
+        let one = one_front_lem row has.s s has.t t has.rest rest own front in
+        subst (HoldsLevels asked out after from to) (has.are ∙ (λ k. subjects (one.1 k) (one.2 k)))
+        (geometry_there ok (in_asked has put))
+    row_there ok is front (failed (no_row lacks) to_is same) = absurd (never_lacks is lacks)
+    row_there ok is front (failed (unknown other is' none told) to_is same) = absurd (cc named)
+    row_there {s = s} {t = t} ok is front (failed (refused other d is' n why) to_is same) =
+        absurd (never_refused (record { s = s; t = t; rest = _; front = front })
+        (subst (λ z. IsRefusedWith z status) (one_row is' is) why))
+
+-- ---- the levels that are given on
+
+-- ends that are given, or none if there are no items
+pub record AreGivenEnds (e : Ends) (xs : List ℕ) : Type 0 where
+  pub start : start_of e ≡ 0
+  pub ends : ends_of e ≡ xs
+
+-- those of a level are
+given_ends : (xs : Bor (List ℕ)) (n : ℕ) → n ≡ length xs.now
+    → AreGivenEnds (if length xs.now == 0 then Each 0 n else At 0 xs) xs.now
+given_ends xs n many =
+    cond_both (length xs.now == 0) (Each 0 n) (At 0 xs) (λ e. AreGivenEnds e xs.now)
+    (λ none.
+    let empty : length xs.now ≡ 0 = eqb-true (length xs.now) 0 none in
+    record { start = refl; ends = rw (many, empty) (sym (nil_from_length xs.now empty)) })
+    (λ some. record { start = refl; ends = refl })
+
+-- so an item begins where they say
+begin_same : (e : Ends) (xs : List ℕ) (k : ℕ) → AreGivenEnds e xs → begin_of e k ≡ start_at 0 xs k
+begin_same e xs k g = λ i. start_at (g.start i) (g.ends i) k
+
+-- where row j begins at each level of a column
+pub record BeginsAt (l : Levels) (j : ℕ) (at : Totals) : Type 0 where
+  pub singles : begin_of l.row_ends j ≡ at.singles
+  pub rings : begin_of l.single_ends (begin_of l.row_ends j) ≡ at.rings
+  pub coordinates : begin_of l.ring_ends (begin_of l.single_ends (begin_of l.row_ends j)) ≡ at.coordinates
 
 -- ---- the rows of a column
 
@@ -228,19 +253,24 @@ pub record IsDone (asked : Dimension) (row_ends : List ℕ) (out : LevelLists) (
   pub begins : start_at 0 row_ends i ≡ at.singles
   pub placed : HasRoomUpTo asked out at → IsPlaced now at
 
--- the row of this number, on the way to others
-pub record Stage (c : Column) (dimension : ℕ) (asked : Dimension) (statuses row_ends : List ℕ) (out : LevelLists)
-    (i : ℕ) (to : Totals) (now : LevelLists) : Type 0 where
-  pub at : Totals
-  pub lists : LevelLists
-  pub done : AreColumnCoordinates c dimension statuses row_ends out i at lists
-  pub far : Reaches at to
-  pub kept : Keeps asked at lists now
+-- some rows are done on the way to these totals and lists
+pub record Stage (asked : Dimension) (Done : Totals → LevelLists → Type 0) (to : Totals) (now : LevelLists) : Type 0
+  where
+    pub at : Totals
+    pub lists : LevelLists
+    pub done : Done at lists
+    pub far : Reaches at to
+    pub kept : Keeps asked at lists now
 
-module _ (c : Column) (dimension : ℕ) {asked : Dimension} (named : dimension_of_thousands dimension ≡ Some asked)
-    (statuses row_ends : List ℕ) (out : LevelLists) (short : AreShort out) where
-  pub rows_done : (i : ℕ) (at : Totals) (now : LevelLists)
-      → AreColumnCoordinates c dimension statuses row_ends out i at now → IsDone asked row_ends out i at now
+module _ {c : Column} {dimension : ℕ} {asked : Dimension} {statuses : List ℕ} {rows : ℕ} {l : LevelColumn}
+    (g : AreGivenOn c dimension asked statuses rows l) where
+  -- the levels of the rows below a number end here, and the lists are these then
+  abbrev pub Done : ℕ → Totals → LevelLists → Type 0
+  Done i at now = AreColumnCoordinates c dimension statuses g.row_ends g.out i at now
+
+  -- the one induction over rows from the first on
+  pub rows_done : (i : ℕ) (at : Totals) (now : LevelLists) → Done i at now
+      → IsDone asked g.row_ends g.out i at now
   rows_done zero at now done =
       rw (done.0, done.1) (record {
         small = record { coordinates = omega arith; rings = omega arith; singles = omega arith };
@@ -252,18 +282,16 @@ module _ (c : Column) (dimension : ℕ) {asked : Dimension} (named : dimension_o
       let row = done.1.1.1 in
       let d = rows_done i done.0 done.1.0 done.1.1.0 in
       let says = row_says row d.small in
+      let goes = row_goes g.short d.long g.asked_is row in
       record {
         small = says.small;
         long = long_more says.long d.long;
         begins = done.1.1.2;
-        placed = λ room.
-            (row_goes short d.long named row).placed (d.placed (room_before asked out done.0 at says.far room)) room;
+        placed = λ room. goes.placed (d.placed (room_before asked g.out done.0 at says.far room)) room;
       }
 
-  last_stage : (rows i : ℕ) (to : Totals) (now : LevelLists)
-      → AreColumnCoordinates c dimension statuses row_ends out rows to now → i ≡ rows
-      → Stage c dimension asked statuses row_ends out i to now
-  last_stage rows i to now done same = record {
+  last_stage : (n i : ℕ) (to : Totals) (now : LevelLists) → Done n to now → i ≡ n → Stage asked (Done i) to now
+  last_stage n i to now done same = record {
     at = to;
     lists = now;
     done = rw same done;
@@ -271,67 +299,30 @@ module _ (c : Column) (dimension : ℕ) {asked : Dimension} (named : dimension_o
     kept = record { words = refl; ring_ends = refl; single_ends = refl };
   }
 
-  pub stage : (rows i : ℕ) (to : Totals) (now : LevelLists) → i ≤ rows
-      → AreColumnCoordinates c dimension statuses row_ends out rows to now
-      → Stage c dimension asked statuses row_ends out i to now
+  -- and the one from the last on
+  pub stage : (n i : ℕ) (to : Totals) (now : LevelLists) → i ≤ n → Done n to now → Stage asked (Done i) to now
   stage zero i to now below done = last_stage zero i to now done (omega (arith, below))
-  stage (suc rows) i to now below done =
-      elim (cases_eq i (suc rows)) [
-        | inl same ↦ last_stage (suc rows) i to now done same
+  stage (suc n) i to now below done =
+      elim (cases_eq i (suc n)) [
+        | inl same ↦ last_stage (suc n) i to now done same
         | inr other ↦
             let row = done.1.1.1 in
-            let d = rows_done rows done.0 done.1.0 done.1.1.0 in
-            let s = stage rows i done.0 done.1.0 (omega (arith, below, other)) done.1.1.0 in
-            let far = (row_says row d.small).far in
+            let d = rows_done n done.0 done.1.0 done.1.1.0 in
+            let s = stage n i done.0 done.1.0 (omega (arith, below, other)) done.1.1.0 in
             record {
               at = s.at;
               lists = s.lists;
               done = s.done;
-              far = reach_on s.far far;
-              kept = keeps_on s.kept s.far (row_goes short d.long named row).keeps;
+              far = reach_on s.far (row_says row d.small).far;
+              kept = keeps_on s.kept s.far (row_goes g.short d.long g.asked_is row).keeps;
             }
       ]
 
--- ---- the levels that are given on
-
--- ends that are given, or none if there are no items
-pub record AreGivenEnds (e : Ends) (xs : List ℕ) : Type 0 where
-  pub start : start_of e ≡ 0
-  pub ends : ends_of e ≡ xs
-
-given_ends : (xs : Bor (List ℕ)) (n : ℕ) → n ≡ length xs.now
-    → AreGivenEnds (if length xs.now == 0 then Each 0 n else At 0 xs) xs.now
-given_ends xs n many =
-    cond_both (length xs.now == 0) (Each 0 n) (At 0 xs) (λ e. AreGivenEnds e xs.now)
-    (λ none.
-    let empty : length xs.now ≡ 0 = eqb-true (length xs.now) 0 none in
-    record { start = refl; ends = rw (many, empty) (sym (nil_from_length xs.now empty)) })
-    (λ some. record { start = refl; ends = refl })
-
-begin_same : (e : Ends) (xs : List ℕ) (k : ℕ) → AreGivenEnds e xs → begin_of e k ≡ start_at 0 xs k
-begin_same e xs k g = λ i. start_at (g.start i) (g.ends i) k
-
--- where row j begins at each level of a column
-pub record BeginsAt (l : Levels) (j : ℕ) (at : Totals) : Type 0 where
-  pub singles : begin_of l.row_ends j ≡ at.singles
-  pub rings : begin_of l.single_ends (begin_of l.row_ends j) ≡ at.rings
-  pub coordinates : begin_of l.ring_ends (begin_of l.single_ends (begin_of l.row_ends j)) ≡ at.coordinates
-
-module _ {c : Column} {dimension : ℕ} {asked : Dimension} {statuses : List ℕ} {rows : ℕ} {l : LevelColumn}
-    (g : AreGivenOn c dimension asked statuses rows l) where
   -- the lists that are given on
   abbrev pub given : LevelLists
   given = levels l.words.now l.ring_ends.now l.single_ends.now
 
-  row_level : AreGivenEnds (levels_in l).row_ends l.row_ends.now
-  row_level = given_ends l.row_ends l.rows g.levels.rows
-
-  pub single_level : AreGivenEnds (levels_in l).single_ends l.single_ends.now
-  single_level = given_ends l.single_ends l.singles g.levels.singles
-
-  pub ring_level : AreGivenEnds (levels_in l).ring_ends l.ring_ends.now
-  ring_level = given_ends l.ring_ends l.rings g.levels.rings
-
+  -- they keep what was written
   pub keeps_given : Keeps asked g.to g.now given
   keeps_given = record {
     words = rw g.levels.words (take-take _ _ g.now.words (omega arith));
@@ -339,12 +330,19 @@ module _ {c : Column} {dimension : ℕ} {asked : Dimension} {statuses : List ℕ
     single_ends = rw g.levels.single_ends (take-take _ _ g.now.single_ends (omega arith));
   }
 
-  pub begins_at : (j : ℕ) (at : Totals) (now : LevelLists)
-      → AreColumnCoordinates c dimension statuses g.row_ends g.out j at now → Keeps asked at now given
+  pub single_level : AreGivenEnds (levels_in l).single_ends l.single_ends.now
+  single_level = given_ends l.single_ends l.singles g.levels.singles
+
+  pub ring_level : AreGivenEnds (levels_in l).ring_ends l.ring_ends.now
+  ring_level = given_ends l.ring_ends l.rings g.levels.rings
+
+  -- so a row begins in them where those before it end
+  pub begins_at : (j : ℕ) (at : Totals) (now : LevelLists) → Done j at now → Keeps asked at now given
       → HasRoomUpTo asked g.out at → BeginsAt (levels_in l) j at
   begins_at j at now done kept room =
-      let d = rows_done c dimension g.asked_is statuses g.row_ends g.out g.short j at now done in
+      let d = rows_done j at now done in
       let placed = placed_on kept (d.placed room) in
+      let row_level = given_ends l.row_ends l.rows g.levels.rows in
       let singles =
       begin_same (levels_in l).row_ends l.row_ends.now j row_level
       ∙ ap (λ z. start_at 0 z j) g.levels.row_ends_are ∙ d.begins in
