@@ -1,13 +1,11 @@
 -- Calls on hex texts.
-use Rattle.std.specs.Prelude.{◌≡◌, ℕ, ◌%◌, Bool, List, [], ◌∷◌, length, Ok, ◌⊎◌, MatchBool}
+use Rattle.std.specs.Prelude.{◌≡◌, ℕ, ◌%◌, Bool, List, length, Ok, ◌⊎◌, MatchBool}
 use Rattle.std.specs.List.{AllPass}
 use Rattle.hex.specs.Hex.{decode_of, is_hex_digit}
 use Rattle.hex.specs.declared.error.FromHexError.{FromHexError}
 use Rattle.hex.specs.declared.error.FromHexError.TheVariants.{OutOfMemory}
 use Rattle.wkb_geom.specs.declared.error.Cause.{Cause}
-use Rattle.wkb_geom.specs.Errors.{Tells}
-use Rattle.wkb.specs.Writes.{WriteOptions}
-use Rattle.wkb.specs.Canonical.{IsAccepted, IsSize, OverflowsWithSrid, HaveOneValue, HaveTwoValues}
+use Rattle.wkb.specs.Canonical.{HaveOneValue, HaveTwoValues}
 use Rattle.wkb_command.specs.Readings.{Accepts, IsRefused}
 use Rattle.wkb_command.specs.declared.calls.Cost.{Cost}
 use Rattle.wkb_geom.specs.declared.error.WkbError.{WkbError}
@@ -42,52 +40,25 @@ IsCost cost bytes =
     MatchBool cost.accepted (Accepts bytes cost.counts.turns cost.counts.slots)
     ((cause : Cause) × IsRefused bytes cause cost.counts.turns cost.counts.slots)
 
--- each text is hex
-abbrev pub AreHex : List (List ℕ) → Type 0
-AreHex [] = Unit {0}
-AreHex (text ∷ others) = IsHex text × AreHex others
+-- A failure, if this says that the texts are hex, and that an error is right for what they spell. Every call may fail
+-- to allocate.
+abbrev pub IsFailureOf : Type 0 → (WkbError → Type 0) → HexFault → Type 0
+IsFailureOf AreHex IsRight NotHex = ¬ AreHex
+IsFailureOf AreHex IsRight (Wkb e) = IsRight e
+IsFailureOf AreHex IsRight Memory = Unit {0}
 
--- each text is the hex of these bytes
-abbrev pub AreHexOf : List (List ℕ) → List (List ℕ) → Type 0
-AreHexOf [] [] = Unit {0}
-AreHexOf (text ∷ others) (bytes ∷ more) = IsHexOf text bytes × AreHexOf others more
-AreHexOf _ _ = ⊥
+-- a failure of a call on one text, for whose bytes an error is right
+abbrev pub FailsOn : List ℕ → (List ℕ → WkbError → Type 0) → HexFault → Type 0
+FailsOn text IsRight = IsFailureOf (IsHex text) (λ e. OfHex text (λ bytes. IsRight bytes e))
 
--- the first of these inputs that is rejected has this cause
-pub data FirstRefusal : List (List ℕ) → Cause → Type 0 where
-  this_one : {bytes : List ℕ} {others : List (List ℕ)} {cause : Cause} {turns slots : ℕ}
-      → IsRefused bytes cause turns slots → FirstRefusal (bytes ∷ others) cause
-  later_one : {bytes : List ℕ} {others : List (List ℕ)} {cause : Cause}
-      → IsAccepted bytes → FirstRefusal others cause → FirstRefusal (bytes ∷ others) cause
-
--- the error tells the first refusal
-pub record RefusedFirst (inputs : List (List ℕ)) (e : WkbError) : Type 0 where
-  pub cause : Cause
-  pub refusal : FirstRefusal inputs cause
-  pub told : Tells e cause
-
--- the only input is so long, and the error says so
-pub record IsOversized (IsLong : List ℕ → Type 0) (inputs : List (List ℕ)) (e : WkbError) : Type 0 where
-  pub bytes : List ℕ
-  pub only : inputs ≡ bytes ∷ []
-  pub long : IsLong bytes
-  pub size : IsSize e
-
--- the first refusal, or a rewriting that is too long under these options
-abbrev pub RefusedOrOversized : WriteOptions → List (List ℕ) → WkbError → Type 0
-RefusedOrOversized options inputs e =
-    RefusedFirst inputs e ⊎ IsOversized (OverflowsWithSrid options.endianness options.form) inputs e
+-- and of one on two texts
+abbrev pub FailsOnTwo : List ℕ → List ℕ → (List ℕ → List ℕ → WkbError → Type 0) → HexFault → Type 0
+FailsOnTwo first second IsRight =
+    IsFailureOf (IsHex first × IsHex second) (λ e. OfTwoHexes first second (λ a b. IsRight a b e))
 
 -- an allocation failed, or the text isn't hex
 abbrev pub IsDecodingFailure : List ℕ → HexFault → Type 0
 IsDecodingFailure text failure = (failure ≡ Memory) ⊎ ((failure ≡ NotHex) × ¬ IsHex text)
-
--- A failure of a call on these texts, other than a failed allocation: one of them isn't hex, or all of them are and
--- what they spell is rejected.
-abbrev pub IsFailureOf : List (List ℕ) → (List (List ℕ) → WkbError → Type 0) → HexFault → Type 0
-IsFailureOf texts IsRefused NotHex = ¬ AreHex texts
-IsFailureOf texts IsRefused (Wkb e) = (inputs : List (List ℕ)) × AreHexOf texts inputs × IsRefused inputs e
-IsFailureOf texts IsRefused Memory = Unit {0}
 
 -- a failed allocation is always `Memory`
 abbrev pub FailureOfError : WkbError → HexFault → Type 0

@@ -1,7 +1,6 @@
 -- The program: the line that it writes and the status that it ends with, for its arguments and its input.
-use Rattle.std.specs.Prelude.{◌≡◌, ◌≢◌, ℕ, ◌==◌, if◌then◌else◌, codes, Option, Some, None, MatchOption}
-use Rattle.std.specs.Prelude.{List, [], ◌∷◌, ◌++◌, length, map, EachIndex, slice_index, String, string_bytes}
-use Rattle.std.specs.Borrow.{Bor}
+use Rattle.std.specs.Prelude.{◌≡◌, ◌≢◌, ◌⊎◌, ℕ, codes, Option, Some, None, IfSome, MatchOption}
+use Rattle.std.specs.Prelude.{List, [], ◌∷◌, ◌++◌, map, EachIndex, slice_index, String, string_bytes}
 use Rattle.std.specs.Global.{Global}
 use Rattle.std.specs.declared.io.Read.{Ghosts as ReaderOf}
 use Rattle.std.specs.declared.io.Write.{Ghosts as WriterOf}
@@ -13,15 +12,13 @@ use Rattle.wkb_geom.specs.declared.common.Endianness.{Endianness}
 use Rattle.wkb_geom.specs.declared.common.Endianness.TheVariants.{BigEndian, LittleEndian}
 use Rattle.wkb_geom.specs.declared.common.Form.TheVariants.{Iso}
 use Rattle.wkb_geom.specs.declared.error.Cause.{Cause}
-use Rattle.wkb_geom.specs.declared.error.Cause.TheVariants.{EndOfInput as end_of_input}
 use Rattle.wkb_geom.specs.Encodings.{IsRewriting, IsRewritingWithSrid}
-use Rattle.wkb.specs.Canonical.{HaveOneValue, HaveTwoValues}
+use Rattle.wkb.specs.Canonical.{IsAccepted, HaveOneValue, HaveTwoValues}
+use Rattle.wkb.specs.Reads.{IsRefusal}
 use Rattle.wkb_command.specs.Readings.{Accepts, IsRefused, HasSrid}
-use Rattle.wkb_command.specs.Calls.{AreHexOf, FirstRefusal}
+use Rattle.wkb_command.specs.Calls.{IsHexOf}
 use Rattle.wkb_geom.specs.declared.error.WkbError.{WkbError}
 use Rattle.wkb_geom.specs.declared.error.WkbError.TheVariants as errors
-use Rattle.wkb_command.specs.declared.calls.HexFault.{HexFault}
-use Rattle.wkb_command.specs.declared.calls.HexFault.TheVariants.{NotHex, Wkb, Memory}
 use Rattle.wkb_command.specs.declared.program.Command.{Command}
 use Rattle.wkb_command.specs.declared.program.Command.TheVariants.{Rewrite, RewriteWithSrid, Same, Cost, Srid}
 
@@ -53,54 +50,22 @@ IsCommandOf arguments result =
 abbrev pub usage : List ℕ
 usage = codes "usage: wkb_hex le|be|same|cost|srid|ewkb-le|ewkb-be\n"
 
--- ---- the lines of the input
+-- ---- what a command reads
 
 abbrev pub line_feed : ℕ
 line_feed = 10
 
--- one line feed at the very end is dropped
-abbrev pub without_last_feed : List ℕ → List ℕ
-without_last_feed [] = []
-without_last_feed (b ∷ []) = if b == line_feed then [] else b ∷ []
-without_last_feed (b ∷ c ∷ rest) = b ∷ without_last_feed (c ∷ rest)
+-- the input without one line feed at its very end
+abbrev pub IsBody : List ℕ → List ℕ → Type 0
+IsBody input body =
+    (input ≡ body ++ line_feed ∷ []) ⊎ ((input ≡ body) × ((front : List ℕ) → input ≢ front ++ line_feed ∷ []))
 
-abbrev pub onto_first : ℕ → List (List ℕ) → List (List ℕ)
-onto_first b [] = (b ∷ []) ∷ []
-onto_first b (line ∷ others) = (b ∷ line) ∷ others
-
--- split at each line feed
-abbrev pub split_at_feeds : List ℕ → List (List ℕ)
-split_at_feeds [] = [] ∷ []
-split_at_feeds (b ∷ rest) = if b == line_feed then [] ∷ split_at_feeds rest else onto_first b (split_at_feeds rest)
-
-abbrev pub lines : List ℕ → List (List ℕ)
-lines input = split_at_feeds (without_last_feed input)
-
--- there is another number of lines than one
-abbrev pub IsNotSingle : List (List ℕ) → Type 0
-IsNotSingle lines = (line : List ℕ) → lines ≢ line ∷ []
-
--- there is another number of lines than two
-abbrev pub IsNotPair : List (List ℕ) → Type 0
-IsNotPair lines = (first second : List ℕ) → lines ≢ first ∷ second ∷ []
-
--- the only line, or None if there is another number of them
-abbrev pub IsOnlyLine : List (List ℕ) → Option (Bor (List ℕ)) → Type 0
-IsOnlyLine lines result = MatchOption result (IsNotSingle lines) (λ line. lines ≡ line.now ∷ [])
-
--- the two lines, or None if there is another number of them
-abbrev pub AreTwoLines : List (List ℕ) → Option (Bor (List ℕ) × Bor (List ℕ)) → Type 0
-AreTwoLines lines result = MatchOption result (IsNotPair lines) (λ pair. lines ≡ pair.0.now ∷ pair.1.now ∷ [])
-
--- how many lines a command wants
-abbrev pub wanted_lines : Command → ℕ
-wanted_lines Same = 2
-wanted_lines _ = 1
-
--- as many lines as the command wants, each the hex of these bytes
-pub record Gives (command : Command) (lines : List (List ℕ)) (inputs : List (List ℕ)) : Type 0 where
-  pub wanted : length inputs ≡ wanted_lines command
-  pub hex : AreHexOf lines inputs
+-- A command reads the hex of these inputs: of two with a line feed between if it is `same`, else of one.
+pub data Spells : Command → List ℕ → List (List ℕ) → Type 0 where
+  one : {command : Command} {text bytes : List ℕ} → command ≢ Same → IsHexOf text bytes
+      → Spells command text (bytes ∷ [])
+  two : {first second a b : List ℕ} → IsHexOf first a → IsHexOf second b
+      → Spells Same (first ++ line_feed ∷ second) (a ∷ b ∷ [])
 
 -- ---- the statuses
 
@@ -136,66 +101,50 @@ pub record IsRefusalLine (line : List ℕ) : Type 0 where
   pub one_line : IsOneLine text
   pub whole : line ≡ codes "refused: " ++ text ++ codes "\n"
 
--- the line for a cause: a text of its own for the end of the input, the text of the error for the others
-abbrev pub TellsCause : Cause → List ℕ → Type 0
-TellsCause end_of_input line = line ≡ codes "refused: end of input\n"
-TellsCause _ line = IsRefusalLine line
-
--- the line for an error, likewise
+-- the line for an error: a text of its own for the end of the input, the text of the error for the others
 abbrev pub TellsError : WkbError → List ℕ → Type 0
 TellsError (errors.IOError e) line = line ≡ codes "refused: end of input\n"
 TellsError _ line = IsRefusalLine line
-
--- the line and the status for a failure
-abbrev pub TellsHexFault : HexFault → List ℕ → ℕ → Type 0
-TellsHexFault NotHex line status = (line ≡ codes "not hex\n") × (status ≡ status_misused)
-TellsHexFault (Wkb e) line status = TellsError e line × (status ≡ status_refused)
-TellsHexFault Memory line status = ⊥
 
 -- the line of `cost`
 abbrev pub counts : List ℕ → ℕ → ℕ → List ℕ
 counts verdict turns slots =
     verdict ++ codes " turns " ++ decimal turns ++ codes " slots " ++ decimal slots ++ codes "\n"
 
--- The line that is written, and the status, for a command and the lines of its input.
-pub data Says (lines : List (List ℕ)) : Command → List ℕ → ℕ → Type 0 where
-  rewritten : {order : Endianness} {bytes answer : List ℕ}
-      → Gives (Rewrite order) lines (bytes ∷ []) → IsRewriting order Iso bytes answer
-      → Says lines (Rewrite order) (hex_line answer) status_answered
-  rewritten_with_srid : {order : Endianness} {bytes answer : List ℕ}
-      → Gives (RewriteWithSrid order) lines (bytes ∷ []) → IsRewritingWithSrid order bytes answer
-      → Says lines (RewriteWithSrid order) (hex_line answer) status_answered
-  same : {first second : List ℕ}
-      → Gives Same lines (first ∷ second ∷ []) → HaveOneValue first second
-      → Says lines Same (codes "same\n") status_answered
-  different : {first second : List ℕ}
-      → Gives Same lines (first ∷ second ∷ []) → HaveTwoValues first second
-      → Says lines Same (codes "different\n") status_answered
-  accepted : {bytes : List ℕ} {turns slots : ℕ}
-      → Gives Cost lines (bytes ∷ []) → Accepts bytes turns slots
-      → Says lines Cost (counts (codes "accepted") turns slots) status_answered
-  counted_refusal : {bytes : List ℕ} {cause : Cause} {turns slots : ℕ}
-      → Gives Cost lines (bytes ∷ []) → IsRefused bytes cause turns slots
-      → Says lines Cost (counts (codes "refused") turns slots) status_refused
-  srid : {bytes : List ℕ} {number : ℕ}
-      → Gives Srid lines (bytes ∷ []) → HasSrid bytes (Some number)
-      → Says lines Srid (codes "srid " ++ decimal number ++ codes "\n") status_answered
-  no_srid : {bytes : List ℕ}
-      → Gives Srid lines (bytes ∷ []) → HasSrid bytes None
-      → Says lines Srid (codes "no srid\n") status_answered
-  refused : {command : Command} {inputs : List (List ℕ)} {cause : Cause} {line : List ℕ}
-      → command ≢ Cost → Gives command lines inputs → FirstRefusal inputs cause → TellsCause cause line
-      → Says lines command line status_refused
-  not_hex : {command : Command}
-      → ((inputs : List (List ℕ)) → ¬ Gives command lines inputs)
-      → Says lines command (codes "not hex\n") status_misused
+-- The line that is written, and the status, for a command and its inputs.
+pub data Says : Command → List (List ℕ) → List ℕ → ℕ → Type 0 where
+  rewritten : {order : Endianness} {bytes answer : List ℕ} → IsRewriting order Iso bytes answer
+      → Says (Rewrite order) (bytes ∷ []) (hex_line answer) status_answered
+  rewritten_with_srid : {order : Endianness} {bytes answer : List ℕ} → IsRewritingWithSrid order bytes answer
+      → Says (RewriteWithSrid order) (bytes ∷ []) (hex_line answer) status_answered
+  same : {first second : List ℕ} → HaveOneValue first second
+      → Says Same (first ∷ second ∷ []) (codes "same\n") status_answered
+  different : {first second : List ℕ} → HaveTwoValues first second
+      → Says Same (first ∷ second ∷ []) (codes "different\n") status_answered
+  accepted : {bytes : List ℕ} {turns slots : ℕ} → Accepts bytes turns slots
+      → Says Cost (bytes ∷ []) (counts (codes "accepted") turns slots) status_answered
+  counted_refusal : {bytes : List ℕ} {cause : Cause} {turns slots : ℕ} → IsRefused bytes cause turns slots
+      → Says Cost (bytes ∷ []) (counts (codes "refused") turns slots) status_refused
+  srid : {bytes : List ℕ} {number : ℕ} → HasSrid bytes (Some number)
+      → Says Srid (bytes ∷ []) (codes "srid " ++ decimal number ++ codes "\n") status_answered
+  no_srid : {bytes : List ℕ} → HasSrid bytes None → Says Srid (bytes ∷ []) (codes "no srid\n") status_answered
+  refused : {command : Command} {bytes line : List ℕ} {others : List (List ℕ)} {e : WkbError}
+      → command ≢ Cost → IsRefusal bytes e → TellsError e line → Says command (bytes ∷ others) line status_refused
+  second_refused : {first second line : List ℕ} {e : WkbError}
+      → IsAccepted first → IsRefusal second e → TellsError e line → Says Same (first ∷ second ∷ []) line status_refused
+
+-- The line and the status for a command and its text.
+pub data Replies : Command → List ℕ → List ℕ → ℕ → Type 0 where
+  said : {command : Command} {text line : List ℕ} {inputs : List (List ℕ)} {status : ℕ}
+      → Spells command text inputs → Says command inputs line status → Replies command text line status
+  not_hex : {command : Command} {text : List ℕ} → ((inputs : List (List ℕ)) → ¬ Spells command text inputs)
+      → Replies command text (codes "not hex\n") status_misused
 
 -- The line and the status for the arguments and the input.
 pub data Answers (arguments : List (List ℕ)) (input : List ℕ) : List ℕ → ℕ → Type 0 where
   misused : AreNoCommand arguments → Answers arguments input usage status_misused
-  asked : {command : Command} {line : List ℕ} {status : ℕ}
-      → arguments ≡ command_name command ∷ [] → Says (lines input) command line status
-      → Answers arguments input line status
+  asked : {command : Command} {body line : List ℕ} {status : ℕ} → arguments ≡ command_name command ∷ []
+      → IsBody input body → Replies command body line status → Answers arguments input line status
 
 -- ---- how a run ends
 
@@ -214,13 +163,9 @@ pub record RunEnds (old new : Option (List ℕ)) (IsDue : List ℕ → ℕ → T
   pub appended : Appends old new written
   pub ends : RunOutcome IsDue status written
 
--- a statement holds for the bytes that a reader reports, or for some bytes where it reports none
-abbrev pub OfReported : Option (List ℕ) → (List ℕ → Type 0) → Type 0
-OfReported (Some bytes) P = P bytes
-OfReported None P = (bytes : List ℕ) × P bytes
-
--- the run of the program with these arguments, on what remains of this reader's input, to this writer
+-- The run of the program with these arguments, to this writer, on what remains of this reader's input: on the bytes that
+-- the reader reports, or on some if it reports none.
 abbrev pub IsRunOf : {R W : Type 0} → ReaderOf R → WriterOf W → List (String Global) → R → W → W → ℕ → Type 0
 IsRunOf reader writer arguments input old new status =
-    OfReported (reader.remaining input)
-    (λ bytes. RunEnds (writer.contents old) (writer.contents new) (Answers (map string_bytes arguments) bytes) status)
+    (bytes : List ℕ) × IfSome (reader.remaining input) (λ all. bytes ≡ all)
+    × RunEnds (writer.contents old) (writer.contents new) (Answers (map string_bytes arguments) bytes) status

@@ -1,7 +1,9 @@
 -- What a report says: the line that it is written as, and its status.
 use Rattle.std.specs.Prelude.{◌≡◌, ℕ, List, Result, Ok, Err, string_bytes}
 use Rattle.std.specs.declared.alloc.AllocError.{AllocError}
-use Rattle.wkb_command.specs.Program.{hex_line, Says}
+use Rattle.wkb_command.specs.Program.{hex_line, status_refused, Spells, Replies, TellsError}
+use Rattle.wkb_command.specs.declared.calls.HexFault.{HexFault}
+use Rattle.wkb_command.specs.declared.calls.HexFault.TheVariants.{NotHex, Wkb, Memory}
 use Rattle.wkb_command.specs.declared.program.Command.{Command}
 use Rattle.wkb_command.specs.declared.program.Report.{Report}
 use Rattle.wkb_command.specs.declared.program.Output.{Output}
@@ -16,9 +18,15 @@ line_of (Hex bytes) = hex_line bytes.items
 abbrev pub IsReport : List ℕ → ℕ → Report → Type 0
 IsReport line status report = (line_of report.output ≡ line) × (report.status ≡ status)
 
--- the report has what the table says of a command and the lines of its input
-abbrev pub IsReportOn : List (List ℕ) → Command → Report → Type 0
-IsReportOn lines command report = Says lines command (line_of report.output) report.status
+-- the report has what a command replies to this text
+abbrev pub IsReportOn : Command → List ℕ → Report → Type 0
+IsReportOn command text report = Replies command text (line_of report.output) report.status
+
+-- a failure of this command on this text
+abbrev pub IsFailureOn : Command → List ℕ → HexFault → Type 0
+IsFailureOn command text NotHex = (inputs : List (List ℕ)) → ¬ Spells command text inputs
+IsFailureOn command text (Wkb e) = (line : List ℕ) → TellsError e line → Replies command text line status_refused
+IsFailureOn command text Memory = Unit {0}
 
 -- the line and the status of a report, if there was memory for one
 abbrev pub IsLineOf : Result Report AllocError → List ℕ → ℕ → Type 0

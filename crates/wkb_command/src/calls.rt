@@ -2,13 +2,14 @@
 //!
 //! A text is hex digits in either case, two for each byte. A failed allocation is always `HexFault::Memory`.
 
-ghost use Rattle.std.specs.Prelude.{◌∷◌, [], IfOk, IfErr};
+ghost use Rattle.std.specs.Prelude.{IfOk, IfErr};
 ghost use Rattle.wkb_geom.specs.Encodings.{IsRewritingWithSrid};
-ghost use Rattle.wkb.specs.Canonical.{IsRewritingUnder};
+ghost use Rattle.wkb.specs.Canonical.{IsRewritingUnder, IsRefusedUnder, IsPairRefusal};
+ghost use Rattle.wkb.specs.Reads.{IsRefusal};
 ghost use Rattle.wkb_command.specs.Readings.{HasSrid};
-ghost use Rattle.wkb_command.specs.Calls.{IsHexOf, OfHex, OfTwoHexes, IsFailureOf, IsDecodingFailure};
-ghost use Rattle.wkb_command.specs.Calls.{AreCompared, IsCost, RefusedFirst};
-ghost use Rattle.wkb_command.specs.Calls.{RefusedOrOversized, FailureOfError, FailureOfHexError};
+ghost use Rattle.wkb_command.specs.Calls.{IsHexOf, OfHex, OfTwoHexes, FailsOn, FailsOnTwo};
+ghost use Rattle.wkb_command.specs.Calls.{AreCompared, IsCost, IsDecodingFailure};
+ghost use Rattle.wkb_command.specs.Calls.{FailureOfError, FailureOfHexError};
 
 use hex::FromHexError;
 use std::alloc::Global;
@@ -76,7 +77,7 @@ fn bytes_of_hex(alloc: Global, text: &str) -> Result<Vec<u8>, HexFault>
 pub fn rewrite_hex(alloc: Global, text: &str, options: &WriteOptions) -> Result<Vec<u8>, HexFault>
     ensures ok { IfOk result
         (λ it. OfHex text.now (λ b. IsRewritingUnder options.now b it.items)) }
-    ensures err { IfErr result (IsFailureOf (text.now ∷ []) (RefusedOrOversized options.now)) }
+    ensures err { IfErr result (FailsOn text.now (IsRefusedUnder options.now)) }
 {
     let bytes = bytes_of_hex(alloc, text)?;
     Ok(canonical(alloc, bytes.as_slice(), options)?)
@@ -92,7 +93,7 @@ pub fn rewrite_hex_with_srid(
 ) -> Result<Vec<u8>, HexFault>
     ensures ok { IfOk result
         (λ it. OfHex text.now (λ b. IsRewritingWithSrid order b it.items)) }
-    ensures err { IfErr result (IsFailureOf (text.now ∷ []) RefusedFirst) }
+    ensures err { IfErr result (FailsOn text.now IsRefusal) }
 {
     let bytes = bytes_of_hex(alloc, text)?;
     Ok(canonical_with_srid(alloc, bytes.as_slice(), order)?)
@@ -104,7 +105,7 @@ pub fn rewrite_hex_with_srid(
 /// error for the first, or else for the second.
 pub fn same_hex(alloc: Global, first: &str, second: &str) -> Result<bool, HexFault>
     ensures ok { IfOk result (λ equal. OfTwoHexes first.now second.now (AreCompared equal)) }
-    ensures err { IfErr result (IsFailureOf (first.now ∷ second.now ∷ []) RefusedFirst) }
+    ensures err { IfErr result (FailsOnTwo first.now second.now IsPairRefusal) }
 {
     let first = bytes_of_hex(alloc, first)?;
     let second = bytes_of_hex(alloc, second)?;
@@ -117,7 +118,7 @@ pub fn same_hex(alloc: Global, first: &str, second: &str) -> Result<bool, HexFau
 #[tactic(auto, using(crate::proofs::Costs::refused_cost))]
 pub fn cost_hex(alloc: Global, text: &str) -> Result<Cost, HexFault>
     ensures ok { IfOk result (λ cost. OfHex text.now (IsCost cost)) }
-    ensures err { IfErr result (IsFailureOf (text.now ∷ []) (λ inputs e. ⊥)) }
+    ensures err { IfErr result (FailsOn text.now (λ bytes e. ⊥)) }
 {
     let bytes = bytes_of_hex(alloc, text)?;
     let (read, counts) = read_wkb_counted(alloc, bytes.as_slice());
@@ -137,7 +138,7 @@ pub fn cost_hex(alloc: Global, text: &str) -> Result<Cost, HexFault>
 /// The SRID of the outermost geometry that a hex text spells, where it has one.
 pub fn srid_hex(alloc: Global, text: &str) -> Result<Option<u32>, HexFault>
     ensures ok { IfOk result (λ srid. OfHex text.now (λ bytes. HasSrid bytes srid)) }
-    ensures err { IfErr result (IsFailureOf (text.now ∷ []) RefusedFirst) }
+    ensures err { IfErr result (FailsOn text.now IsRefusal) }
 {
     let bytes = bytes_of_hex(alloc, text)?;
     match check(bytes.as_slice()) {

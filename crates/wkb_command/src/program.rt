@@ -1,12 +1,10 @@
 //! The program: one command over the hex lines of its input.
 
-ghost use Rattle.std.specs.Prelude.{◌≡◌, ◌∷◌, [], map, codes, string_bytes};
-ghost use Rattle.std.specs.Prelude.{IfOk};
+ghost use Rattle.std.specs.Prelude.{◌≡◌, ℕ, List, map, string_bytes, IfOk};
 ghost use Rattle.wkb_command.specs.Program.{IsCommandNamed, IsCommandOf, AreNoCommand};
-ghost use Rattle.wkb_command.specs.Program.{without_last_feed, lines, IsOnlyLine, AreTwoLines};
-ghost use Rattle.wkb_command.specs.Program.{IsOneLine, status_misused, status_refused, TellsError};
-ghost use Rattle.wkb_command.specs.Program.{TellsHexFault, counts, RunEnds, IsRunOf};
-ghost use Rattle.wkb_command.specs.Reports.{line_of, IsReport, IsReportOn, IsLineOf};
+ghost use Rattle.wkb_command.specs.Program.{IsBody, Spells, IsOneLine, status_refused, TellsError};
+ghost use Rattle.wkb_command.specs.Program.{counts, RunEnds, IsRunOf};
+ghost use Rattle.wkb_command.specs.Reports.{line_of, IsReport, IsReportOn, IsFailureOn, IsLineOf};
 ghost use Rattle.wkb_command.specs.Transfer.{WroteBeginning};
 
 use crate::calls::{HexFault, cost_hex, rewrite_hex, rewrite_hex_with_srid, same_hex, srid_hex};
@@ -105,7 +103,9 @@ impl Report {
     }
 
     fn not_hex(alloc: Global) -> Result<Report, AllocError>
-        ensures { IfOk result (IsReport (codes "not hex\n") status_misused) }
+        ensures { (command : Command) (text : List ℕ)
+            → ((inputs : List (List ℕ)) → ¬ Spells command text inputs)
+            → IfOk result (IsReportOn command text) }
     {
         Report::new(alloc, "not hex\n", MISUSED)
     }
@@ -140,7 +140,8 @@ fn error_report(alloc: Global, error: &WkbError) -> Result<Report, AllocError>
 
 /// The report on a failure, other than a failed allocation.
 fn failure_report(alloc: Global, failure: HexFault) -> Result<Report, AllocError>
-    ensures { IfOk result (λ report. TellsHexFault failure (line_of report.output) report.status) }
+    ensures { (command : Command) (text : List ℕ) → IsFailureOn command text failure
+        → IfOk result (IsReportOn command text) }
 {
     match failure {
         HexFault::NotHex => Report::not_hex(alloc),
@@ -151,7 +152,7 @@ fn failure_report(alloc: Global, failure: HexFault) -> Result<Report, AllocError
 
 #[tactic(auto, using(crate::proofs::Told::report_laws))]
 fn rewriting_report(alloc: Global, order: Endianness, text: &str) -> Result<Report, AllocError>
-    ensures { IfOk result (IsReportOn (text.now ∷ []) (Command.Rewrite order)) }
+    ensures { IfOk result (IsReportOn (Command.Rewrite order) text.now) }
 {
     let options = WriteOptions {
         endianness: order,
@@ -172,7 +173,7 @@ fn rewriting_with_srid_report(
     order: Endianness,
     text: &str,
 ) -> Result<Report, AllocError>
-    ensures { IfOk result (IsReportOn (text.now ∷ []) (Command.RewriteWithSrid order)) }
+    ensures { IfOk result (IsReportOn (Command.RewriteWithSrid order) text.now) }
 {
     match rewrite_hex_with_srid(alloc, text, order) {
         Ok(bytes) => Ok(Report {
@@ -183,10 +184,16 @@ fn rewriting_with_srid_report(
     }
 }
 
-#[tactic(auto, using(crate::proofs::Told::comparison_laws))]
-fn comparison_report(alloc: Global, first: &str, second: &str) -> Result<Report, AllocError>
-    ensures { IfOk result (IsReportOn (first.now ∷ second.now ∷ []) Command.Same) }
+/// The report on two lines.
+fn comparison_report(alloc: Global, text: &str) -> Result<Report, AllocError>
+    ensures { IfOk result (IsReportOn Command.Same text.now) }
 {
+    let Some((first, second)) = text.split_once('\n') else {
+        return Report::not_hex(alloc);
+    };
+    if second.contains('\n') {
+        return Report::not_hex(alloc);
+    }
     let equal = match same_hex(alloc, first, second) {
         Ok(equal) => equal,
         Err(failure) => return failure_report(alloc, failure),
@@ -199,7 +206,7 @@ fn comparison_report(alloc: Global, first: &str, second: &str) -> Result<Report,
 }
 
 fn cost_report(alloc: Global, text: &str) -> Result<Report, AllocError>
-    ensures { IfOk result (IsReportOn (text.now ∷ []) Command.Cost) }
+    ensures { IfOk result (IsReportOn Command.Cost text.now) }
 {
     let cost = match cost_hex(alloc, text) {
         Ok(cost) => cost,
@@ -231,7 +238,7 @@ fn counts_report(
 
 #[tactic(auto, using(crate::proofs::Told::report_laws))]
 fn srid_report(alloc: Global, text: &str) -> Result<Report, AllocError>
-    ensures { IfOk result (IsReportOn (text.now ∷ []) Command.Srid) }
+    ensures { IfOk result (IsReportOn Command.Srid text.now) }
 {
     match srid_hex(alloc, text) {
         Ok(Some(srid)) => Ok(Report {
@@ -244,67 +251,37 @@ fn srid_report(alloc: Global, text: &str) -> Result<Report, AllocError>
 }
 
 /// The input without one line feed at its very end.
-fn without_last_feed(text: &str) -> &str
-    ensures { result.now ≡ without_last_feed text.now }
+fn without_last_feed(input: &[u8]) -> &[u8]
+    ensures { IsBody input.now result.now }
 {
-    match text.strip_suffix('\n') {
+    match input.strip_suffix(b"\n") {
         Some(body) => body,
-        None => text,
+        None => input,
     }
 }
 
-/// The line of an input that has no other.
-fn only_line(text: &str) -> Option<&str>
-    ensures { IsOnlyLine (lines text.now) result }
-{
-    let body = without_last_feed(text);
-    match body.split_once('\n') {
-        Some(_) => None,
-        None => Some(body),
-    }
-}
-
-/// The lines of an input that has two.
-fn two_lines(text: &str) -> Option<(&str, &str)>
-    ensures { AreTwoLines (lines text.now) result }
-{
-    let body = without_last_feed(text);
-    let (first, rest) = body.split_once('\n')?;
-    match rest.split_once('\n') {
-        Some(_) => None,
-        None => Some((first, rest)),
-    }
-}
-
-fn report_on_line(alloc: Global, command: Command, line: &str) -> Result<Report, AllocError>
-    ensures { IfOk result (IsReportOn (line.now ∷ []) command) }
+/// The report on the text of a command.
+fn report_on_text(alloc: Global, command: Command, text: &str) -> Result<Report, AllocError>
+    ensures { IfOk result (IsReportOn command text.now) }
 {
     match command {
-        Command::Rewrite(order) => rewriting_report(alloc, order, line),
-        Command::RewriteWithSrid(order) => rewriting_with_srid_report(alloc, order, line),
-        Command::Cost => cost_report(alloc, line),
-        Command::Srid => srid_report(alloc, line),
-        Command::Same => Report::not_hex(alloc),
+        Command::Same => comparison_report(alloc, text),
+        _ if text.contains('\n') => Report::not_hex(alloc),
+        Command::Rewrite(order) => rewriting_report(alloc, order, text),
+        Command::RewriteWithSrid(order) => rewriting_with_srid_report(alloc, order, text),
+        Command::Cost => cost_report(alloc, text),
+        Command::Srid => srid_report(alloc, text),
     }
 }
 
 /// The report on the input of a command.
 fn report_on_input(alloc: Global, command: Command, input: &[u8]) -> Result<Report, AllocError>
-    ensures { IfOk result (IsReportOn (lines input.now) command) }
+    ensures { IfOk result (IsReportOn command input.now) }
 {
     // Digits are ASCII, so that input which isn't UTF-8 is no hex. It is tested once, and is a text from here on.
-    let Ok(text) = str::from_utf8(input) else {
-        return Report::not_hex(alloc);
-    };
-    if let Command::Same = command {
-        return match two_lines(text) {
-            Some((first, second)) => comparison_report(alloc, first, second),
-            None => Report::not_hex(alloc),
-        };
-    }
-    match only_line(text) {
-        Some(line) => report_on_line(alloc, command, line),
-        None => Report::not_hex(alloc),
+    match str::from_utf8(input) {
+        Ok(text) => report_on_text(alloc, command, text),
+        Err(_) => Report::not_hex(alloc),
     }
 }
 
@@ -342,5 +319,6 @@ pub fn run<R: Read, W: Write>(alloc: Global, arguments: &[String], input: &mut R
         Err(ReadFailure::Memory(error)) => return tell(Err(error), out),
         Err(ReadFailure::Unreadable) => return FAILED,
     };
-    tell(report_on_input(alloc, command, bytes.as_slice()), out)
+    let body = without_last_feed(bytes.as_slice());
+    tell(report_on_input(alloc, command, body), out)
 }

@@ -87,7 +87,7 @@ pub fn write_hex_line<W: Write>(out: &mut W, bytes: &[u8]) -> Result<(), WriteFa
     while rest.len() > PIECE_SIZE {
         let (piece, after) = rest.split_at(PIECE_SIZE);
         encode_piece(piece, &mut digits);
-        write_whole(out, &digits[..2 * PIECE_SIZE])?;
+        write_whole(out, &digits[..2 * piece.len()])?;
         rest = after;
     }
     encode_piece(rest, &mut digits);

@@ -1,16 +1,7 @@
-use Rattle.std.proofs.Common.{inl, inr, ◌∷◌, []}
-use Rattle.wkb_command.specs.Calls.{RefusedFirst}
-use Rattle.wkb_command.proofs.Failures.{IfErr-from, call_failure, refused_alone, refused_one}
+use Rattle.wkb_command.proofs.Failures.{call_failed}
 use Rattle.wkb_command.proofs.calls.rewrite_hex_with_srid.Goals as goal
 
 pub returns-in_err-canonical_with_srid-clause-err : goal.returns-in_err-canonical_with_srid-clause-err
 returns-in_err-canonical_with_srid-clause-err c =
-    let e = c.in_err-canonical_with_srid.field-0.0 in
-    IfErr-from _ _ _ c.from_residual-in_err-canonical_with_srid.ensures.1
-    (λ failure is. call_failure (c.args.text.now ∷ []) RefusedFirst e failure
-    (elim c.in_err-canonical_with_srid.ensures.err [
-      | inl memory ↦ inl memory
-      | inr h ↦ inr (refused_one _ _ _ e c.in_ok-bytes.ensures.ok c.as_slice.ensures.value
-          (refused_alone _ e h.cause h.turns h.slots h.refuses h.tells))
-    ])
-    is)
+    call_failed _ _ _ _ _ c.in_err-canonical_with_srid.ensures.err c.from_residual-in_err-canonical_with_srid.ensures.1
+    (λ h. (c.as_slice.result.now, (rw c.as_slice.ensures.value c.in_ok-bytes.ensures.ok), h))

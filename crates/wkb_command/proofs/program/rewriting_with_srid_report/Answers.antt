@@ -1,6 +1,10 @@
-use Rattle.std.proofs.Common.{rules}
-use Rattle.wkb_command.proofs.Told.{reports_refusal}
+use Rattle.wkb.specs.Reads.{IsRefusal}
+use Rattle.wkb_command.specs.declared.program.Command.TheVariants.{RewriteWithSrid}
+use Rattle.wkb_command.proofs.Told.{fails_one}
 use Rattle.wkb_command.proofs.program.rewriting_with_srid_report.Goals as goal
 
 pub returns-in-Err : goal.returns-in-Err
-returns-in-Err c = search (rules, reports_refusal)
+returns-in-Err c =
+    c.failure_report.ensures _ _
+    (fails_one (RewriteWithSrid c.args.order) c.args.text.now IsRefusal c.in-Err.failure (λ is. cc)
+    (λ bytes e h. ((λ is. cc), h)) c.in-Err.ensures.err)

@@ -1,11 +1,11 @@
 use Rattle.std.proofs.Common.{length}
-use Rattle.hex.specs.Hex.{encode_lower}
-use Rattle.wkb_command.proofs.Written.{Stands}
+use Rattle.wkb_command.specs.Program.{hex_line}
+use Rattle.wkb_command.specs.Transfer.{WroteUpTo}
 use Rattle.wkb_command.proofs.transfer.write_hex_line.Given as goal
 
 abbrev pub invariant-loop-rest : goal.invariant-loop-rest
 invariant-loop-rest g l =
-    Stands (g.W.Write.contents l.initial.out) (g.W.Write.contents l.out) (encode_lower l.rest) (encode_lower l.bytes)
+    WroteUpTo (g.W.Write.contents l.initial.out) (g.W.Write.contents l.out) (hex_line l.rest) (hex_line l.bytes)
 
 abbrev pub decreases-loop-rest : goal.decreases-loop-rest
 decreases-loop-rest g l = length l.rest
