@@ -10,7 +10,8 @@ pub use Rattle.wkb.specs.Checks.{no_numbers, with_number, with_word, widened, ra
 pub use Rattle.wkb.specs.Checks.{type_dimension, type_of}
 pub use Rattle.wkb.specs.Coordinates.{of_point, of_parts, coordinates_of, coordinates_of_each, words_of, HasOnly}
 pub use Rattle.wkb.specs.Coordinates.{HaveOnly, Visits}
-pub use Rattle.wkb.specs.AllCoordinates.{all_fit, words_are_whole, coordinates_again, few_are_written, many_are_refused}
+pub use Rattle.wkb.specs.AllCoordinates.{coordinates_fit, words_are_whole, coordinates_again, few_points_are_written}
+pub use Rattle.wkb.specs.AllCoordinates.{refused_points_are_many}
 pub use Rattle.wkb.specs.Prelude.{Endianness, BigEndian, LittleEndian, Form, Iso, Ewkb, Dimension, Xy, Xyz, Xym, Xyzm}
 pub use Rattle.wkb.specs.Prelude.errors as errors
 pub use Rattle.wkb.specs.Prelude.causes as causes

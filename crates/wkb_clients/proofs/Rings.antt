@@ -1,5 +1,5 @@
 -- Rings of polygons in a collection, and their words.
-use Rattle.std.proofs.Common.{◌≡◌, ℕ, ◌+◌, ◌*◌, List, [], drop, drop-drop, Option, Some, None, refl, sym, ap, subst, ◌∙◌}
+use Rattle.std.proofs.Common.{◌≡◌, ℕ, ◌+◌, ◌*◌, List, [], drop-drop, Option, Some, None, refl, sym, ap, subst, ◌∙◌}
 use Rattle.std.proofs.Common.{arith, slice_get}
 use Rattle.std.specs.Prelude.{option_map, MatchOption}
 use Rattle.wkb_clients.specs.Common.{number, width, Dimension, Coordinate, Value, polygon, kind, header, Spelling, Spells}

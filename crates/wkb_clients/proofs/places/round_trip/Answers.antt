@@ -1,4 +1,4 @@
-use Rattle.std.proofs.Common.{◌≡◌, slice_index, sym, ap, ◌∙◌, arith}
+use Rattle.std.proofs.Common.{◌≡◌, Some, slice_index, sym, ap, ◌∙◌, arith}
 use Rattle.wkb.specs.Geometries.{normal_point}
 use Rattle.wkb.specs.Handed.{not_point}
 use Rattle.wkb.specs.ReadBack.{value_is_read, empty_point_read, point_read}
