@@ -17,6 +17,7 @@ use Rattle.wkb_command.specs.Calls.{IsHex, IsHexOf}
 use Rattle.wkb_command.specs.declared.program.Command.{Command}
 use Rattle.wkb_command.specs.declared.program.Command.TheVariants.{Same}
 use Rattle.wkb_command.specs.Program.{Spells, one, two, line_feed, IsOneLine}
+use Rattle.wkb_command.specs.Reports.{IsCut}
 
 -- ---- hex
 
@@ -79,15 +80,14 @@ spelled_around text x cases inputs (two {first} {second} hex more) =
     split_after 10 (first ++ line_feed ∷ second) first second (Some x) cases (lit< tt) refl (hex_one_line hex) in
     ((rw parts.0 (IsHex-from hex)), (rw parts.1 (IsHex-from more)), (rw parts.1 (hex_no_feed more)))
 
--- the parts of a text on both sides of its first line feed
-pub record IsCut (text first second : List ℕ) : Type 0 where
-  pub whole : text ≡ first ++ line_feed ∷ second
-  pub spelled : (inputs : List (List ℕ)) → Spells Same text inputs → IsHex first × IsHex second × ¬ HasFeed second
+module _ (text : List ℕ) (r : Option (Bor (List ℕ) × Bor (List ℕ))) (x : Bor (List ℕ) × Bor (List ℕ))
+    (cases : IsSplitOnceResult 10 text r) (is : r ≡ Some x) where
+  pub cut_of : IsCut text x.0.now x.1.now
+  cut_of =
+      let at_some = rw is at cases in record {
+        whole = (split_parts 10 text (Some x) at_some (lit< tt)).0;
+        spelled = λ inputs spelled. let around = spelled_around text x at_some inputs spelled in (around.0, around.1);
+      }
 
-pub cut_of : (text : List ℕ) (r : Option (Bor (List ℕ) × Bor (List ℕ))) (x : Bor (List ℕ) × Bor (List ℕ))
-    → IsSplitOnceResult 10 text r → r ≡ Some x → IsCut text x.0.now x.1.now
-cut_of text r x cases is =
-    let at_some = rw is at cases in record {
-      whole = (split_parts 10 text (Some x) at_some (lit< tt)).0;
-      spelled = spelled_around text x at_some;
-    }
+  pub more_spells_none : HasFeed x.1.now → (inputs : List (List ℕ)) → ¬ Spells Same text inputs
+  more_spells_none found inputs spelled = (spelled_around text x (rw is at cases) inputs spelled).2 found

@@ -1,7 +1,7 @@
 -- What reports say.
 use Rattle.std.proofs.Common.{◌≡◌, ◌≢◌, ℕ, List, [], ◌∷◌, ◌++◌, append_assoc, refl, ◌∙◌}
 use Rattle.std.proofs.Common.{Bool, true, false, Option, Some, None, Result, ◌⊎◌, inl, inr, IfOk}
-use Rattle.std.specs.Prelude.{codes, if◌then◌else◌}
+use Rattle.std.specs.Prelude.{codes}
 use Rattle.std.specs.Fmt.{decimal}
 use Rattle.std.specs.declared.alloc.AllocError.{AllocError}
 use Rattle.std.proofs.lemmas.Result.{IfOk-weaker}
@@ -21,11 +21,11 @@ use Rattle.wkb_command.specs.declared.program.Command.TheVariants.{Rewrite, Rewr
 use Rattle.wkb_command.specs.declared.program.Report.{Report}
 use Rattle.wkb_command.specs.Readings.{HasSrid}
 use Rattle.wkb_command.specs.Calls.{IsHex, OfHex, OfTwoHexes, IsCost, AreCompared, FailsOn, FailsOnTwo}
-use Rattle.wkb_command.specs.Program.{Spells, one, two, line_feed, IsOneLine, TellsError, counts, hex_line}
+use Rattle.wkb_command.specs.Program.{Spells, one, two, IsOneLine, TellsError, counts, hex_line}
 use Rattle.wkb_command.specs.Program.{Says, rewritten, rewritten_with_srid, same, different, accepted, counted_refusal}
 use Rattle.wkb_command.specs.Program.{srid, no_srid, refused, second_refused, Replies, said}
-use Rattle.wkb_command.specs.Reports.{IsReport, IsReportOn, IsFailureOn}
-use Rattle.wkb_command.proofs.Spelled.{IsHex-from, IsCut}
+use Rattle.wkb_command.specs.Reports.{IsReport, IsReportOn, IsFailureOn, IsCut}
+use Rattle.wkb_command.proofs.Spelled.{IsHex-from}
 
 -- the line for an error other than the end of the input
 pub tells_text : (e : WkbError) (text line : List ℕ) → ((x : _) → e ≡ errors.IOError x → ⊥) → IsOneLine text
@@ -66,8 +66,7 @@ says_pair a b line e (inr h) told = second_refused h.0 h.1 told
 
 pub fails_two : (text first second : List ℕ) (failure : HexFault) → IsCut text first second
     → FailsOnTwo first second IsPairRefusal failure → IsFailureOn Same text failure
-fails_two text first second NotHex cut h =
-    λ inputs spelled. let around = cut.spelled inputs spelled in h (around.0, around.1)
+fails_two text first second NotHex cut h = λ inputs spelled. h (cut.spelled inputs spelled)
 fails_two text first second (Wkb e) cut h =
     λ line told. rw cut.whole (said (two h.1 h.2.1) (says_pair h.0 h.2.0 line e h.2.2 told))
 fails_two text first second Memory cut h = tt
@@ -83,11 +82,19 @@ pub says_rewritten_with_srid : (order : Endianness) (text items : List ℕ)
     → Replies (RewriteWithSrid order) text (hex_line items) 0
 says_rewritten_with_srid order text items h = said (one (λ is. cc) h.1) (rewritten_with_srid h.2)
 
-pub says_compared : (text first second : List ℕ) (equal : Bool) → text ≡ first ++ line_feed ∷ second
-    → OfTwoHexes first second (AreCompared equal)
-    → Replies Same text (if equal then codes "same\n" else codes "different\n") 0
-says_compared text first second true whole h = rw whole (said (two h.1 h.2.1) (same h.2.2))
-says_compared text first second false whole h = rw whole (said (two h.1 h.2.1) (different h.2.2))
+pub says_same : (text first second : List ℕ) (equal : Bool) (r : Result Report AllocError) → IsCut text first second
+    → IfOk r (IsReport (codes "same\n") 0) → equal ≡ true → OfTwoHexes first second (AreCompared equal)
+    → IfOk r (IsReportOn Same text)
+says_same text first second equal r cut new is h =
+    reports_line Same text _ 0 r new (rw cut.whole (said (two h.1 h.2.1) (same (rw is at h.2.2))))
+
+pub says_different : (text first second : List ℕ) (equal : Bool) (r : Result Report AllocError)
+    → IsCut text first second → IfOk r (IsReport (codes "different\n") 0) → equal ≡ false
+    → OfTwoHexes first second (AreCompared equal) → IfOk r (IsReportOn Same text)
+says_different text first second equal r cut new is h =
+    reports_line Same text _ 0 r new (rw cut.whole (said (two h.1 h.2.1) (different (rw is at h.2.2))))
+
+pub ruleset comparison_laws = (says_same, says_different)
 
 pub counts_line : (verdict line : List ℕ) (turns slots : ℕ)
     → line ≡ verdict ++ (codes " turns " ++ (decimal turns ++ (codes " slots " ++ (decimal slots ++ codes "\n"))))

@@ -40,8 +40,7 @@ IsCost cost bytes =
     MatchBool cost.accepted (Accepts bytes cost.counts.turns cost.counts.slots)
     ((cause : Cause) × IsRefused bytes cause cost.counts.turns cost.counts.slots)
 
--- A failure, if this says that the texts are hex, and that an error is right for what they spell. Every call may fail
--- to allocate.
+-- A failure of a call: not all of its texts are hex, or an error is right for what they spell, or an allocation failed.
 abbrev pub IsFailureOf : Type 0 → (WkbError → Type 0) → HexFault → Type 0
 IsFailureOf AreHex IsRight NotHex = ¬ AreHex
 IsFailureOf AreHex IsRight (Wkb e) = IsRight e

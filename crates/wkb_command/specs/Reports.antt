@@ -1,10 +1,13 @@
 -- What a report says: the line that it is written as, and its status.
-use Rattle.std.specs.Prelude.{◌≡◌, ℕ, List, Result, Ok, Err, string_bytes}
+use Rattle.std.specs.Prelude.{◌≡◌, ℕ, List, ◌∷◌, ◌++◌, Option, MatchOption, Result, Ok, Err, string_bytes}
+use Rattle.std.specs.Borrow.{Bor}
 use Rattle.std.specs.declared.alloc.AllocError.{AllocError}
-use Rattle.wkb_command.specs.Program.{hex_line, status_refused, Spells, Replies, TellsError}
+use Rattle.wkb_command.specs.Calls.{IsHex}
+use Rattle.wkb_command.specs.Program.{hex_line, line_feed, status_refused, Spells, Replies, TellsError}
 use Rattle.wkb_command.specs.declared.calls.HexFault.{HexFault}
 use Rattle.wkb_command.specs.declared.calls.HexFault.TheVariants.{NotHex, Wkb, Memory}
 use Rattle.wkb_command.specs.declared.program.Command.{Command}
+use Rattle.wkb_command.specs.declared.program.Command.TheVariants.{Same}
 use Rattle.wkb_command.specs.declared.program.Report.{Report}
 use Rattle.wkb_command.specs.declared.program.Output.{Output}
 use Rattle.wkb_command.specs.declared.program.Output.TheVariants.{Text, Hex}
@@ -27,6 +30,16 @@ abbrev pub IsFailureOn : Command → List ℕ → HexFault → Type 0
 IsFailureOn command text NotHex = (inputs : List (List ℕ)) → ¬ Spells command text inputs
 IsFailureOn command text (Wkb e) = (line : List ℕ) → TellsError e line → Replies command text line status_refused
 IsFailureOn command text Memory = Unit {0}
+
+-- a text is these lines, and what it spells for `same` is their hex
+pub record IsCut (text first second : List ℕ) : Type 0 where
+  pub whole : text ≡ first ++ line_feed ∷ second
+  pub spelled : (inputs : List (List ℕ)) → Spells Same text inputs → IsHex first × IsHex second
+
+-- the two lines of a text, or None if it spells nothing for `same`
+abbrev pub AreTwoLines : List ℕ → Option (Bor (List ℕ) × Bor (List ℕ)) → Type 0
+AreTwoLines text result =
+    MatchOption result ((inputs : List (List ℕ)) → ¬ Spells Same text inputs) (λ x. IsCut text x.0.now x.1.now)
 
 -- the line and the status of a report, if there was memory for one
 abbrev pub IsLineOf : Result Report AllocError → List ℕ → ℕ → Type 0

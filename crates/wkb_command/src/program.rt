@@ -5,6 +5,7 @@ ghost use Rattle.wkb_command.specs.Program.{IsCommandNamed, IsCommandOf, AreNoCo
 ghost use Rattle.wkb_command.specs.Program.{IsBody, Spells, IsOneLine, status_refused, TellsError};
 ghost use Rattle.wkb_command.specs.Program.{counts, RunEnds, IsRunOf};
 ghost use Rattle.wkb_command.specs.Reports.{line_of, IsReport, IsReportOn, IsFailureOn, IsLineOf};
+ghost use Rattle.wkb_command.specs.Reports.{AreTwoLines};
 ghost use Rattle.wkb_command.specs.Transfer.{WroteBeginning};
 
 use crate::calls::{HexFault, cost_hex, rewrite_hex, rewrite_hex_with_srid, same_hex, srid_hex};
@@ -184,16 +185,24 @@ fn rewriting_with_srid_report(
     }
 }
 
-/// The report on two lines.
+/// The lines of a text that has two.
+fn two_lines(text: &str) -> Option<(&str, &str)>
+    ensures { AreTwoLines text.now result }
+{
+    let (first, second) = text.split_once('\n')?;
+    if second.contains('\n') {
+        return None;
+    }
+    Some((first, second))
+}
+
+#[tactic(auto, using(crate::proofs::Told::comparison_laws))]
 fn comparison_report(alloc: Global, text: &str) -> Result<Report, AllocError>
     ensures { IfOk result (IsReportOn Command.Same text.now) }
 {
-    let Some((first, second)) = text.split_once('\n') else {
+    let Some((first, second)) = two_lines(text) else {
         return Report::not_hex(alloc);
     };
-    if second.contains('\n') {
-        return Report::not_hex(alloc);
-    }
     let equal = match same_hex(alloc, first, second) {
         Ok(equal) => equal,
         Err(failure) => return failure_report(alloc, failure),
