@@ -49,6 +49,7 @@ use Rattle.wkb_column_laws.proofs.ThereAndBackRows.{HoldsLevels, row_there}
 use Rattle.wkb_column_laws.proofs.ThereAndBackRows.{row_goes, given, single_level, ring_level, keeps_given}
 use Rattle.wkb_column_laws.proofs.ThereAndBackRows.{BeginsAt, begins_at}
 
+-- a part of bytes is bytes
 range_bytes : (bytes : List ℕ) (start end : ℕ) → AreBytes bytes → AreBytes (slice_range bytes start end)
 range_bytes bytes start end are =
     let rest = drop start bytes in
@@ -59,6 +60,7 @@ module _ {c : Column} {dimension : ℕ} {asked : Dimension} {statuses : List ℕ
     (g : AreGivenOn c dimension asked statuses rows l) where
   -- a row whose levels were written
   module _ {i : ℕ} (below : i < rows) {s : Spelling} {t : Value} (lv : IsLevelled c asked statuses i s t) where
+    -- the rows up to this one, and those before it
     behind : Stage asked (Done g (suc i)) g.to g.now
     behind = stage g rows (suc i) g.to g.now (omega (arith, below)) g.written
 
@@ -80,6 +82,7 @@ module _ {c : Column} {dimension : ℕ} {asked : Dimension} {statuses : List ℕ
     far : Reaches from to
     far = (row_says behind.done.1.1.1 done_before.small).far
 
+    -- its levels are there
     there : HoldsLevels asked g.out behind.lists from to (subjects s t)
     there = row_there g.short done_before.long g.asked_is lv.ok lv.is_row lv.front behind.done.1.1.1
 
@@ -90,6 +93,7 @@ module _ {c : Column} {dimension : ℕ} {asked : Dimension} {statuses : List ℕ
     kept_before : Keeps asked from before (given g)
     kept_before = keeps_on (row_goes g.short done_before.long g.asked_is behind.done.1.1.1).keeps far kept
 
+    -- where it begins and ends in what is given on
     begin : BeginsAt (levels_in l) i from
     begin = begins_at g i from before rows_before kept_before (room_before asked g.out from to far there.room)
 
@@ -104,12 +108,13 @@ module _ {c : Column} {dimension : ℕ} {asked : Dimension} {statuses : List ℕ
         let begins = begins_at g (suc j) s.at s.lists s.done (keeps_on s.kept s.far kept_before) fits in
         (s.at, (s.far, begins))
 
+    -- its singles, and how many words and rings they have
     abbrev own : List (List (List (List ℕ)))
     own = singles_in s t
 
-    words_are : HaveWords asked (subjects s t) own
+    words_are : HaveWords asked (subjects s t) (joined (joined own))
     words_are =
-        subst (λ d. HaveWords d (subjects s t) own) lv.dimension_is
+        subst (λ d. HaveWords d (subjects s t) (joined (joined own))) lv.dimension_is
         (have_words s t lv.front.front lv.plain lv.front.spelled)
 
     sum_is : sum (flat_map ring_counts (subjects s t)) ≡ length (joined (joined own))
@@ -139,6 +144,7 @@ module _ {c : Column} {dimension : ℕ} {asked : Dimension} {statuses : List ℕ
       coordinates = end.coordinates ∙ there.coordinates ∙ (λ k. sym begin.coordinates k + sum_is k);
     }
 
+    -- they are clear of earlier rows
     clear : IsClear (levels_in l) (as_dimensions asked) i
     clear = record {
       spans = spans_are holds;
@@ -148,6 +154,7 @@ module _ {c : Column} {dimension : ℕ} {asked : Dimension} {statuses : List ℕ
           let e = earlier j h in omega (arith, e.1.1.coordinates, e.1.0.coordinates, begin.coordinates);
     }
 
+    -- they mean what the bytes spell
     means : Means s t
     means = singles_mean s t lv.front.front lv.plain lv.front.spelled
 
@@ -155,6 +162,7 @@ module _ {c : Column} {dimension : ℕ} {asked : Dimension} {statuses : List ℕ
         ≡ Some (as_spelled s t)
     row_meant = rw (singles_are holds) (rw lv.dimension_is at means.meant)
 
+    -- which can be written
     front_bytes_are : AreBytes lv.front.front
     front_bytes_are =
         front_bytes lv.row s t lv.rest (rw lv.is_row.slice.row_is
@@ -169,6 +177,7 @@ module _ {c : Column} {dimension : ℕ} {asked : Dimension} {statuses : List ℕ
     present : is_unset_bit l.validity.now (l.validity_offset + i) ≡ false
     present = (λ k. is_unset_bit (g.levels.validity k) (g.levels.validity_offset k + i)) ∙ lv.is_row.present
 
+    -- so the row has the encoding of that
     has_encoding : (o : Options) (request : Request) → request_of o ≡ Some request
         → HasLevelEncoding l (target_asked (kind t) dimension o) i
         (bytes_of (options_for request None) (as_spelled s t))
@@ -188,21 +197,25 @@ module _ {c : Column} {dimension : ℕ} {asked : Dimension} {statuses : List ℕ
           };
         }
 
+-- for every column
 pub back_as_spelled : BackAsSpelled
 back_as_spelled c dimension asked statuses rows l g i below s t lv o request asked_so =
     has_encoding g below lv o request asked_so
 
 -- ---- one encoding
 
+-- a row of levels has one encoding
 one_level_encoding : {l : LevelColumn} {asked : Option LevelTarget} {i : ℕ} {x y : List ℕ}
     → HasLevelEncoding l asked i x → HasLevelEncoding l asked i y → x ≡ y
 one_level_encoding a b = cc
 
 -- ---- what is written of the row itself
 
+-- an encoding under EWKB
 abbrev encoding_in : Endianness → Option ℕ → Geometry → List ℕ
 encoding_in order srid g = encoding order (Ewkb srid) g
 
+-- only one number of a form asks for the row's own SRID
 own_srid : (o : Options) (order : Endianness) → request_of o ≡ Some (OwnSrid order) → o.form ≡ EWKB_OWN_SRID
 own_srid o order asked = grind (arith, nat_tests)
 
@@ -235,6 +248,7 @@ answered {l} {i = i} {encoding = encoding} has (failed (unfit present t is_asked
     absurd (differ encoding (subst (λ t. HasRowEncoding (levels_in l) t.kind t.dim t.options i encoding) same
     has.encoding))
 
+-- both together
 pub there_and_back : ThereAndBack
 there_and_back c dimension asked statuses rows l g i below s t lv empty o none encoding has told ends out each inside =
     let request = has.has.request in

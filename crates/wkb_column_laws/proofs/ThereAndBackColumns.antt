@@ -41,6 +41,7 @@ never_fails {status = status} {rest = rest} {s = s} {t = t} is front asked (fail
     (subst (λ z. columns.IsRefusedWith z status) (one_row is' is) (fault, why))
 
 module _ {status start end : ℕ} {out : List ℕ} where
+  -- of a row that is written, and of a row of which nothing is
   tells_ok : {bytes : List ℕ} → status ≡ OK → end ≡ start + length bytes → slice_range out start end ≡ bytes
       → Tells OK bytes status start end out
   tells_ok ok end_is range = record {
@@ -57,6 +58,7 @@ module _ {status start end : ℕ} {out : List ℕ} where
   grown {told} {bytes} t =
       ap (λ k. take k out) t.end_is ∙ take-add start (length bytes) out ∙ ap (λ z. take start out ++ z) t.range
 
+  -- what is told of it in the column, with room for all
   tells_encoding : {c : Column} {o : Options} {i : ℕ} → (RowFails (FailsToWrite o) c i status → ⊥)
       → (status ≡ NO_ROOM → ⊥)
       → IsRowAnswer (RowHas (HasEncoding o) c) (RowFails (FailsToWrite o) c) i status start end out
@@ -65,6 +67,7 @@ module _ {status start end : ℕ} {out : List ℕ} where
   tells_encoding fine room (no_room bytes has is end_is short) = absurd (room is)
   tells_encoding fine room (failed why end_is) = absurd (fine why)
 
+  -- and of its levels
   tells_back : {i : ℕ} {bytes : List ℕ} → (status ≡ NO_ROOM → ⊥) → IsWrittenBack bytes i status start end out
       → Tells OK bytes status start end out
   tells_back room (handed own same ok end_is inside range) =
@@ -74,6 +77,7 @@ module _ {status start end : ℕ} {out : List ℕ} where
 
   -- ---- a null row
 
+  -- in the column, and in the levels
   null_tells : {c : Column} {i : ℕ} {o : Options} → is_null_row c i ≡ true
       → IsRowAnswer (RowHas (HasEncoding o) c) (RowFails (FailsToWrite o) c) i status start end out
       → Tells NULL_ROW [] status start end out
@@ -104,6 +108,7 @@ record SameRow (told ends out back_told back_ends back : List ℕ) (i : ℕ) : T
 
 module _ {told ends out back_told back_ends back : List ℕ} {rows : ℕ}
     (each : (i : ℕ) → i < rows → SameRow told ends out back_told back_ends back i) where
+  -- so they write the same up to each row
   up_to : (n : ℕ) → n ≤ rows
       → (start_at 0 ends n ≡ start_at 0 back_ends n)
       × (take (start_at 0 ends n) out ≡ take (start_at 0 back_ends n) back)
@@ -115,6 +120,7 @@ module _ {told ends out back_told back_ends back : List ℕ} {rows : ℕ}
         grown row.first ∙ ap (λ z. z ++ row.bytes) before.1 ∙ sym (grown row.second),
       )
 
+  -- and up to all
   columns_same : AreTheSame rows told ends out back_told back_ends back
   columns_same = record {
     statuses = λ i below. let row = each i below in row.first.status_is ∙ sym row.second.status_is;
@@ -122,6 +128,7 @@ module _ {told ends out back_told back_ends back : List ℕ} {rows : ℕ}
     bytes = (up_to rows (omega arith)).1;
   }
 
+-- each row is null, or comes back
 pub columns_come_back : ColumnsComeBack
 columns_come_back c dimension asked statuses rows l g k o request asked_so come told ends out each there room back_told
     back_ends back each_back there' room' =

@@ -26,17 +26,20 @@ use Rattle.wkb_column_laws.specs.ThereAndBack.{point_spelled, points_spelled, as
 
 -- ---- it is a lawful geometry
 
+-- the words that bytes spell are words
 words_fit : (order : Endianness) (c bytes : List ℕ) → AreBytes bytes → IsEach (IsNumber order 8) c bytes
     → AllByRecursion IsWord c
 words_fit order [] bytes b h = tt
 words_fit order (w ∷ c) bytes b h =
     let both = bytes_of h b in (number-lt order 8 w h.front h.first both.0, words_fit order c h.rest both.1 h.second)
 
+-- a coordinate of these is one of a caller's
 coordinate_lawful : (order : Endianness) (d : Dimension) (c bytes : List ℕ) → AreBytes bytes
     → SpellsCoordinate order d c bytes → IsCoordinate (as_dimensions d) c
 coordinate_lawful order d c bytes b h =
     record { len = h.len ∙ named_width d; words = words_fit order c bytes b h.words }
 
+-- so are the words of a point, also of an empty one
 point_lawful : (s : Spelling) (d : Dimension) (c : Option Coordinate) (bytes : List ℕ) → AreBytes bytes
     → Spells s (point d c) bytes → IsCoordinate (as_dimensions d) (point_spelled s c)
 point_lawful (node h words ss) d None bytes b spelled =
@@ -46,6 +49,7 @@ point_lawful (node h words ss) d (Some c) bytes b spelled =
     let body = (bytes_of spelled.second (bytes_of spelled b).1).0 in
     coordinate_lawful h.order d c spelled.second.front body spelled.second.first.2
 
+-- and those of the points of a multi point
 points_lawful : (d : Dimension) (ss : Spellings) (points : List (Option Coordinate)) (bytes : List ℕ) → AreBytes bytes
     → SpellsEach (part 1 d) ss (each (point d) points) bytes
     → AllByRecursion (IsPoint (as_dimensions d)) (map (λ c. Some c) (points_spelled ss points))
@@ -57,6 +61,7 @@ points_lawful d (spelling s ss) (c ∷ points) bytes b spelled =
       points_lawful d ss points spelled.rest both.1 spelled.second,
     )
 
+-- which has as many as before
 as_many : (d : Dimension) (ss : Spellings) (points : List (Option Coordinate)) (bytes : List ℕ)
     → SpellsEach (part 1 d) ss (each (point d) points) bytes → length (points_spelled ss points) ≡ length points
 as_many d ss [] bytes spelled = refl
@@ -69,6 +74,7 @@ record IsLikeValue (s : Spelling) (t : Value) : Type 0 where
   same_fault : fault (as_spelled s t) ≡ fault (geometry_of t)
   same_size : value_size (normal (as_spelled s t)) ≡ value_size (normal (geometry_of t))
 
+-- what bytes spell is like its value
 like_value : (s : Spelling) (t : Value) (bytes : List ℕ) → AreBytes bytes → Spells s t bytes → IsLikeValue s t
 like_value s (point d c) bytes b spelled =
     record { lawful = point_lawful s d c bytes b spelled; same_fault = refl; same_size = refl }
@@ -86,10 +92,12 @@ like_value s t bytes b spelled =
 
 -- ---- it can be written
 
+-- a form has at most one SRID
 at_most_one : (b : Bool) → (if b then 1 else 0) ≤ 1
 at_most_one true = omega arith
 at_most_one false = omega arith
 
+-- it is no longer than the bytes and an SRID
 pub spelled_writable : (order : Endianness) (form : Form) (s : Spelling) (t : Value) (bytes : List ℕ) → AreBytes bytes
     → length bytes < 2 ^ 63 → Spells s t bytes → refusal order form (as_spelled s t) ≡ None
 unfolding size_fault or_else
@@ -109,6 +117,7 @@ spelled_writable order form s t bytes b small spelled =
 
 -- ---- its encoding
 
+-- a point with the words of an empty one is written as the empty one
 point_same : (order : Endianness) (form : Form) (d : Dimension) (c : Option Coordinate)
     → point_encoding order form (written_dimension (as_dimensions d)) (Some (point_words d c))
     ≡ point_encoding order form (written_dimension (as_dimensions d)) c
@@ -117,6 +126,7 @@ point_same order form d (Some c) = refl
 point_same order form Xy None = refl
 point_same order form _ None = refl
 
+-- and points one behind another
 points_same : (order : Endianness) (form : Form) (d : Dimension) (points : List (Option Coordinate))
     → flat_map (point_encoding order form (written_dimension (as_dimensions d)))
     (map (λ c. Some c) (map (point_words d) points))
@@ -124,6 +134,7 @@ points_same : (order : Endianness) (form : Form) (d : Dimension) (points : List 
 points_same order form d [] = refl
 points_same order form d (c ∷ points) = λ i. point_same order form d c i ++ points_same order form d points i
 
+-- so is a geometry
 pub same_encoding : (order : Endianness) (form : Form) (s : Spelling) (t : Value) → HasEmptyWords s t
     → encoding order form (as_spelled s t) ≡ encoding order form (geometry_of t)
 same_encoding order form s (point d c) h = rw h (point_same order form d c)

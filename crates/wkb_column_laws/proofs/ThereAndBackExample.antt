@@ -36,6 +36,7 @@ abbrev bytes : List ℕ
 bytes =
     1 ∷ 1 ∷ 0 ∷ 0 ∷ 0 ∷ 0 ∷ 0 ∷ 0 ∷ 0 ∷ 0 ∷ 0 ∷ 0xf0 ∷ 0x3f ∷ 0 ∷ 0 ∷ 0 ∷ 0 ∷ 0 ∷ 0 ∷ 0 ∷ 0x40 ∷ []
 
+-- its words, its spelling and its value
 abbrev coordinate : List ℕ
 coordinate = 0x3ff0000000000000 ∷ 0x4000000000000000 ∷ []
 
@@ -58,6 +59,7 @@ column = record {
 abbrev statuses : List ℕ
 statuses = 0 ∷ 16 ∷ []
 
+-- its totals, and the lists before and after its levels are written
 abbrev after_point : Totals
 after_point = record { coordinates = 1; rings = 1; singles = 1 }
 
@@ -90,6 +92,7 @@ bytes_spell =
 front : Front bytes spelled value []
 front = record { front = bytes; whole = refl; spelled = bytes_spell; shallow = omega arith }
 
+-- they are the first row
 is_row : IsRow column 0 bytes
 unfolding number
 is_row = record {
@@ -115,11 +118,13 @@ point_put = record {
   are = refl;
 }
 
+-- the levels of the first row are written
 first_row : AreColumnCoordinates column 0 statuses (1 ∷ 1 ∷ []) out 1 after_point filled
 first_row =
     let put = handed Xy (subjects spelled value) point_put (written refl refl (search rules) refl) in
     (no_totals, (out, ((refl, refl), put, refl)))
 
+-- an encoding is bytes
 all_bytes : AreBytes bytes
 unfolding point_encoding header_encoding code_of srid_encoding words_encoding number_bytes point_words
 all_bytes = encoding_is_bytes LittleEndian Iso (geometry_of value)

@@ -1,4 +1,5 @@
 -- The singles of a geometry: what its subjects give each level, and the geometry that they mean.
+use Rattle.std.proofs.Common.{subst}
 use Rattle.wkb_abi.proofs.Common.{◌≡◌, ℕ, ◌<◌, List, [], ◌∷◌, ◌++◌, length, Option, Some, None, refl, ap, arith}
 use Rattle.wkb_abi.proofs.Common.{append-nil, Dimension, width, Coordinate}
 use Rattle.wkb_abi.proofs.Common.{Spelling, node, Spellings, no_spellings, spelling, Spells, SpellsEach, SpellsBody}
@@ -16,7 +17,7 @@ use Rattle.wkb_geom.specs.Spellings.{Wanted, part, member_part}
 use Rattle.wkb_geom.specs.Values.{each}
 use Rattle.wkb_geom.specs.declared.common.Dimension.TheVariants.{Xy, Xyz, Xym, Xyzm}
 use Rattle.wkb_geom.specs.declared.common.Endianness.{Endianness}
-use Rattle.wkb_check.specs.Subjects.{Subject, whole, ring, subjects, subjects_of_rings, subjects_of_each, coordinates_of}
+use Rattle.wkb_check.specs.Subjects.{Subject, whole, ring, subjects, subjects_of_rings, subjects_of_each}
 use Rattle.wkb_check.specs.Subjects.{dimension_in, subject_coordinates, rings_of}
 use Rattle.wkb_levels.specs.Cuts.{only_each}
 use Rattle.wkb_levels.specs.Meant.{kind_meant}
@@ -24,15 +25,15 @@ use Rattle.wkb_levels.specs.declared.row.Kind.{Kind}
 use Rattle.wkb_levels.specs.declared.row.Kind.TheVariants as kinds
 use Rattle.wkb_abi.specs.Coordinates.{words_asked, asked_subject_words, ring_counts, single_counts}
 use Rattle.wkb_abi.specs.LevelTargets.{kind_named}
-use Rattle.wkb_column_laws.specs.ThereAndBack.{points_spelled, as_spelled}
+use Rattle.wkb_column_laws.specs.ThereAndBack.{point_spelled, points_spelled, as_spelled}
 use Rattle.wkb_column_laws.proofs.ThereAndBackLevels.{joined, sizes_of, sizes_sum, AreWide}
 
 -- the singles of a geometry, each with its rings
 abbrev mutual
   pub singles_in : Spelling → Value → List (List (List Coordinate))
-  singles_in (node h words ss) (point d c) = (coordinates_of words (point d c) ∷ []) ∷ []
-  singles_in (node h words ss) (line_string d cs) = (cs ∷ []) ∷ []
-  singles_in (node h words ss) (polygon d rings) = rings ∷ []
+  singles_in s (point d c) = ((point_spelled s c ∷ []) ∷ []) ∷ []
+  singles_in s (line_string d cs) = (cs ∷ []) ∷ []
+  singles_in s (polygon d rings) = rings ∷ []
   singles_in (node h words ss) t = singles_of_each ss (members t)
 
   pub singles_of_each : Spellings → Values → List (List (List Coordinate))
@@ -49,6 +50,7 @@ Give xs singles =
     × (flat_map ring_counts xs ≡ sizes_of (joined singles))
     × (flat_map subject_coordinates xs ≡ joined (joined singles))
 
+-- singles behind singles
 give_both : (xs ys : List Subject) (s u : List (List (List Coordinate))) → Give xs s → Give ys u
     → Give (xs ++ ys) (s ++ u)
 give_both xs ys s u a b = (
@@ -57,6 +59,7 @@ give_both xs ys s u a b = (
   simp flat_map-append (λ i. a.2 i ++ b.2 i),
 )
 
+-- rings are no singles
 rings_give : (order : Endianness) (d : Dimension) (rings : List (List Coordinate))
     → (flat_map single_counts (subjects_of_rings order d rings) ≡ [])
     × (flat_map ring_counts (subjects_of_rings order d rings) ≡ sizes_of rings)
@@ -67,6 +70,7 @@ rings_give order d (cs ∷ rings) =
     (others.0, ap (λ z. length cs ∷ z) others.1, ap (λ z. cs ++ z) others.2)
 
 mutual
+  -- a geometry gives its singles
   pub gives : (s : Spelling) (t : Value) → Give (subjects s t) (singles_in s t)
   gives (node h words ss) (point d None) = (refl, refl, refl)
   gives (node h words ss) (point d (Some c)) = (refl, refl, refl)
@@ -106,24 +110,32 @@ all_asked Xym (x ∷ y ∷ m ∷ []) h = refl
 all_asked Xyzm (x ∷ y ∷ z ∷ m ∷ []) h = refl
 all_asked _ _ h = absurd (omega (arith, h))
 
+-- so have coordinates one behind another
 coordinate_words : (d : Dimension) (cs : List Coordinate) → AreWide (width d) cs
     → flat_map (words_asked d d) cs ≡ joined cs
 coordinate_words d [] wide = refl
 coordinate_words d (c ∷ cs) wide = λ i. all_asked d c wide.0 i ++ coordinate_words d cs wide.1 i
 
--- these subjects have words of this dimension
-record HaveOwnWords (d : Dimension) (xs : List Subject) : Type 0 where
-  words_are : flat_map (asked_subject_words d) xs ≡ joined (flat_map subject_coordinates xs)
-  wide : AreWide (width d) (flat_map subject_coordinates xs)
+-- the words that these subjects give in this dimension are those of these coordinates
+pub record HaveWords (d : Dimension) (xs : List Subject) (cs : List Coordinate) : Type 0 where
+  pub words_are : flat_map (asked_subject_words d) xs ≡ joined cs
+  pub wide : AreWide (width d) cs
 
+-- as they do of their own
+abbrev HaveOwnWords : Dimension → List Subject → Type 0
+HaveOwnWords d xs = HaveWords d xs (flat_map subject_coordinates xs)
+
+-- what each of two lists has, both have
 all_both : {A : Type 0} (P : A → Type 0) (xs ys : List A) → AllByRecursion P xs → AllByRecursion P ys
     → AllByRecursion P (xs ++ ys)
 all_both P [] ys a b = b
 all_both P (x ∷ xs) ys a b = (a.0, all_both P xs ys a.1 b)
 
+-- no subjects have no words
 words_none : (d : Dimension) → HaveOwnWords d []
 words_none d = record { words_are = refl; wide = tt }
 
+-- the words of subjects behind others
 words_both : {d : Dimension} (xs ys : List Subject) → HaveOwnWords d xs → HaveOwnWords d ys
     → HaveOwnWords d (xs ++ ys)
 words_both xs ys a b = record {
@@ -131,6 +143,7 @@ words_both xs ys a b = record {
   wide = rw flat_map-append (all_both _ (flat_map subject_coordinates xs) _ a.wide b.wide);
 }
 
+-- the words of one subject more
 words_more : (d : Dimension) (x : Subject) (xs : List Subject) → dimension_in x ≡ d
     → AreWide (width d) (subject_coordinates x) → HaveOwnWords d xs → HaveOwnWords d (x ∷ xs)
 words_more d x xs dimension_is wide others = record {
@@ -144,6 +157,7 @@ each_wide : (order : Endianness) (d : Dimension) (cs : List Coordinate) (bytes :
 each_wide order d [] bytes h = tt
 each_wide order d (c ∷ cs) bytes h = (h.first.len, each_wide order d cs h.rest h.second)
 
+-- the rings of a polygon
 rings_words : (order : Endianness) (d : Dimension) (rings : List (List Coordinate)) (bytes : List ℕ)
     → IsEach (SpellsCoordinates order d) rings bytes → HaveOwnWords d (subjects_of_rings order d rings)
 rings_words order d [] bytes h = words_none d
@@ -163,10 +177,12 @@ head_words h words ss (polygon d rings) bytes b =
     words_more d _ _ refl tt (rings_words h.order d rings b.1.rest b.1.second)
 head_words h words ss t bytes b = words_more (dimension t) _ [] refl tt (words_none (dimension t))
 
+-- the members of a geometry that is no collection are of one kind
 plain_part : (k : ℕ) (d : Dimension) → k < 7 → member_part k d ≡ part (k - 3) d
 plain_part k d low = rw (lt-ltb k 7 low)
 
 mutual
+  -- a geometry that is no collection, and members of one kind
   own_words : (s : Spelling) (t : Value) (bytes : List ℕ) → kind t < 7 → Spells s t bytes
       → HaveOwnWords (dimension t) (subjects s t)
   own_words (node h words ss) t bytes low spelled =
@@ -185,32 +201,26 @@ mutual
       (rw wanted.1 at (own_words s t spelled.front (omega (arith, low, wanted.0)) spelled.first.0))
       (each_words k d ss ts spelled.rest low spelled.second)
 
--- what the levels of a geometry that is no collection hold
-pub record HaveWords (d : Dimension) (xs : List Subject) (singles : List (List (List Coordinate))) : Type 0 where
-  pub words_are : flat_map (asked_subject_words d) xs ≡ joined (joined (joined singles))
-  pub wide : AreWide (width d) (joined (joined singles))
-
+-- so a geometry that is no collection gives those of its singles
 pub have_words : (s : Spelling) (t : Value) (bytes : List ℕ) → kind t < 7 → Spells s t bytes
-    → HaveWords (dimension t) (subjects s t) (singles_in s t)
+    → HaveWords (dimension t) (subjects s t) (joined (joined (singles_in s t)))
 have_words s t bytes low spelled =
-    let own = own_words s t bytes low spelled in
-    record { words_are = rw (← (gives s t).2) own.words_are; wide = rw (← (gives s t).2) own.wide }
+    subst (HaveWords (dimension t) (subjects s t)) (gives s t).2 (own_words s t bytes low spelled)
 
 -- ---- what the singles mean
 
+-- lists of one item each are their items
 only_ones : {A : Type 0} (xs : List A) → only_each (map (λ a. a ∷ []) xs) ≡ Some xs
 only_ones [] = refl
 only_ones (x ∷ xs) = rw (only_ones xs)
 
+-- points, by their words
 points_in : (w : Wanted) (d : Dimension) (ss : Spellings) (points : List (Option Coordinate)) (bytes : List ℕ)
     → SpellsEach w ss (each (point d) points) bytes
     → singles_of_each ss (each (point d) points) ≡ map (λ r. r ∷ []) (map (λ c. c ∷ []) (points_spelled ss points))
 points_in w d ss [] bytes spelled = refl
 points_in w d no_spellings (c ∷ points) bytes spelled = absurd spelled
-points_in w d (spelling (node h words us) ss) (None ∷ points) bytes spelled =
-    rw (points_in w d ss points spelled.rest spelled.second)
-points_in w d (spelling (node h words us) ss) (Some c ∷ points) bytes spelled =
-    rw (points_in w d ss points spelled.rest spelled.second)
+points_in w d (spelling s ss) (c ∷ points) bytes spelled = rw (points_in w d ss points spelled.rest spelled.second)
 
 -- members that are one single each, whatever their spellings
 members_in : {A : Type 0} (f : A → Value) (single : A → List (List Coordinate))
@@ -221,28 +231,18 @@ members_in f single one w no_spellings (a ∷ xs) bytes spelled = absurd spelled
 members_in f single one w (spelling s ss) (a ∷ xs) bytes spelled =
     rw (one s a, members_in f single one w ss xs spelled.rest spelled.second)
 
-one_line : (d : Dimension) (s : Spelling) (cs : List Coordinate) → singles_in s (line_string d cs) ≡ (cs ∷ []) ∷ []
-one_line d (node h words ss) cs = refl
-
-one_polygon : (d : Dimension) (s : Spelling) (rings : List (List Coordinate))
-    → singles_in s (polygon d rings) ≡ rings ∷ []
-one_polygon d (node h words ss) rings = refl
-
 -- the number of the kind names it, and as this kind the singles mean what the bytes spell
 pub record Means (s : Spelling) (t : Value) : Type 0 where
   pub kind_is : Kind
   pub named : kind_named (kind t) ≡ Some kind_is
   pub meant : kind_meant kind_is (as_dimensions (dimension t)) (singles_in s t) ≡ Some (as_spelled s t)
 
+-- of a geometry that is no collection they do
 pub singles_mean : (s : Spelling) (t : Value) (bytes : List ℕ) → kind t < 7 → Spells s t bytes → Means s t
-singles_mean (node h words ss) (point d None) bytes low spelled =
-    record { kind_is = kinds.Point; named = refl; meant = refl }
-singles_mean (node h words ss) (point d (Some c)) bytes low spelled =
-    record { kind_is = kinds.Point; named = refl; meant = refl }
-singles_mean (node h words ss) (line_string d cs) bytes low spelled =
+singles_mean s (point d c) bytes low spelled = record { kind_is = kinds.Point; named = refl; meant = refl }
+singles_mean s (line_string d cs) bytes low spelled =
     record { kind_is = kinds.LineString; named = refl; meant = refl }
-singles_mean (node h words ss) (polygon d rings) bytes low spelled =
-    record { kind_is = kinds.Polygon; named = refl; meant = refl }
+singles_mean s (polygon d rings) bytes low spelled = record { kind_is = kinds.Polygon; named = refl; meant = refl }
 singles_mean (node h words ss) (multi_point d points) bytes low spelled =
     let cs = points_spelled ss points in
     let are = points_in _ d ss points spelled.second.rest spelled.second.second in
@@ -252,9 +252,9 @@ singles_mean (node h words ss) (multi_point d points) bytes low spelled =
       meant = rw (are, only_ones (map (λ c. c ∷ []) cs), only_ones cs);
     }
 singles_mean (node h words ss) (multi_line_string d lines) bytes low spelled =
-    let are = members_in (line_string d) (λ cs. cs ∷ []) (one_line d) _ ss lines _ spelled.second.second in
+    let are = members_in (line_string d) (λ cs. cs ∷ []) (λ s cs. refl) _ ss lines _ spelled.second.second in
     record { kind_is = kinds.MultiLineString; named = refl; meant = rw (are, only_ones lines) }
 singles_mean (node h words ss) (multi_polygon d polygons) bytes low spelled =
-    let are = members_in (polygon d) (λ r. r) (one_polygon d) _ ss polygons _ spelled.second.second in
+    let are = members_in (polygon d) (λ r. r) (λ s rings. refl) _ ss polygons _ spelled.second.second in
     record { kind_is = kinds.MultiPolygon; named = refl; meant = rw (are, map-id polygons) }
 singles_mean s (collection d ts) bytes low spelled = absurd (omega (arith, low))

@@ -65,6 +65,7 @@ abbrev pub sizes_of : {A : Type 0} → List (List A) → List ℕ
 sizes_of xss = map (λ x. length x) xss
 
 module _ {A : Type 0} where
+  -- together they are as long
   pub sizes_sum : (xss : List (List A)) → sum (sizes_of xss) ≡ length (joined xss)
   sizes_sum [] = refl
   sizes_sum (x ∷ xss) = omega (arith, sum-first (length x) (sizes_of xss), sizes_sum xss, length-append x (joined xss))
@@ -118,15 +119,18 @@ module _ {A : Type 0} where
 abbrev pub AreWide : ℕ → List (List ℕ) → Type 0
 AreWide w cs = AllByRecursion (λ c. length c ≡ w) cs
 
+-- together they have so many times as many
 pub joined_length : (w : ℕ) (cs : List (List ℕ)) → AreWide w cs → length (joined cs) ≡ w * length cs
 joined_length w [] wide = omega arith
 joined_length w (c ∷ cs) wide =
     omega (arith, length-append c (joined cs), joined_length w cs wide.1, wide.0)
 
+-- cut by so many words they are as before
 runs_held : (w : ℕ) (cs : List (List ℕ)) → AreWide w cs → runs w (length cs) (joined cs) ≡ cs
 runs_held w [] wide = refl
 runs_held w (c ∷ cs) wide = rw (take_at c _ w wide.0, drop_at c _ w wide.0, runs_held w cs wide.1)
 
+-- and so as coordinates
 coordinates_held : (d : Dimensions) (cs : List (List ℕ)) → 0 < size d → AreWide (size d) cs
     → coordinates_in d (joined cs) ≡ cs
 coordinates_held d cs some wide =
@@ -149,28 +153,24 @@ pub record HoldsSingles (l : Levels) (d : Dimensions) (i : ℕ) (singles : List 
 
 module _ {l : Levels} {d : Dimensions} {i : ℕ} {singles : List (List (List (List ℕ)))}
     (h : HoldsSingles l d i singles) where
-  abbrev own_rings : List (List (List ℕ))
-  own_rings = joined singles
-
-  abbrev own_coordinates : List (List ℕ)
-  own_coordinates = joined own_rings
-
+  -- its coordinates are within the words
   within : coordinates_end l i ≤ length l.words.now / size d
   within =
       le-div (coordinates_end l i) (length l.words.now) (size d) h.some_words
       (rw (mul_comm (coordinates_end l i) (size d)) h.words.within)
 
-  coordinates_are : IsHeld (coordinates_in d l.words.now) (coordinates_begin l i) (coordinates_end l i) own_coordinates
+  -- the coordinates that it has, and its rings
+  coordinates_are : IsHeld (coordinates_in d l.words.now) (coordinates_begin l i) (coordinates_end l i) (joined (joined singles))
   coordinates_are = record {
     many = h.coordinates;
     within = omega (arith, within, length-runs (size d) (length l.words.now / size d) l.words.now);
     are =
         sym (coordinates_between d l.words.now (coordinates_begin l i) (coordinates_end l i) h.some_words
         (omega (arith, h.coordinates)) within)
-        ∙ ap (coordinates_in d) h.words.are ∙ coordinates_held d own_coordinates h.some_words h.wide;
+        ∙ ap (coordinates_in d) h.words.are ∙ coordinates_held d (joined (joined singles)) h.some_words h.wide;
   }
 
-  rings_are : IsHeld (column_rings l d) (rings_begin l i) (rings_end l i) own_rings
+  rings_are : IsHeld (column_rings l d) (rings_begin l i) (rings_end l i) (joined singles)
   rings_are = record {
     many = h.rings;
     within =
@@ -180,7 +180,7 @@ module _ {l : Levels} {d : Dimensions} {i : ℕ} {singles : List (List (List (Li
         sym (slice_range-pieces 0 (coordinates_in d l.words.now) (start_of l.ring_ends) (ends_of l.ring_ends)
         (rings_begin l i) (rings_end l i) (omega (arith, h.ring_ends.many, h.ring_ends.within)))
         ∙ ap (pieces_from 0 (coordinates_in d l.words.now) (coordinates_begin l i)) h.ring_ends.are
-        ∙ pieces_held own_rings (coordinates_in d l.words.now) (coordinates_begin l i) (coordinates_end l i)
+        ∙ pieces_held (joined singles) (coordinates_in d l.words.now) (coordinates_begin l i) (coordinates_end l i)
         coordinates_are;
   }
 
@@ -204,10 +204,11 @@ module _ {l : Levels} {d : Dimensions} {i : ℕ} {singles : List (List (List (Li
         (omega (arith, h.rings, h.ring_ends.within)));
     rings =
         rw h.ring_ends.are
-        (ends_rise (length l.words.now / size d) (coordinates_begin l i) own_rings
+        (ends_rise (length l.words.now / size d) (coordinates_begin l i) (joined singles)
         (omega (arith, h.coordinates, within)));
   }
 
+  -- and it spans items of each
   pub spans_are : SpansCoordinates l d i
   spans_are = record {
     rings = (

@@ -41,6 +41,7 @@ pub record Keeps (asked : Dimension) (at : Totals) (old new : LevelLists) : Type
   pub ring_ends : take at.rings new.ring_ends ≡ take at.rings old.ring_ends
   pub single_ends : take at.singles new.single_ends ≡ take at.singles old.single_ends
 
+-- lists that are the same up to a number are so up to fewer
 fewer : {A : Type 0} (m n : ℕ) (xs ys : List A) → m ≤ n → take n xs ≡ take n ys → take m xs ≡ take m ys
 fewer m n xs ys h same = sym (take-take m n xs h) ∙ ap (take m) same ∙ take-take m n ys h
 
@@ -53,6 +54,7 @@ keeps_on {asked} {at} {to} k far l = record {
   single_ends = fewer _ _ _ _ far.singles l.single_ends ∙ k.single_ends;
 }
 
+-- and on, of how far they reach
 pub reach_on : {a b c : Totals} → Reaches a b → Reaches b c → Reaches a c
 reach_on p q = record { coordinates = omega arith; rings = omega arith; singles = omega arith }
 
@@ -63,18 +65,21 @@ pub record IsPlaced (now : LevelLists) (at : Totals) : Type 0 where
   pub singles : start_at 0 now.single_ends at.singles ≡ at.rings
   pub rings : start_at 0 now.ring_ends at.rings ≡ at.coordinates
 
+-- where an item begins depends on the ends before it
 start_same : (xs ys : List ℕ) (k : ℕ) → take k xs ≡ take k ys → start_at 0 xs k ≡ start_at 0 ys k
 start_same xs ys zero same = refl
 start_same xs ys (suc k) same =
     sym (get_or-take (suc k) xs k 0 (omega arith)) ∙ ap (λ z. slice_index z k) same
     ∙ get_or-take (suc k) ys k 0 (omega arith)
 
+-- so lists that are the same up to there end there
 placed_on : {asked : Dimension} {at : Totals} {a b : LevelLists} → Keeps asked at a b → IsPlaced a at → IsPlaced b at
 placed_on {at = at} {a = a} {b = b} k is = record {
   singles = start_same b.single_ends a.single_ends at.singles k.single_ends ∙ is.singles;
   rings = start_same b.ring_ends a.ring_ends at.rings k.ring_ends ∙ is.rings;
 }
 
+-- the last end is the sum
 ends_last : (start : ℕ) (ns : List ℕ) → start_at start (ends start ns) (length (ends start ns)) ≡ start + sum ns
 ends_last start [] = omega arith
 ends_last start (n ∷ ns) =
@@ -90,11 +95,13 @@ held_ends {xs} {from} {to} start ns h is =
 
 -- ---- a row that is written
 
+-- items that are put behind a number change nothing before it
 take_before : {A : Type 0} (k at : ℕ) (xs items : List A) → k ≤ at → take k (sets xs at items) ≡ take k xs
 take_before k at xs [] h = refl
 take_before k at xs (a ∷ items) h =
     take_before k (suc at) (set xs at a) items (omega (arith, h)) ∙ take-set-le k xs at a h
 
+-- nor in front of themselves
 take_stays : {A : Type 0} (n : ℕ) (xs items : List A) → take n (sets xs n items) ≡ take n xs
 take_stays n xs items = take_before n n xs items (omega arith)
 
@@ -147,6 +154,7 @@ module _ {asked : Dimension} (xs : List Subject) (from : Totals) {out before : L
             held_put before.words _ _ _ (rw (wide, ← mul-add) (ap (λ n. width asked * n) coordinates)) room.words_fit;
       }
 
+  -- and the row goes on
   put_goes : AreCounted xs → GoesOn asked out from to before after
   put_goes counted =
       let keeps : Keeps asked from before after =
@@ -290,6 +298,7 @@ module _ {c : Column} {dimension : ℕ} {asked : Dimension} {statuses : List ℕ
         placed = λ room. goes.placed (d.placed (room_before asked g.out done.0 at says.far room)) room;
       }
 
+  -- the last of some rows is done on the way to itself
   last_stage : (n i : ℕ) (to : Totals) (now : LevelLists) → Done n to now → i ≡ n → Stage asked (Done i) to now
   last_stage n i to now done same = record {
     at = to;
@@ -330,6 +339,7 @@ module _ {c : Column} {dimension : ℕ} {asked : Dimension} {statuses : List ℕ
     single_ends = rw g.levels.single_ends (take-take _ _ g.now.single_ends (omega arith));
   }
 
+  -- where singles and rings end in them
   pub single_level : AreGivenEnds (levels_in l).single_ends l.single_ends.now
   single_level = given_ends l.single_ends l.singles g.levels.singles
 
