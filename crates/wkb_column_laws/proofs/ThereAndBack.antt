@@ -2,7 +2,7 @@
 use Rattle.wkb_abi.proofs.Common.{◌≡◌, ℕ, suc, ◌+◌, ◌*◌, ◌<◌, ◌^◌, List, length, drop, Option, Some, None, refl, sym, ap, ◌∙◌}
 use Rattle.wkb_abi.proofs.Common.{subst, arith, Dimension, width, Spelling, Value, kind, dimension}
 use Rattle.wkb_abi.proofs.Common.{length-append, header}
-use Rattle.std.specs.Prelude.{◌-◌, false, take, sum, flat_map, slice_range}
+use Rattle.std.specs.Prelude.{◌-◌, take, sum, flat_map, slice_range}
 use Rattle.std.proofs.Common.{take-append-drop}
 use Rattle.std.proofs.lemmas.Bool.Decides.{nat_tests}
 use Rattle.std.proofs.lemmas.List.{length-map}
@@ -73,11 +73,8 @@ module _ {c : Column} {dimension : ℕ} {asked : Dimension} {statuses : List ℕ
     abbrev to : Totals
     to = behind.at
 
-    abbrev rows_before : Done g i from before
-    rows_before = behind.done.1.1.0
-
     done_before : IsDone asked g.row_ends g.out i from before
-    done_before = rows_done g i from before rows_before
+    done_before = rows_done g i from before behind.done.1.1.0
 
     far : Reaches from to
     far = (row_says behind.done.1.1.1 done_before.small).far
@@ -95,7 +92,7 @@ module _ {c : Column} {dimension : ℕ} {asked : Dimension} {statuses : List ℕ
 
     -- where it begins and ends in what is given on
     begin : BeginsAt (levels_in l) i from
-    begin = begins_at g i from before rows_before kept_before (room_before asked g.out from to far there.room)
+    begin = begins_at g i from before behind.done.1.1.0 kept_before (room_before asked g.out from to far there.room)
 
     end : BeginsAt (levels_in l) (suc i) to
     end = begins_at g (suc i) to behind.lists behind.done kept there.room
@@ -103,7 +100,7 @@ module _ {c : Column} {dimension : ℕ} {asked : Dimension} {statuses : List ℕ
     -- an earlier row ends before it at each level
     earlier : (j : ℕ) → j < i → (at : Totals) × (Reaches at from × BeginsAt (levels_in l) (suc j) at)
     earlier j before_it =
-        let s = stage g i (suc j) from before (omega (arith, before_it)) rows_before in
+        let s = stage g i (suc j) from before (omega (arith, before_it)) behind.done.1.1.0 in
         let fits = room_before asked g.out s.at to (reach_on s.far far) there.room in
         let begins = begins_at g (suc j) s.at s.lists s.done (keeps_on s.kept s.far kept_before) fits in
         (s.at, (s.far, begins))
@@ -174,9 +171,6 @@ module _ {c : Column} {dimension : ℕ} {asked : Dimension} {statuses : List ℕ
         let long = length-range c.bytes.now r.start r.end r.span.inside in
         omega (arith, g.small, ap length lv.front.whole, length-append lv.front.front lv.rest, ap length r.row_is, r)
 
-    present : is_unset_bit l.validity.now (l.validity_offset + i) ≡ false
-    present = (λ k. is_unset_bit (g.levels.validity k) (g.levels.validity_offset k + i)) ∙ lv.is_row.present
-
     -- so the row has the encoding of that
     has_encoding : (o : Options) (request : Request) → request_of o ≡ Some request
         → HasLevelEncoding l (target_asked (kind t) dimension o) i
@@ -184,7 +178,8 @@ module _ {c : Column} {dimension : ℕ} {asked : Dimension} {statuses : List ℕ
     has_encoding o request asked_so =
         let options = options_for request None in
         record {
-          present = present;
+          present =
+              (λ k. is_unset_bit (g.levels.validity k) (g.levels.validity_offset k + i)) ∙ lv.is_row.present;
           target = record { kind = means.kind_is; dim = as_dimensions asked; options = options };
           is_asked = λ k. target_with (means.named k) (g.asked_is k) (asked_so k);
           encoding = record {

@@ -49,24 +49,17 @@ point_lawful (node h words ss) d (Some c) bytes b spelled =
     let body = (bytes_of spelled.second (bytes_of spelled b).1).0 in
     coordinate_lawful h.order d c spelled.second.front body spelled.second.first.2
 
--- and those of the points of a multi point
+-- and those of the points of a multi point, which are as many
 points_lawful : (d : Dimension) (ss : Spellings) (points : List (Option Coordinate)) (bytes : List ℕ) → AreBytes bytes
     → SpellsEach (part 1 d) ss (each (point d) points) bytes
     → AllByRecursion (IsPoint (as_dimensions d)) (map (λ c. Some c) (points_spelled ss points))
-points_lawful d ss [] bytes b spelled = tt
+    × (length (points_spelled ss points) ≡ length points)
+points_lawful d ss [] bytes b spelled = (tt, refl)
 points_lawful d no_spellings (c ∷ points) bytes b spelled = absurd spelled
 points_lawful d (spelling s ss) (c ∷ points) bytes b spelled =
-    let both = bytes_of spelled b in (
-      point_lawful s d c spelled.front both.0 spelled.first.0,
-      points_lawful d ss points spelled.rest both.1 spelled.second,
-    )
-
--- which has as many as before
-as_many : (d : Dimension) (ss : Spellings) (points : List (Option Coordinate)) (bytes : List ℕ)
-    → SpellsEach (part 1 d) ss (each (point d) points) bytes → length (points_spelled ss points) ≡ length points
-as_many d ss [] bytes spelled = refl
-as_many d no_spellings (c ∷ points) bytes spelled = absurd spelled
-as_many d (spelling s ss) (c ∷ points) bytes spelled = ap suc (as_many d ss points spelled.rest spelled.second)
+    let both = bytes_of spelled b in
+    let others = points_lawful d ss points spelled.rest both.1 spelled.second in
+    ((point_lawful s d c spelled.front both.0 spelled.first.0, others.0), ap suc others.1)
 
 -- what is known of it
 record IsLikeValue (s : Spelling) (t : Value) : Type 0 where
@@ -80,13 +73,8 @@ like_value s (point d c) bytes b spelled =
     record { lawful = point_lawful s d c bytes b spelled; same_fault = refl; same_size = refl }
 like_value (node h words ss) (multi_point d points) bytes b spelled =
     let members = spelled.second in
-    let many = as_many d ss points members.rest members.second in
-    record {
-      lawful =
-          points_lawful d ss points members.rest (bytes_of members (bytes_of spelled b).1).1 members.second;
-      same_fault = simp (length-map, many);
-      same_size = simp (length-map, many);
-    }
+    let all = points_lawful d ss points members.rest (bytes_of members (bytes_of spelled b).1).1 members.second in
+    record { lawful = all.0; same_fault = simp (length-map, all.1); same_size = simp (length-map, all.1) }
 like_value s t bytes b spelled =
     record { lawful = lawful-geometry_of t (spelled_good s t bytes b spelled).0; same_fault = refl; same_size = refl }
 

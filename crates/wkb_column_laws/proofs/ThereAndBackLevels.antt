@@ -71,32 +71,28 @@ module _ {A : Type 0} where
   sizes_sum (x ∷ xss) = omega (arith, sum-first (length x) (sizes_of xss), sizes_sum xss, length-append x (joined xss))
 
   -- what is held in two parts
-  held_first : {xs : List A} {from to : ℕ} (x y : List A) → IsHeld xs from to (x ++ y)
-      → slice_range xs from (from + length x) ≡ x
-  held_first {xs} {from} {to} x y h =
+  held_parts : {xs : List A} {from to : ℕ} (x y : List A) → IsHeld xs from to (x ++ y)
+      → (slice_range xs from (from + length x) ≡ x) × IsHeld xs (from + length x) to y
+  held_parts {xs} {from} {to} x y h =
+      let both = length-append x y in
       let wide : from + length x - from ≡ length x = omega arith in
-      let short : length x ≤ to - from = omega (arith, h.many, length-append x y) in
-      rw wide (sym (take-take (length x) (to - from) (drop from xs) short) ∙ ap (take (length x)) h.are
-      ∙ take_at x y (length x) refl)
-
-  held_rest : {xs : List A} {from to : ℕ} (x y : List A) → IsHeld xs from to (x ++ y)
-      → IsHeld xs (from + length x) to y
-  held_rest {xs} {from} {to} x y h =
-      let long : length x + (to - (from + length x)) ≡ to - from = omega (arith, h.many, length-append x y) in
-      record {
-        many = omega (arith, h.many, length-append x y);
-        within = h.within;
-        are =
-            rw (← drop-drop (length x) from xs, ← drop-take, long, h.are) (drop_at x y (length x) refl);
-      }
+      let long : length x + (to - (from + length x)) ≡ to - from = omega (arith, h.many) in
+      let front = take-take (length x) (to - from) (drop from xs) (omega (arith, h.many)) in (
+        rw wide (sym front ∙ ap (take (length x)) h.are ∙ take_at x y (length x) refl),
+        record {
+          many = omega (arith, h.many);
+          within = h.within;
+          are = rw (← drop-drop (length x) from xs, ← drop-take, long, h.are) (drop_at x y (length x) refl);
+        },
+      )
 
   -- where one list holds them, its pieces are these
   pieces_held : (xss : List (List A)) (items : List A) (start end : ℕ) → IsHeld items start end (joined xss)
       → pieces_from 0 items start (ends start (sizes_of xss)) ≡ xss
   pieces_held [] items start end held = refl
   pieces_held (x ∷ xss) items start end held =
-      let others = pieces_held xss items (start + length x) end (held_rest x (joined xss) held) in
-      simp (sub-zero, held_first x (joined xss) held, others)
+      let parts = held_parts x (joined xss) held in
+      simp (sub-zero, parts.0, pieces_held xss items (start + length x) end parts.1)
 
   -- their ends don't fall, nor pass the limit
   ends_rise : (limit start : ℕ) (xss : List (List A)) → start + length (joined xss) ≤ limit
