@@ -1,8 +1,9 @@
-use Rattle.std.proofs.Common.{◌≡◌, [], ap, subst, sym, ◌∙◌}
+use Rattle.std.proofs.Common.{◌≡◌, [], map, Some, ap, subst, sym, ◌∙◌}
 use Rattle.wkb.specs.AllCoordinates.{coordinates_fit, words_are_whole, coordinates_again}
 use Rattle.wkb.specs.Encodings.{encoding_of, refusal_of}
 use Rattle.wkb.specs.Geometries.{AreCoordinates, multi_point}
 use Rattle.wkb.specs.Levels.{points_dimensions, points_points}
+use Rattle.wkb.specs.Plain.{line_string_coordinates, coordinates_in}
 use Rattle.wkb.specs.Prelude.{as_dimensions}
 use Rattle.wkb.specs.Values.{dimension}
 use Rattle.wkb.specs.Writes.{IsVecError}
@@ -33,8 +34,11 @@ meant : (c : After-to_vec)
     ≡ points_meant c.args.geometry.now.value
 meant c fits are =
     let t = c.args.geometry.now.value in
-    let again = coordinates_again (dimension t) (coordinates_of t) fits in
-    cc
+    let same : line_string_coordinates c.in-Some.line ≡ coordinates_of t =
+    c.in-Some.ensures.coordinates ∙ (λ i. coordinates_in (c.dim.ensures i) (are i))
+    ∙ coordinates_again (dimension t) (coordinates_of t) fits in
+    let dims = c.new-3.ensures.dimensions ∙ c.in-Some.ensures.dimensions ∙ c.dim.ensures in
+    λ i. multi_point (dims i) ((c.new-3.ensures.points ∙ ap (map (λ x. Some x)) same) i)
 
 pub unreachable-requires : goal.unreachable-requires
 unreachable-requires c =
