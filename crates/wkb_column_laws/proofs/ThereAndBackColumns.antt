@@ -1,7 +1,6 @@
 -- Columns whose rows are all null, or come back from their levels, come back as a whole.
-use Rattle.wkb_abi.proofs.Common.{◌≡◌, ℕ, zero, suc, ◌+◌, ◌≤◌, ◌<◌, List, [], ◌++◌, length, drop}
-use Rattle.wkb_abi.proofs.Common.{Option, Some, refl, sym, ap, ◌∙◌, subst, arith, Spelling, Value}
-use Rattle.wkb_abi.proofs.Common.{slice_index}
+use Rattle.wkb_abi.proofs.Common.{◌≡◌, ℕ, zero, suc, ◌+◌, ◌≤◌, ◌<◌, List, [], ◌++◌, length, drop, Option, Some, refl, sym}
+use Rattle.wkb_abi.proofs.Common.{ap, ◌∙◌, subst, arith, Spelling, Value, slice_index}
 use Rattle.std.specs.Prelude.{take, true, slice_range}
 use lib.Seq.{take-add}
 use Rattle.wkb_geom.specs.Fronts.{Front}
@@ -11,8 +10,7 @@ use Rattle.wkb_abi.specs.Columns as columns
 use Rattle.wkb_abi.specs.LevelRows.{EncodeLevels, HasLevelEncoding, LacksLevels, level_rows}
 use Rattle.wkb_abi.specs.LevelRows as in_levels
 use Rattle.wkb_abi.specs.Requests.{request_of}
-use Rattle.wkb_abi.specs.RowItems.{IsRowAnswer, handed, no_room, failed, RowHas, RowFails, fails}
-use Rattle.wkb_abi.specs.RowItems.{has_no_row}
+use Rattle.wkb_abi.specs.RowItems.{IsRowAnswer, handed, no_room, failed, RowHas, RowFails, fails, has_no_row}
 use Rattle.wkb_abi.specs.Writings.{HasEncoding, FailsToWrite, unknown, refused}
 use Rattle.wkb_abi.specs.declared.column.Column.{Column}
 use Rattle.wkb_abi.specs.declared.level_column.LevelColumn.{LevelColumn}
@@ -21,8 +19,8 @@ use Rattle.wkb_abi.specs.declared.options.Options.{Options}
 use Rattle.wkb_abi.specs.declared.options.Request.{Request}
 use Rattle.wkb_abi.specs.declared.status.TheConstants.{OK, NO_ROOM, NULL_ROW}
 use Rattle.wkb_abi.proofs.OneRow.{is_asked, one_row, never_lacks, never_refused}
-use Rattle.wkb_column_laws.specs.ThereAndBack.{IsWrittenBack, ComesBack, stays_null, is_levelled}
-use Rattle.wkb_column_laws.specs.ThereAndBack.{AreTheSame, ColumnsComeBack}
+use Rattle.wkb_column_laws.specs.ThereAndBack.{IsWrittenBack, ComesBack, stays_null, is_levelled, AreTheSame}
+use Rattle.wkb_column_laws.specs.ThereAndBack.{ColumnsComeBack}
 use Rattle.wkb_column_laws.proofs.ThereAndBack.{there_and_back}
 
 -- a call tells this of a row, and writes these bytes of it
@@ -32,22 +30,20 @@ record Tells (told : ℕ) (bytes : List ℕ) (status start end : ℕ) (out : Lis
   range : take (length bytes) (drop start out) ≡ bytes
 
 -- a row with an encoding
-never_fails : {c : Column} {o : Options} {i status : ℕ} {row rest : List ℕ} {s : Spelling}
-    {t : Value}
+never_fails : {c : Column} {o : Options} {i status : ℕ} {row rest : List ℕ} {s : Spelling} {t : Value}
     {request : Request} → IsRow c i row → Front row s t rest → request_of o ≡ Some request
     → RowFails (FailsToWrite o) c i status → ⊥
 never_fails is front asked (has_no_row lacks) = never_lacks is lacks
 never_fails {o = o} {request = request} is front asked (fails other is' (unknown none told)) =
     is_asked o request asked none
-never_fails {status = status} {rest = rest} {s = s} {t = t} is front asked
-    (fails other is' (refused some fault why)) =
+never_fails {status = status} {rest = rest} {s = s} {t = t} is front asked (fails other is' (refused some fault why)) =
     never_refused (record { s = s; t = t; rest = rest; front = front })
     (subst (λ z. columns.IsRefusedWith z status) (one_row is' is) (fault, why))
 
 module _ {status start end : ℕ} {out : List ℕ} where
   -- of a row that is written, and of a row of which nothing is
-  tells_ok : {bytes : List ℕ} → status ≡ OK → end ≡ start + length bytes
-      → slice_range out start end ≡ bytes → Tells OK bytes status start end out
+  tells_ok : {bytes : List ℕ} → status ≡ OK → end ≡ start + length bytes → slice_range out start end ≡ bytes
+      → Tells OK bytes status start end out
   tells_ok ok end_is range = record {
     status_is = ok;
     end_is = end_is;
@@ -58,25 +54,22 @@ module _ {status start end : ℕ} {out : List ℕ} where
   tells_null told end_is = record { status_is = told; end_is = omega (arith, end_is); range = refl }
 
   -- up to its end there are its bytes more than up to its start
-  grown : {told : ℕ} {bytes : List ℕ} → Tells told bytes status start end out
-      → take end out ≡ take start out ++ bytes
+  grown : {told : ℕ} {bytes : List ℕ} → Tells told bytes status start end out → take end out ≡ take start out ++ bytes
   grown {told} {bytes} t =
-      ap (λ k. take k out) t.end_is ∙ take-add start (length bytes) out
-      ∙ ap (λ z. take start out ++ z) t.range
+      ap (λ k. take k out) t.end_is ∙ take-add start (length bytes) out ∙ ap (λ z. take start out ++ z) t.range
 
   -- what is told of it in the column, with room for all
   tells_encoding : {c : Column} {o : Options} {i : ℕ} → (RowFails (FailsToWrite o) c i status → ⊥)
       → (status ≡ NO_ROOM → ⊥)
       → IsRowAnswer (RowHas (HasEncoding o) c) (RowFails (FailsToWrite o) c) i status start end out
       → (bytes : List ℕ) × (RowHas (HasEncoding o) c i bytes × Tells OK bytes status start end out)
-  tells_encoding fine room (handed bytes has ok end_is inside range) =
-      (bytes, (has, tells_ok ok end_is range))
+  tells_encoding fine room (handed bytes has ok end_is inside range) = (bytes, (has, tells_ok ok end_is range))
   tells_encoding fine room (no_room bytes has is end_is short) = absurd (room is)
   tells_encoding fine room (failed why end_is) = absurd (fine why)
 
   -- and of its levels
-  tells_back : {i : ℕ} {bytes : List ℕ} → (status ≡ NO_ROOM → ⊥)
-      → IsWrittenBack bytes i status start end out → Tells OK bytes status start end out
+  tells_back : {i : ℕ} {bytes : List ℕ} → (status ≡ NO_ROOM → ⊥) → IsWrittenBack bytes i status start end out
+      → Tells OK bytes status start end out
   tells_back room (handed own same ok end_is inside range) =
       subst (λ z. Tells OK z status start end out) same (tells_ok ok end_is range)
   tells_back room (no_room own same is end_is short) = absurd (room is)
@@ -111,8 +104,7 @@ record SameRow (told ends out back_told back_ends back : List ℕ) (i : ℕ) : T
   status : ℕ
   bytes : List ℕ
   first : Tells status bytes (slice_index told i) (start_at 0 ends i) (slice_index ends i) out
-  second : Tells status bytes (slice_index back_told i) (start_at 0 back_ends i)
-      (slice_index back_ends i) back
+  second : Tells status bytes (slice_index back_told i) (start_at 0 back_ends i) (slice_index back_ends i) back
 
 module _ {told ends out back_told back_ends back : List ℕ} {rows : ℕ}
     (each : (i : ℕ) → i < rows → SameRow told ends out back_told back_ends back i) where
@@ -138,32 +130,29 @@ module _ {told ends out back_told back_ends back : List ℕ} {rows : ℕ}
 
 -- each row is null, or comes back
 pub columns_come_back : ColumnsComeBack
-columns_come_back c dimension asked statuses rows l g k o request asked_so come told ends out each
-    there room back_told back_ends back each_back there' room' =
+columns_come_back c dimension asked statuses rows l g k o request asked_so come told ends out each there room back_told
+    back_ends back each_back there' room' =
     columns_same (λ i below. same i below (come i below))
   where
-    same : (i : ℕ) → i < rows → ComesBack c asked statuses o k i
-        → SameRow told ends out back_told back_ends back i
+    same : (i : ℕ) → i < rows → ComesBack c asked statuses o k i → SameRow told ends out back_told back_ends back i
     same i below (stays_null null) = record {
       status = NULL_ROW;
       bytes = [];
       first = null_tells null (each i (omega (arith, below, there)));
       second =
-          null_back ((λ j. is_unset_bit (g.levels.validity j) (g.levels.validity_offset j + i))
-          ∙ null) (each_back i (omega (arith, below, there')));
+          null_back ((λ j. is_unset_bit (g.levels.validity j) (g.levels.validity_offset j + i)) ∙ null)
+          (each_back i (omega (arith, below, there')));
     }
     same i below (is_levelled s t lv kind_is empty srid) =
         let first = tells_encoding (never_fails lv.is_row lv.front asked_so) (room i below)
         (each i (omega (arith, below, there))) in
-        let each_back = subst (λ n. EncodeLevels n dimension o l back_told back_ends back)
-        (sym kind_is) each_back in
+        let each_back = subst (λ n. EncodeLevels n dimension o l back_told back_ends back) (sym kind_is) each_back in
         record {
           status = OK;
           bytes = first.0;
           first = first.1.1;
           second =
               tells_back (room' i below)
-              (there_and_back c dimension asked statuses rows l g i below s t lv empty o srid
-              first.0 first.1.0
+              (there_and_back c dimension asked statuses rows l g i below s t lv empty o srid first.0 first.1.0
               back_told back_ends back each_back (omega (arith, below, there')));
         }

@@ -1,17 +1,17 @@
--- What bytes spell, with the words of its empty points, can be written; and where these are the
--- words that are written
+-- What bytes spell, with the words of its empty points, can be written; and where these are the words that are written
 -- of empty points, its encoding is that of the value.
-use Rattle.wkb_abi.proofs.Common.{◌≡◌, ℕ, suc, ◌≤◌, ◌<◌, ◌^◌, List, [], ◌∷◌, ◌++◌, length, Option}
-use Rattle.wkb_abi.proofs.Common.{Some, None, refl, ap, ◌∙◌, arith, is_some, Dimension, Coordinate}
-use Rattle.wkb_abi.proofs.Common.{Spelling, node, Spellings, no_spellings, spelling, Spells}
-use Rattle.wkb_abi.proofs.Common.{SpellsEach, SpellsCoordinate, Value, point, multi_point, IsNumber}
+use Rattle.wkb_abi.proofs.Common.{◌≡◌, ℕ, suc, ◌≤◌, ◌<◌, ◌^◌, List, [], ◌∷◌, ◌++◌, length, Option, Some, None}
+use Rattle.wkb_abi.proofs.Common.{refl}
+use Rattle.wkb_abi.proofs.Common.{ap, ◌∙◌, arith, is_some, Dimension, Coordinate, Spelling, node, Spellings}
+use Rattle.wkb_abi.proofs.Common.{no_spellings, spelling, Spells, SpellsEach, SpellsCoordinate, Value, point}
+use Rattle.wkb_abi.proofs.Common.{multi_point, IsNumber}
 use Rattle.std.specs.Prelude.{map, flat_map, if◌then◌else◌, Bool, true, false}
 use Rattle.std.specs.List.{AllByRecursion}
 use Rattle.std.proofs.Common.{lt-ltb}
 use Rattle.std.proofs.lemmas.List.{length-map}
 use Rattle.wkb_geom.specs.Dimensions.{as_dimensions, written_dimension}
-use Rattle.wkb_geom.specs.Encodings.{encoding, point_encoding, point_words, fault, or_else}
-use Rattle.wkb_geom.specs.Encodings.{size_fault, refusal, inner, form_srid}
+use Rattle.wkb_geom.specs.Encodings.{encoding, point_encoding, point_words, fault}
+use Rattle.wkb_geom.specs.Encodings.{or_else, size_fault, refusal, inner, form_srid}
 use Rattle.wkb_geom.specs.Geometries.{geometry_of, normal, IsGeometry, IsCoordinate, IsPoint}
 use Rattle.wkb_geom.specs.Grammar.{IsEach}
 use Rattle.wkb_geom.specs.Numbers.{AreBytes, IsWord}
@@ -21,20 +21,17 @@ use Rattle.wkb_geom.specs.declared.common.Dimension.TheVariants.{Xy}
 use Rattle.wkb_geom.specs.declared.common.Endianness.{Endianness}
 use Rattle.wkb_geom.specs.declared.common.Form.{Form}
 use Rattle.wkb_laws.proofs.Lengths.{named_width, value_size, spelled_length, encoding_length}
-use Rattle.wkb_laws.proofs.Values.{bytes_of, number-lt, spelled_good, lawful-geometry_of}
-use Rattle.wkb_laws.proofs.Values.{normal-geometry_of}
-use Rattle.wkb_column_laws.specs.ThereAndBack.{point_spelled, points_spelled, as_spelled}
-use Rattle.wkb_column_laws.specs.ThereAndBack.{HasEmptyWords}
+use Rattle.wkb_laws.proofs.Values.{bytes_of, number-lt, spelled_good, lawful-geometry_of, normal-geometry_of}
+use Rattle.wkb_column_laws.specs.ThereAndBack.{point_spelled, points_spelled, as_spelled, HasEmptyWords}
 
 -- ---- it is a lawful geometry
 
 -- the words that bytes spell are words
-words_fit : (order : Endianness) (c bytes : List ℕ) → AreBytes bytes
-    → IsEach (IsNumber order 8) c bytes → AllByRecursion IsWord c
+words_fit : (order : Endianness) (c bytes : List ℕ) → AreBytes bytes → IsEach (IsNumber order 8) c bytes
+    → AllByRecursion IsWord c
 words_fit order [] bytes b h = tt
 words_fit order (w ∷ c) bytes b h =
-    let both = bytes_of h b in
-    (number-lt order 8 w h.front h.first both.0, words_fit order c h.rest both.1 h.second)
+    let both = bytes_of h b in (number-lt order 8 w h.front h.first both.0, words_fit order c h.rest both.1 h.second)
 
 -- a coordinate of these is one of a caller's
 coordinate_lawful : (order : Endianness) (d : Dimension) (c bytes : List ℕ) → AreBytes bytes
@@ -43,8 +40,7 @@ coordinate_lawful order d c bytes b h =
     record { len = h.len ∙ named_width d; words = words_fit order c bytes b h.words }
 
 -- so are the words of a point, also of an empty one
-point_lawful : (s : Spelling) (d : Dimension) (c : Option Coordinate) (bytes : List ℕ)
-    → AreBytes bytes
+point_lawful : (s : Spelling) (d : Dimension) (c : Option Coordinate) (bytes : List ℕ) → AreBytes bytes
     → Spells s (point d c) bytes → IsCoordinate (as_dimensions d) (point_spelled s c)
 point_lawful (node h words ss) d None bytes b spelled =
     let body = (bytes_of spelled.second (bytes_of spelled b).1).0 in
@@ -54,8 +50,7 @@ point_lawful (node h words ss) d (Some c) bytes b spelled =
     coordinate_lawful h.order d c spelled.second.front body spelled.second.first.2
 
 -- and those of the points of a multi point, which are as many
-points_lawful : (d : Dimension) (ss : Spellings) (points : List (Option Coordinate))
-    (bytes : List ℕ) → AreBytes bytes
+points_lawful : (d : Dimension) (ss : Spellings) (points : List (Option Coordinate)) (bytes : List ℕ) → AreBytes bytes
     → SpellsEach (part 1 d) ss (each (point d) points) bytes
     → AllByRecursion (IsPoint (as_dimensions d)) (map (λ c. Some c) (points_spelled ss points))
     × (length (points_spelled ss points) ≡ length points)
@@ -73,23 +68,15 @@ record IsLikeValue (s : Spelling) (t : Value) : Type 0 where
   same_size : value_size (normal (as_spelled s t)) ≡ value_size (normal (geometry_of t))
 
 -- what bytes spell is like its value
-like_value : (s : Spelling) (t : Value) (bytes : List ℕ) → AreBytes bytes → Spells s t bytes
-    → IsLikeValue s t
+like_value : (s : Spelling) (t : Value) (bytes : List ℕ) → AreBytes bytes → Spells s t bytes → IsLikeValue s t
 like_value s (point d c) bytes b spelled =
     record { lawful = point_lawful s d c bytes b spelled; same_fault = refl; same_size = refl }
 like_value (node h words ss) (multi_point d points) bytes b spelled =
     let members = spelled.second in
-    let all = points_lawful d ss points members.rest (bytes_of members (bytes_of spelled b).1).1
-    members.second in
-    let same = all.1 in
-    record {
-      lawful = all.0;
-      same_fault = simp (length-map, same);
-      same_size = simp (length-map, same);
-    }
+    let all = points_lawful d ss points members.rest (bytes_of members (bytes_of spelled b).1).1 members.second in
+    record { lawful = all.0; same_fault = simp (length-map, all.1); same_size = simp (length-map, all.1) }
 like_value s t bytes b spelled =
-    let good = spelled_good s t bytes b spelled in
-    record { lawful = lawful-geometry_of t good.0; same_fault = refl; same_size = refl }
+    record { lawful = lawful-geometry_of t (spelled_good s t bytes b spelled).0; same_fault = refl; same_size = refl }
 
 -- ---- it can be written
 
@@ -99,15 +86,15 @@ at_most_one true = omega arith
 at_most_one false = omega arith
 
 -- it is no longer than the bytes and an SRID
-pub spelled_writable : (order : Endianness) (form : Form) (s : Spelling) (t : Value)
-    (bytes : List ℕ) → AreBytes bytes
+pub spelled_writable : (order : Endianness) (form : Form) (s : Spelling) (t : Value) (bytes : List ℕ) → AreBytes bytes
     → length bytes < 2 ^ 63 → Spells s t bytes → refusal order form (as_spelled s t) ≡ None
 unfolding size_fault or_else
 spelled_writable order form s t bytes b small spelled =
     let good = spelled_good s t bytes b spelled in
     let like = like_value s t bytes b spelled in
     let fine = like.same_fault ∙ good.1 in
-    let fits : length (encoding order form (as_spelled s t)) < 2 ^ 64 = omega (
+    let fits : length (encoding order form (as_spelled s t)) < 2 ^ 64 =
+    omega (
       arith,
       encoding_length order form (as_spelled s t) like.lawful fine,
       ap value_size (normal-geometry_of t good.0),
@@ -133,12 +120,11 @@ points_same : (order : Endianness) (form : Form) (d : Dimension) (points : List 
     (map (λ c. Some c) (map (point_words d) points))
     ≡ flat_map (point_encoding order form (written_dimension (as_dimensions d))) points
 points_same order form d [] = refl
-points_same order form d (c ∷ points) =
-    λ i. point_same order form d c i ++ points_same order form d points i
+points_same order form d (c ∷ points) = λ i. point_same order form d c i ++ points_same order form d points i
 
 -- so is a geometry
-pub same_encoding : (order : Endianness) (form : Form) (s : Spelling) (t : Value)
-    → HasEmptyWords s t → encoding order form (as_spelled s t) ≡ encoding order form (geometry_of t)
+pub same_encoding : (order : Endianness) (form : Form) (s : Spelling) (t : Value) → HasEmptyWords s t
+    → encoding order form (as_spelled s t) ≡ encoding order form (geometry_of t)
 same_encoding order form s (point d c) h = rw h (point_same order form d c)
 same_encoding order form (node head words ss) (multi_point d points) h =
     let wrapped = length-map (map (point_words d) points) (λ c. Some c) in

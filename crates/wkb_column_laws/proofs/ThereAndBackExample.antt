@@ -3,8 +3,8 @@ use Rattle.wkb_abi.proofs.Common.{ℕ, zero, suc, ◌<◌, List, [], ◌∷◌, 
 use Rattle.wkb_abi.proofs.Common.{Spelling, node, no_spellings, Value, point, Spells}
 use Rattle.std.specs.Borrow.{Bor}
 use Rattle.std.proofs.Common.{rules}
-use Rattle.wkb_geom.specs.Encodings.{point_words, point_encoding, header_encoding, code_of}
-use Rattle.wkb_geom.specs.Encodings.{srid_encoding, words_encoding, dimensions_fault}
+use Rattle.wkb_geom.specs.Encodings.{point_words, point_encoding, header_encoding, code_of, srid_encoding}
+use Rattle.wkb_geom.specs.Encodings.{words_encoding, dimensions_fault}
 use Rattle.wkb_geom.specs.Fronts.{Front}
 use Rattle.wkb_geom.specs.Geometries.{geometry_of}
 use Rattle.wkb_geom.specs.Numbers.{AreBytes, number, number_bytes}
@@ -15,12 +15,11 @@ use Rattle.wkb_laws.proofs.EncodingBytes.{encoding_is_bytes}
 use Rattle.wkb_laws.proofs.EncodingSpells.{encoding_spells}
 use Rattle.wkb_check.specs.Subjects.{subjects}
 use Rattle.wkb_abi.specs.Columns.{IsRow, null_row}
-use Rattle.wkb_abi.specs.Coordinates.{LevelLists, levels, HasCoordinates, handed, failed, written}
-use Rattle.wkb_abi.specs.Coordinates.{no_row, no_totals, AreColumnCoordinates}
+use Rattle.wkb_abi.specs.Coordinates.{LevelLists, levels, HasCoordinates, handed, failed, written, no_row, no_totals}
+use Rattle.wkb_abi.specs.Coordinates.{AreColumnCoordinates}
 use Rattle.wkb_abi.specs.LevelRows.{HasLevelEncoding}
 use Rattle.wkb_abi.specs.LevelTargets.{target_asked}
-use Rattle.wkb_column_laws.specs.ThereAndBack.{AreGivenOn, IsLevelled, ComesBack, stays_null}
-use Rattle.wkb_column_laws.specs.ThereAndBack.{is_levelled}
+use Rattle.wkb_column_laws.specs.ThereAndBack.{AreGivenOn, IsLevelled, ComesBack, stays_null, is_levelled}
 use Rattle.wkb_abi.specs.declared.column.Column.{Column}
 use Rattle.wkb_abi.specs.declared.totals.Totals.{Totals}
 use Rattle.wkb_abi.specs.declared.level_column.LevelColumn.{LevelColumn}
@@ -85,8 +84,7 @@ given = record {
 
 -- the bytes are the encoding of the point, which spells it
 bytes_spell : Spells spelled value bytes
-unfolding point_encoding header_encoding code_of srid_encoding words_encoding number_bytes
-    point_words dimensions_fault
+unfolding point_encoding header_encoding code_of srid_encoding words_encoding number_bytes point_words dimensions_fault
 bytes_spell =
     encoding_spells LittleEndian Iso (geometry_of value) tt
     (record { len = refl; words = (omega arith, (omega arith, tt)) }) refl
@@ -123,14 +121,12 @@ point_put = record {
 -- the levels of the first row are written
 first_row : AreColumnCoordinates column 0 statuses (1 ∷ 1 ∷ []) out 1 after_point filled
 first_row =
-    let put =
-    handed Xy (subjects spelled value) point_put (written refl refl (search rules) refl) in
+    let put = handed Xy (subjects spelled value) point_put (written refl refl (search rules) refl) in
     (no_totals, (out, ((refl, refl), put, refl)))
 
 -- an encoding is bytes
 all_bytes : AreBytes bytes
-unfolding point_encoding header_encoding code_of srid_encoding words_encoding number_bytes
-    point_words
+unfolding point_encoding header_encoding code_of srid_encoding words_encoding number_bytes point_words
 all_bytes = encoding_is_bytes LittleEndian Iso (geometry_of value)
 
 -- the levels are given on
@@ -144,8 +140,7 @@ worked_given = record {
   to = after_point;
   now = filled;
   row_ends = 1 ∷ 1 ∷ [];
-  written =
-      (after_point, (filled, (first_row, failed (no_row (null_row refl refl)) refl refl, refl)));
+  written = (after_point, (filled, (first_row, failed (no_row (null_row refl refl)) refl refl, refl)));
   levels = search rules;
 }
 
@@ -169,11 +164,8 @@ worked_comes_back o (suc zero) below = stays_null refl
 worked_comes_back o (suc (suc i)) below = absurd (omega (arith, below))
 
 -- the point as these very bytes, in their order and form
-pub worked_bytes : HasLevelEncoding given (target_asked 1 0
-    (record { order = 1; form = 0; srid = 0 })) 0 bytes
-unfolding point_encoding header_encoding code_of srid_encoding words_encoding number_bytes
-    point_words
+pub worked_bytes : HasLevelEncoding given (target_asked 1 0 (record { order = 1; form = 0; srid = 0 })) 0 bytes
+unfolding point_encoding header_encoding code_of srid_encoding words_encoding number_bytes point_words
 worked_bytes =
     back_as_spelled column 0 Xy statuses 2 given worked_given 0 (omega arith) spelled value levelled
-    (record { order = 1; form = 0; srid = 0 })
-    (Encoding (record { endianness = LittleEndian; form = Iso })) refl
+    (record { order = 1; form = 0; srid = 0 }) (Encoding (record { endianness = LittleEndian; form = Iso })) refl

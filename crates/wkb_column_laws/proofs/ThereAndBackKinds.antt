@@ -1,11 +1,10 @@
 -- The singles of a geometry: what its subjects give each level, and the geometry that they mean.
 use Rattle.std.proofs.Common.{subst}
-use Rattle.wkb_abi.proofs.Common.{◌≡◌, ℕ, ◌<◌, List, [], ◌∷◌, ◌++◌, length, Option, Some, None}
-use Rattle.wkb_abi.proofs.Common.{refl, ap, arith, append-nil, Dimension, width, Coordinate}
-use Rattle.wkb_abi.proofs.Common.{Spelling, node, Spellings, no_spellings, spelling, Spells}
-use Rattle.wkb_abi.proofs.Common.{SpellsEach, SpellsBody, Value, Values, point, line_string}
-use Rattle.wkb_abi.proofs.Common.{polygon, multi_point, multi_line_string, Header, multi_polygon}
-use Rattle.wkb_abi.proofs.Common.{collection, no_members, member, members, kind, dimension}
+use Rattle.wkb_abi.proofs.Common.{◌≡◌, ℕ, ◌<◌, List, [], ◌∷◌, ◌++◌, length, Option, Some, None, refl, ap, arith}
+use Rattle.wkb_abi.proofs.Common.{append-nil, Dimension, width, Coordinate}
+use Rattle.wkb_abi.proofs.Common.{Spelling, node, Spellings, no_spellings, spelling, Spells, SpellsEach, SpellsBody}
+use Rattle.wkb_abi.proofs.Common.{Value, Values, point, line_string, polygon, multi_point, multi_line_string, Header}
+use Rattle.wkb_abi.proofs.Common.{multi_polygon, collection, no_members, member, members, kind, dimension}
 use Rattle.wkb_abi.proofs.Common.{SpellsCoordinate, SpellsCoordinates}
 use Rattle.std.specs.Prelude.{◌-◌, map, flat_map, sum}
 use Rattle.std.specs.List.{AllByRecursion}
@@ -18,8 +17,8 @@ use Rattle.wkb_geom.specs.Spellings.{Wanted, part, member_part}
 use Rattle.wkb_geom.specs.Values.{each}
 use Rattle.wkb_geom.specs.declared.common.Dimension.TheVariants.{Xy, Xyz, Xym, Xyzm}
 use Rattle.wkb_geom.specs.declared.common.Endianness.{Endianness}
-use Rattle.wkb_check.specs.Subjects.{Subject, whole, ring, subjects, subjects_of_rings}
-use Rattle.wkb_check.specs.Subjects.{subjects_of_each, dimension_in, subject_coordinates, rings_of}
+use Rattle.wkb_check.specs.Subjects.{Subject, whole, ring, subjects, subjects_of_rings, subjects_of_each}
+use Rattle.wkb_check.specs.Subjects.{dimension_in, subject_coordinates, rings_of}
 use Rattle.wkb_levels.specs.Cuts.{only_each}
 use Rattle.wkb_levels.specs.Meant.{kind_meant}
 use Rattle.wkb_levels.specs.declared.row.Kind.{Kind}
@@ -84,13 +83,12 @@ mutual
       )
   gives (node h words ss) t = each_gives ss (members t)
 
-  each_gives : (ss : Spellings) (ts : Values)
-      → Give (subjects_of_each ss ts) (singles_of_each ss ts)
+  each_gives : (ss : Spellings) (ts : Values) → Give (subjects_of_each ss ts) (singles_of_each ss ts)
   each_gives ss no_members = (refl, refl, refl)
   each_gives no_spellings (member t ts) = (refl, refl, refl)
   each_gives (spelling s ss) (member t ts) =
-      give_both (subjects s t) (subjects_of_each ss ts) (singles_in s t) (singles_of_each ss ts)
-      (gives s t) (each_gives ss ts)
+      give_both (subjects s t) (subjects_of_each ss ts) (singles_in s t) (singles_of_each ss ts) (gives s t)
+      (each_gives ss ts)
 
 -- the singles of subjects have as many rings as there are
 abbrev pub AreCounted : List Subject → Type 0
@@ -128,8 +126,8 @@ abbrev HaveOwnWords : Dimension → List Subject → Type 0
 HaveOwnWords d xs = HaveWords d xs (flat_map subject_coordinates xs)
 
 -- what each of two lists has, both have
-all_both : {A : Type 0} (P : A → Type 0) (xs ys : List A) → AllByRecursion P xs
-    → AllByRecursion P ys → AllByRecursion P (xs ++ ys)
+all_both : {A : Type 0} (P : A → Type 0) (xs ys : List A) → AllByRecursion P xs → AllByRecursion P ys
+    → AllByRecursion P (xs ++ ys)
 all_both P [] ys a b = b
 all_both P (x ∷ xs) ys a b = (a.0, all_both P xs ys a.1 b)
 
@@ -161,8 +159,7 @@ each_wide order d (c ∷ cs) bytes h = (h.first.len, each_wide order d cs h.rest
 
 -- the rings of a polygon
 rings_words : (order : Endianness) (d : Dimension) (rings : List (List Coordinate)) (bytes : List ℕ)
-    → IsEach (SpellsCoordinates order d) rings bytes
-    → HaveOwnWords d (subjects_of_rings order d rings)
+    → IsEach (SpellsCoordinates order d) rings bytes → HaveOwnWords d (subjects_of_rings order d rings)
 rings_words order d [] bytes h = words_none d
 rings_words order d (cs ∷ rings) bytes h =
     words_more d (ring order d cs) _ refl (each_wide order d cs h.first.rest h.first.second)
@@ -171,11 +168,9 @@ rings_words order d (cs ∷ rings) bytes h =
 -- a geometry with its own rings
 head_words : (h : Header) (words : List ℕ) (ss : Spellings) (t : Value) (bytes : List ℕ)
     → SpellsBody h.order words t bytes
-    → HaveOwnWords (dimension t) (whole (node h words ss) t ∷ subjects_of_rings h.order
-    (dimension t) (rings_of t))
+    → HaveOwnWords (dimension t) (whole (node h words ss) t ∷ subjects_of_rings h.order (dimension t) (rings_of t))
 head_words h words ss (point d None) bytes b = words_more d _ [] refl (b.1.len, tt) (words_none d)
-head_words h words ss (point d (Some c)) bytes b =
-    words_more d _ [] refl (b.2.len, tt) (words_none d)
+head_words h words ss (point d (Some c)) bytes b = words_more d _ [] refl (b.2.len, tt) (words_none d)
 head_words h words ss (line_string d cs) bytes b =
     words_more d _ [] refl (each_wide h.order d cs b.1.rest b.1.second) (words_none d)
 head_words h words ss (polygon d rings) bytes b =
@@ -192,8 +187,7 @@ mutual
       → HaveOwnWords (dimension t) (subjects s t)
   own_words (node h words ss) t bytes low spelled =
       words_both (whole (node h words ss) t ∷ subjects_of_rings h.order (dimension t) (rings_of t))
-      (subjects_of_each ss (members t)) (head_words h words ss t spelled.second.front
-      spelled.second.first)
+      (subjects_of_each ss (members t)) (head_words h words ss t spelled.second.front spelled.second.first)
       (each_words (kind t - 3) (dimension t) ss (members t) spelled.second.rest (omega (arith, low))
       (rw (plain_part (kind t) (dimension t) low) at spelled.second.second))
 
@@ -221,21 +215,17 @@ only_ones [] = refl
 only_ones (x ∷ xs) = rw (only_ones xs)
 
 -- points, by their words
-points_in : (w : Wanted) (d : Dimension) (ss : Spellings) (points : List (Option Coordinate))
-    (bytes : List ℕ)
-    → SpellsEach w ss (each (point d) points) bytes → singles_of_each ss (each (point d) points)
-    ≡ map (λ r. r ∷ []) (map (λ c. c ∷ []) (points_spelled ss points))
+points_in : (w : Wanted) (d : Dimension) (ss : Spellings) (points : List (Option Coordinate)) (bytes : List ℕ)
+    → SpellsEach w ss (each (point d) points) bytes
+    → singles_of_each ss (each (point d) points) ≡ map (λ r. r ∷ []) (map (λ c. c ∷ []) (points_spelled ss points))
 points_in w d ss [] bytes spelled = refl
 points_in w d no_spellings (c ∷ points) bytes spelled = absurd spelled
-points_in w d (spelling s ss) (c ∷ points) bytes spelled =
-    rw (points_in w d ss points spelled.rest spelled.second)
+points_in w d (spelling s ss) (c ∷ points) bytes spelled = rw (points_in w d ss points spelled.rest spelled.second)
 
 -- members that are one single each, whatever their spellings
 members_in : {A : Type 0} (f : A → Value) (single : A → List (List Coordinate))
-    → ((s : Spelling) (a : A) → singles_in s (f a) ≡ single a ∷ [])
-    → (w : Wanted) (ss : Spellings) (xs : List A)
-    (bytes : List ℕ) → SpellsEach w ss (each f xs) bytes
-    → singles_of_each ss (each f xs) ≡ map single xs
+    → ((s : Spelling) (a : A) → singles_in s (f a) ≡ single a ∷ []) → (w : Wanted) (ss : Spellings) (xs : List A)
+    (bytes : List ℕ) → SpellsEach w ss (each f xs) bytes → singles_of_each ss (each f xs) ≡ map single xs
 members_in f single one w ss [] bytes spelled = refl
 members_in f single one w no_spellings (a ∷ xs) bytes spelled = absurd spelled
 members_in f single one w (spelling s ss) (a ∷ xs) bytes spelled =
@@ -245,18 +235,14 @@ members_in f single one w (spelling s ss) (a ∷ xs) bytes spelled =
 pub record Means (s : Spelling) (t : Value) : Type 0 where
   pub kind_is : Kind
   pub named : kind_named (kind t) ≡ Some kind_is
-  pub meant : kind_meant kind_is (as_dimensions (dimension t)) (singles_in s t)
-      ≡ Some (as_spelled s t)
+  pub meant : kind_meant kind_is (as_dimensions (dimension t)) (singles_in s t) ≡ Some (as_spelled s t)
 
 -- of a geometry that is no collection they do
-pub singles_mean : (s : Spelling) (t : Value) (bytes : List ℕ) → kind t < 7 → Spells s t bytes
-    → Means s t
-singles_mean s (point d c) bytes low spelled =
-    record { kind_is = kinds.Point; named = refl; meant = refl }
+pub singles_mean : (s : Spelling) (t : Value) (bytes : List ℕ) → kind t < 7 → Spells s t bytes → Means s t
+singles_mean s (point d c) bytes low spelled = record { kind_is = kinds.Point; named = refl; meant = refl }
 singles_mean s (line_string d cs) bytes low spelled =
     record { kind_is = kinds.LineString; named = refl; meant = refl }
-singles_mean s (polygon d rings) bytes low spelled =
-    record { kind_is = kinds.Polygon; named = refl; meant = refl }
+singles_mean s (polygon d rings) bytes low spelled = record { kind_is = kinds.Polygon; named = refl; meant = refl }
 singles_mean (node h words ss) (multi_point d points) bytes low spelled =
     let cs = points_spelled ss points in
     let are = points_in _ d ss points spelled.second.rest spelled.second.second in
@@ -266,11 +252,9 @@ singles_mean (node h words ss) (multi_point d points) bytes low spelled =
       meant = rw (are, only_ones (map (λ c. c ∷ []) cs), only_ones cs);
     }
 singles_mean (node h words ss) (multi_line_string d lines) bytes low spelled =
-    let are =
-    members_in (line_string d) (λ cs. cs ∷ []) (λ s cs. refl) _ ss lines _ spelled.second.second in
+    let are = members_in (line_string d) (λ cs. cs ∷ []) (λ s cs. refl) _ ss lines _ spelled.second.second in
     record { kind_is = kinds.MultiLineString; named = refl; meant = rw (are, only_ones lines) }
 singles_mean (node h words ss) (multi_polygon d polygons) bytes low spelled =
-    let are =
-    members_in (polygon d) (λ r. r) (λ s rings. refl) _ ss polygons _ spelled.second.second in
+    let are = members_in (polygon d) (λ r. r) (λ s rings. refl) _ ss polygons _ spelled.second.second in
     record { kind_is = kinds.MultiPolygon; named = refl; meant = rw (are, map-id polygons) }
 singles_mean s (collection d ts) bytes low spelled = absurd (omega (arith, low))

@@ -1,12 +1,11 @@
 -- A row whose levels hold some singles, each behind the one before it, has these singles.
-use Rattle.std.proofs.Common.{◌≡◌, ℕ, zero, suc, ◌+◌, ◌-◌, ◌*◌, ◌/◌, ◌<◌, ◌≤◌, refl, sym, ap, ◌∙◌}
-use Rattle.std.proofs.Common.{arith, List, [], ◌∷◌, ◌++◌, length, take, drop, map, slice_index}
-use Rattle.std.proofs.Common.{slice_range, append_assoc, length-append, length-take}
+use Rattle.std.proofs.Common.{◌≡◌, ℕ, zero, suc, ◌+◌, ◌-◌, ◌*◌, ◌/◌, ◌<◌, ◌≤◌, refl, sym, ap, ◌∙◌, arith}
+use Rattle.std.proofs.Common.{List, [], ◌∷◌, ◌++◌, length, take, drop, map, slice_index, slice_range}
+use Rattle.std.proofs.Common.{append_assoc, length-append, length-take}
 use Rattle.std.specs.List.{AllByRecursion, flat_map, sum}
 use Rattle.std.proofs.Math.Nat.{mul-div_cancel_left, mul_comm, sub-zero}
 use Rattle.std.proofs.lemmas.Nat.{le-div}
-use Rattle.std.proofs.lemmas.List.{take_at, drop_at, take-take, drop-take, drop-drop}
-use Rattle.std.proofs.lemmas.List.{length-take-le}
+use Rattle.std.proofs.lemmas.List.{take_at, drop_at, take-take, drop-take, drop-drop, length-take-le}
 use lib.Seq.{sets, sets-eq, length-sets}
 use Rattle.wkb_geom.specs.declared.common.Dimensions.{Dimensions}
 use Rattle.wkb_geom.specs.Dimensions.{size}
@@ -14,12 +13,10 @@ use Rattle.wkb_plain.specs.Runs.{runs, coordinates_in}
 use Rattle.wkb_plain.proofs.Runs.{length-runs}
 use Rattle.wkb_levels.specs.declared.levels.Levels.{Levels}
 use Rattle.wkb_levels.specs.Columns.{AreRowLevels, SpansCoordinates, column_rings, singles_of}
-use Rattle.wkb_levels.specs.Columns.{row_begin, row_end, rings_begin, rings_end, coordinates_begin}
-use Rattle.wkb_levels.specs.Columns.{coordinates_end}
+use Rattle.wkb_levels.specs.Columns.{row_begin, row_end, rings_begin, rings_end, coordinates_begin, coordinates_end}
 use Rattle.wkb_levels.specs.Cuts.{start_at, AreEnds, pieces_from}
 use Rattle.wkb_levels.specs.EndLists.{start_of, ends_of}
-use Rattle.wkb_levels.proofs.Pieces.{length-pieces, start_behind, slice_range-pieces}
-use Rattle.wkb_levels.proofs.Pieces.{coordinates_between}
+use Rattle.wkb_levels.proofs.Pieces.{length-pieces, start_behind, slice_range-pieces, coordinates_between}
 use Rattle.wkb_abi.specs.Coordinates.{ends}
 use Rattle.wkb_abi.proofs.Levels.{sum-first}
 
@@ -41,21 +38,19 @@ module _ {A : Type 0} where
     are =
         let wide : to - from ≡ length items = omega (arith, many) in
         let front = length-take-le from xs (omega (arith, many, within)) in
-        let put = sets-eq items xs from (omega (arith, many, within)) in
-        rw (put, append_assoc, drop_at (take from xs) _ from front)
+        rw (sets-eq items xs from (omega (arith, many, within)), append_assoc, drop_at (take from xs) _ from front)
         (take_at items (drop (from + length items) xs) (to - from) (sym wide));
   }
 
   -- and where another list is the same up to their end
-  pub held_on : {xs ys items : List A} {from to : ℕ} → IsHeld xs from to items
-      → take to ys ≡ take to xs → IsHeld ys from to items
+  pub held_on : {xs ys items : List A} {from to : ℕ} → IsHeld xs from to items → take to ys ≡ take to xs
+      → IsHeld ys from to items
   held_on {xs} {ys} {items} {from} {to} h same = record {
     many = h.many;
     within = omega (arith, h.within, length-take to ys, length-take to xs, ap length same);
     are =
         let up : from + (to - from) ≡ to = omega (arith, h.many) in
-        sym (drop-take from (to - from) ys) ∙ ap (λ n. drop from (take n ys)) up
-        ∙ ap (drop from) same
+        sym (drop-take from (to - from) ys) ∙ ap (λ n. drop from (take n ys)) up ∙ ap (drop from) same
         ∙ ap (λ n. drop from (take n xs)) (sym up) ∙ drop-take from (to - from) xs ∙ h.are;
   }
 
@@ -73,9 +68,7 @@ module _ {A : Type 0} where
   -- together they are as long
   pub sizes_sum : (xss : List (List A)) → sum (sizes_of xss) ≡ length (joined xss)
   sizes_sum [] = refl
-  sizes_sum (x ∷ xss) =
-      let long = length-append x (joined xss) in
-      omega (arith, sum-first (length x) (sizes_of xss), sizes_sum xss)
+  sizes_sum (x ∷ xss) = omega (arith, sum-first (length x) (sizes_of xss), sizes_sum xss, length-append x (joined xss))
 
   -- what is held in two parts
   held_parts : {xs : List A} {from to : ℕ} (x y : List A) → IsHeld xs from to (x ++ y)
@@ -89,15 +82,12 @@ module _ {A : Type 0} where
         record {
           many = omega (arith, h.many);
           within = h.within;
-          are =
-              rw (← drop-drop (length x) from xs, ← drop-take, long, h.are)
-              (drop_at x y (length x) refl);
+          are = rw (← drop-drop (length x) from xs, ← drop-take, long, h.are) (drop_at x y (length x) refl);
         },
       )
 
   -- where one list holds them, its pieces are these
-  pieces_held : (xss : List (List A)) (items : List A) (start end : ℕ)
-      → IsHeld items start end (joined xss)
+  pieces_held : (xss : List (List A)) (items : List A) (start end : ℕ) → IsHeld items start end (joined xss)
       → pieces_from 0 items start (ends start (sizes_of xss)) ≡ xss
   pieces_held [] items start end held = refl
   pieces_held (x ∷ xss) items start end held =
@@ -109,14 +99,12 @@ module _ {A : Type 0} where
       → AreEnds limit start (ends start (sizes_of xss))
   ends_rise limit start [] h = (omega (arith, h), λ i below. absurd (omega (arith, below)))
   ends_rise limit start (x ∷ xss) h =
-      let behind =
-      ends_rise limit (start + length x) xss (omega (arith, h, length-append x (joined xss))) in
+      let behind = ends_rise limit (start + length x) xss (omega (arith, h, length-append x (joined xss))) in
       (omega (arith, h), each behind)
     where
       each : AreEnds limit (start + length x) (ends (start + length x) (sizes_of xss)) → (i : ℕ)
           → i < length (ends start (sizes_of (x ∷ xss)))
-          → (start_at start (ends start (sizes_of (x ∷ xss))) i ≤ slice_index
-          (ends start (sizes_of (x ∷ xss))) i)
+          → (start_at start (ends start (sizes_of (x ∷ xss))) i ≤ slice_index (ends start (sizes_of (x ∷ xss))) i)
           × (slice_index (ends start (sizes_of (x ∷ xss))) i ≤ limit)
       each behind zero below = (omega arith, behind.0)
       each behind (suc i) below = grind (arith, start_behind, behind.1 i (omega (arith, below)))
@@ -142,14 +130,12 @@ runs_held w (c ∷ cs) wide = rw (take_at c _ w wide.0, drop_at c _ w wide.0, ru
 coordinates_held : (d : Dimensions) (cs : List (List ℕ)) → 0 < size d → AreWide (size d) cs
     → coordinates_in d (joined cs) ≡ cs
 coordinates_held d cs some wide =
-    rw (joined_length (size d) cs wide, mul-div_cancel_left (length cs) some)
-    (runs_held (size d) cs wide)
+    rw (joined_length (size d) cs wide, mul-div_cancel_left (length cs) some) (runs_held (size d) cs wide)
 
 -- ---- the levels of a row
 
 -- at each level the row has the items of these singles, each of which is a list of rings
-pub record HoldsSingles (l : Levels) (d : Dimensions) (i : ℕ)
-    (singles : List (List (List (List ℕ)))) : Type 0 where
+pub record HoldsSingles (l : Levels) (d : Dimensions) (i : ℕ) (singles : List (List (List (List ℕ)))) : Type 0 where
   pub some_words : 0 < size d
   pub wide : AreWide (size d) (joined (joined singles))
   pub single_ends : IsHeld (ends_of l.single_ends) (row_begin l i) (row_end l i)
@@ -170,32 +156,27 @@ module _ {l : Levels} {d : Dimensions} {i : ℕ} {singles : List (List (List (Li
       (rw (mul_comm (coordinates_end l i) (size d)) h.words.within)
 
   -- the coordinates that it has, and its rings
-  coordinates_are : IsHeld (coordinates_in d l.words.now) (coordinates_begin l i)
-      (coordinates_end l i) (joined (joined singles))
+  coordinates_are : IsHeld (coordinates_in d l.words.now) (coordinates_begin l i) (coordinates_end l i) (joined (joined singles))
   coordinates_are = record {
     many = h.coordinates;
     within = omega (arith, within, length-runs (size d) (length l.words.now / size d) l.words.now);
     are =
-        sym (coordinates_between d l.words.now (coordinates_begin l i)
-        (coordinates_end l i) h.some_words (omega (arith, h.coordinates)) within)
-        ∙ ap (coordinates_in d) h.words.are ∙ coordinates_held d
-        (joined (joined singles)) h.some_words h.wide;
+        sym (coordinates_between d l.words.now (coordinates_begin l i) (coordinates_end l i) h.some_words
+        (omega (arith, h.coordinates)) within)
+        ∙ ap (coordinates_in d) h.words.are ∙ coordinates_held d (joined (joined singles)) h.some_words h.wide;
   }
 
   rings_are : IsHeld (column_rings l d) (rings_begin l i) (rings_end l i) (joined singles)
   rings_are = record {
     many = h.rings;
     within =
-        rw (length-pieces 0 (coordinates_in d l.words.now) (start_of l.ring_ends)
-        (ends_of l.ring_ends))
+        rw (length-pieces 0 (coordinates_in d l.words.now) (start_of l.ring_ends) (ends_of l.ring_ends))
         h.ring_ends.within;
     are =
-        sym (slice_range-pieces 0 (coordinates_in d l.words.now) (start_of l.ring_ends)
-        (ends_of l.ring_ends)
+        sym (slice_range-pieces 0 (coordinates_in d l.words.now) (start_of l.ring_ends) (ends_of l.ring_ends)
         (rings_begin l i) (rings_end l i) (omega (arith, h.ring_ends.many, h.ring_ends.within)))
         ∙ ap (pieces_from 0 (coordinates_in d l.words.now) (coordinates_begin l i)) h.ring_ends.are
-        ∙ pieces_held (joined singles) (coordinates_in d l.words.now) (coordinates_begin l i)
-        (coordinates_end l i)
+        ∙ pieces_held (joined singles) (coordinates_in d l.words.now) (coordinates_begin l i) (coordinates_end l i)
         coordinates_are;
   }
 
@@ -214,7 +195,8 @@ module _ {l : Levels} {d : Dimensions} {i : ℕ} {singles : List (List (List (Li
     order = omega (arith, h.single_ends.many);
     within = h.single_ends.within;
     singles =
-        rw h.single_ends.are (ends_rise (length (ends_of l.ring_ends)) (rings_begin l i) singles
+        rw h.single_ends.are
+        (ends_rise (length (ends_of l.ring_ends)) (rings_begin l i) singles
         (omega (arith, h.rings, h.ring_ends.within)));
     rings =
         rw h.ring_ends.are

@@ -1,8 +1,6 @@
--- What the lists of a column's levels hold of each row, and where it begins in the levels that are
--- given on.
+-- What the lists of a column's levels hold of each row, and where it begins in the levels that are given on.
 use Rattle.wkb_abi.proofs.Common.{◌≡◌, ℕ, zero, suc, ◌+◌, ◌*◌, ◌≤◌, List, [], ◌∷◌, length, Some}
-use Rattle.wkb_abi.proofs.Common.{refl, sym, ap, ◌∙◌, subst, arith, Dimension, width, Spelling}
-use Rattle.wkb_abi.proofs.Common.{Value, slice_index, inl, inr}
+use Rattle.wkb_abi.proofs.Common.{refl, sym, ap, ◌∙◌, subst, arith, Dimension, width, Spelling, Value, slice_index, inl, inr}
 use Rattle.std.specs.Prelude.{◌==◌, if◌then◌else◌, sum, flat_map, take}
 use Rattle.std.specs.Borrow.{Bor}
 use Rattle.std.proofs.Common.{set, eqb-true, mul-add}
@@ -20,11 +18,9 @@ use Rattle.wkb_levels.specs.Cuts.{start_at}
 use Rattle.wkb_levels.specs.EndLists.{start_of, ends_of, begin_of}
 use Rattle.wkb_levels.proofs.Pieces.{start_behind, last_of_part}
 use Rattle.wkb_abi.specs.Columns.{IsRow, IsRefusedWith}
-use Rattle.wkb_abi.specs.Coordinates.{LevelLists, levels, HasRoomUpTo, totals_after, with_levels}
-use Rattle.wkb_abi.specs.Coordinates.{ArePut, written, no_room, IsCoordinatesRow, HasCoordinates}
-use Rattle.wkb_abi.specs.Coordinates.{handed, failed, no_row, unknown, refused}
-use Rattle.wkb_abi.specs.Coordinates.{AreColumnCoordinates, ends, ring_counts, single_counts}
-use Rattle.wkb_abi.specs.Coordinates.{asked_subject_words}
+use Rattle.wkb_abi.specs.Coordinates.{LevelLists, levels, HasRoomUpTo, totals_after, with_levels, ArePut, written, no_room}
+use Rattle.wkb_abi.specs.Coordinates.{IsCoordinatesRow, HasCoordinates, handed, failed, no_row, unknown, refused}
+use Rattle.wkb_abi.specs.Coordinates.{AreColumnCoordinates, ends, ring_counts, single_counts, asked_subject_words}
 use Rattle.wkb_abi.specs.LevelTargets.{levels_in}
 use Rattle.wkb_abi.specs.declared.column.Column.{Column}
 use Rattle.wkb_abi.specs.declared.totals.Totals.{Totals}
@@ -32,8 +28,7 @@ use Rattle.wkb_abi.specs.declared.level_column.LevelColumn.{LevelColumn}
 use Rattle.wkb_abi.specs.declared.status.TheConstants.{OK}
 use Rattle.wkb_abi.proofs.OneRow.{one_row, never_lacks, never_refused}
 use Rattle.wkb_abi.proofs.Levels.{AreSmall, ends_length, sum-first, wide_enough}
-use Rattle.wkb_abi.proofs.Rooms.{AreAsLong, Reaches, row_says, long_more, scaled, room_before}
-use Rattle.wkb_abi.proofs.Rooms.{room_in, one_dimension}
+use Rattle.wkb_abi.proofs.Rooms.{AreAsLong, Reaches, row_says, long_more, scaled, room_before, room_in, one_dimension}
 use Rattle.wkb_column_laws.specs.ThereAndBack.{AreShort, AreGivenOn}
 use Rattle.wkb_column_laws.proofs.ThereAndBackKinds.{AreCounted, counted}
 use Rattle.wkb_column_laws.proofs.ThereAndBackLevels.{IsHeld, held_put}
@@ -42,22 +37,19 @@ use Rattle.wkb_column_laws.proofs.ThereAndBackLevels.{IsHeld, held_put}
 
 -- up to these totals the lists are the same
 pub record Keeps (asked : Dimension) (at : Totals) (old new : LevelLists) : Type 0 where
-  pub words : take (width asked * at.coordinates) new.words
-      ≡ take (width asked * at.coordinates) old.words
+  pub words : take (width asked * at.coordinates) new.words ≡ take (width asked * at.coordinates) old.words
   pub ring_ends : take at.rings new.ring_ends ≡ take at.rings old.ring_ends
   pub single_ends : take at.singles new.single_ends ≡ take at.singles old.single_ends
 
 -- lists that are the same up to a number are so up to fewer
-fewer : {A : Type 0} (m n : ℕ) (xs ys : List A) → m ≤ n → take n xs ≡ take n ys
-    → take m xs ≡ take m ys
+fewer : {A : Type 0} (m n : ℕ) (xs ys : List A) → m ≤ n → take n xs ≡ take n ys → take m xs ≡ take m ys
 fewer m n xs ys h same = sym (take-take m n xs h) ∙ ap (take m) same ∙ take-take m n ys h
 
 -- up to some totals, and from there up to more
-pub keeps_on : {asked : Dimension} {at to : Totals} {a b c : LevelLists} → Keeps asked at a b
-    → Reaches at to → Keeps asked to b c → Keeps asked at a c
+pub keeps_on : {asked : Dimension} {at to : Totals} {a b c : LevelLists} → Keeps asked at a b → Reaches at to
+    → Keeps asked to b c → Keeps asked at a c
 keeps_on {asked} {at} {to} k far l = record {
-  words =
-      fewer _ _ _ _ (scaled asked at.coordinates to.coordinates far.coordinates) l.words ∙ k.words;
+  words = fewer _ _ _ _ (scaled asked at.coordinates to.coordinates far.coordinates) l.words ∙ k.words;
   ring_ends = fewer _ _ _ _ far.rings l.ring_ends ∙ k.ring_ends;
   single_ends = fewer _ _ _ _ far.singles l.single_ends ∙ k.single_ends;
 }
@@ -81,16 +73,14 @@ start_same xs ys (suc k) same =
     ∙ get_or-take (suc k) ys k 0 (omega arith)
 
 -- so lists that are the same up to there end there
-placed_on : {asked : Dimension} {at : Totals} {a b : LevelLists} → Keeps asked at a b
-    → IsPlaced a at → IsPlaced b at
+placed_on : {asked : Dimension} {at : Totals} {a b : LevelLists} → Keeps asked at a b → IsPlaced a at → IsPlaced b at
 placed_on {at = at} {a = a} {b = b} k is = record {
   singles = start_same b.single_ends a.single_ends at.singles k.single_ends ∙ is.singles;
   rings = start_same b.ring_ends a.ring_ends at.rings k.ring_ends ∙ is.rings;
 }
 
 -- the last end is the sum
-ends_last : (start : ℕ) (ns : List ℕ) → start_at start (ends start ns) (length (ends start ns))
-    ≡ start + sum ns
+ends_last : (start : ℕ) (ns : List ℕ) → start_at start (ends start ns) (length (ends start ns)) ≡ start + sum ns
 ends_last start [] = omega arith
 ends_last start (n ∷ ns) =
     let others = ends (start + n) ns in
@@ -98,18 +88,15 @@ ends_last start (n ∷ ns) =
     ∙ omega (arith, sum-first n ns)
 
 -- what comes behind ends that a list holds begins where the last of them ends
-held_ends : {xs : List ℕ} {from to : ℕ} (start : ℕ) (ns : List ℕ)
-    → IsHeld xs from to (ends start ns)
+held_ends : {xs : List ℕ} {from to : ℕ} (start : ℕ) (ns : List ℕ) → IsHeld xs from to (ends start ns)
     → start_at 0 xs from ≡ start → start_at 0 xs to ≡ start + sum ns
 held_ends {xs} {from} {to} start ns h is =
-    sym (last_of_part 0 xs from to (omega (arith, h.many)) h.within)
-    ∙ rw (is, h.are) (ends_last start ns)
+    sym (last_of_part 0 xs from to (omega (arith, h.many)) h.within) ∙ rw (is, h.are) (ends_last start ns)
 
 -- ---- a row that is written
 
 -- items that are put behind a number change nothing before it
-take_before : {A : Type 0} (k at : ℕ) (xs items : List A) → k ≤ at
-    → take k (sets xs at items) ≡ take k xs
+take_before : {A : Type 0} (k at : ℕ) (xs items : List A) → k ≤ at → take k (sets xs at items) ≡ take k xs
 take_before k at xs [] h = refl
 take_before k at xs (a ∷ items) h =
     take_before k (suc at) (set xs at a) items (omega (arith, h)) ∙ take-set-le k xs at a h
@@ -119,30 +106,23 @@ take_stays : {A : Type 0} (n : ℕ) (xs items : List A) → take n (sets xs n it
 take_stays n xs items = take_before n n xs items (omega arith)
 
 -- the levels of these subjects are in the lists, from some totals to others
-pub record HoldsLevels (asked : Dimension) (out lists : LevelLists) (from to : Totals)
-    (xs : List Subject) : Type 0
+pub record HoldsLevels (asked : Dimension) (out lists : LevelLists) (from to : Totals) (xs : List Subject) : Type 0
   where
     pub room : HasRoomUpTo asked out to
     pub coordinates : to.coordinates ≡ from.coordinates + sum (flat_map ring_counts xs)
     pub rings : to.rings ≡ from.rings + length (flat_map ring_counts xs)
-    pub single_ends : IsHeld lists.single_ends from.singles to.singles
-        (ends from.rings (flat_map single_counts xs))
-    pub ring_ends : IsHeld lists.ring_ends from.rings to.rings
-        (ends from.coordinates (flat_map ring_counts xs))
-    pub words : length (flat_map (asked_subject_words asked) xs)
-        ≡ width asked * sum (flat_map ring_counts xs)
+    pub single_ends : IsHeld lists.single_ends from.singles to.singles (ends from.rings (flat_map single_counts xs))
+    pub ring_ends : IsHeld lists.ring_ends from.rings to.rings (ends from.coordinates (flat_map ring_counts xs))
+    pub words : length (flat_map (asked_subject_words asked) xs) ≡ width asked * sum (flat_map ring_counts xs)
         → IsHeld lists.words (width asked * from.coordinates) (width asked * to.coordinates)
         (flat_map (asked_subject_words asked) xs)
 
--- what a row does to lists: up to where it begins they stay, and with room for it they end where
--- the totals say
-pub record GoesOn (asked : Dimension) (out : LevelLists) (from to : Totals)
-    (before after : LevelLists) : Type 0 where
+-- what a row does to lists: up to where it begins they stay, and with room for it they end where the totals say
+pub record GoesOn (asked : Dimension) (out : LevelLists) (from to : Totals) (before after : LevelLists) : Type 0 where
   pub keeps : Keeps asked from before after
   pub placed : IsPlaced before from → HasRoomUpTo asked out to → IsPlaced after to
 
-module _ {asked : Dimension} (xs : List Subject) (from : Totals) {out before : LevelLists}
-    (short : AreShort out)
+module _ {asked : Dimension} (xs : List Subject) (from : Totals) {out before : LevelLists} (short : AreShort out)
     (long : AreAsLong before out) (room : HasRoomUpTo asked before (totals_after from xs)) where
   abbrev rings : List ℕ
   rings = flat_map ring_counts xs
@@ -159,26 +139,19 @@ module _ {asked : Dimension} (xs : List Subject) (from : Totals) {out before : L
   -- where there is room they are put
   put_levels : HoldsLevels asked out after from to xs
   put_levels =
-      let coordinates : to.coordinates ≡ from.coordinates + sum rings =
-      omega (arith, wide_enough asked to.coordinates) in
+      let coordinates : to.coordinates ≡ from.coordinates + sum rings = omega (arith, wide_enough asked to.coordinates) in
       record {
         room =
-            room_in asked before out to (record {
-              words = sym long.words;
-              ring_ends = sym long.ring_ends;
-              single_ends = sym long.single_ends;
-            }) room;
+            room_in asked before out to
+            (record { words = sym long.words; ring_ends = sym long.ring_ends; single_ends = sym long.single_ends }) room;
         coordinates = coordinates;
         rings = omega arith;
         single_ends =
-            held_put before.single_ends _ _ _
-            (omega (arith, ends_length from.rings singles)) room.singles_fit;
+            held_put before.single_ends _ _ _ (omega (arith, ends_length from.rings singles)) room.singles_fit;
         ring_ends =
-            held_put before.ring_ends _ _ _ (omega (arith, ends_length from.coordinates rings))
-            room.rings_fit;
+            held_put before.ring_ends _ _ _ (omega (arith, ends_length from.coordinates rings)) room.rings_fit;
         words = λ wide.
-            held_put before.words _ _ _ (rw (wide, ← mul-add)
-            (ap (λ n. width asked * n) coordinates)) room.words_fit;
+            held_put before.words _ _ _ (rw (wide, ← mul-add) (ap (λ n. width asked * n) coordinates)) room.words_fit;
       }
 
   -- and the row goes on
@@ -193,56 +166,51 @@ module _ {asked : Dimension} (xs : List Subject) (from : Totals) {out before : L
             let p = placed_on keeps is in
             record {
               singles =
-                  held_ends from.rings singles e.single_ends p.singles
-                  ∙ omega (arith, counted, e.rings);
+                  held_ends from.rings singles e.single_ends p.singles ∙ omega (arith, counted, e.rings);
               rings = held_ends from.coordinates rings e.ring_ends p.rings ∙ sym e.coordinates;
             };
       }
 
 -- ---- a row more
 
-module _ {asked : Dimension} {from to : Totals} {out before after : LevelLists}
-    (short : AreShort out) (long : AreAsLong before out) where
+module _ {asked : Dimension} {from to : Totals} {out before after : LevelLists} (short : AreShort out)
+    (long : AreAsLong before out) where
   -- nothing is written
-  stays : after ≡ before → (HasRoomUpTo asked out to → to ≡ from)
-      → GoesOn asked out from to before after
+  stays : after ≡ before → (HasRoomUpTo asked out to → to ≡ from) → GoesOn asked out from to before after
   stays same at = record {
     keeps = rw same (record { words = refl; ring_ends = refl; single_ends = refl });
     placed = λ is fits. rw (same, at fits) is;
   }
 
   -- a geometry goes on, and where the status is OK its levels are there
-  geometry_goes : {status : ℕ} {xs : List Subject} → AreCounted xs
-      → ArePut asked xs status from to before after → GoesOn asked out from to before after
+  geometry_goes : {status : ℕ} {xs : List Subject} → AreCounted xs → ArePut asked xs status from to before after
+      → GoesOn asked out from to before after
   geometry_goes {xs = xs} counted (written ok to_is room after_is) =
       rw (after_is, to_is) (put_goes xs from short long (rw to_is at room) counted)
   geometry_goes counted (no_room told to_is lacks same) =
       stays same (λ fits. absurd (lacks (room_in asked out before to long fits)))
 
-  geometry_there : {status : ℕ} {xs : List Subject} → status ≡ OK
-      → ArePut asked xs status from to before after → HoldsLevels asked out after from to xs
+  geometry_there : {status : ℕ} {xs : List Subject} → status ≡ OK → ArePut asked xs status from to before after
+      → HoldsLevels asked out after from to xs
   geometry_there {xs = xs} ok (written told to_is room after_is) =
       rw (after_is, to_is) (put_levels xs from short long (rw to_is at room))
   geometry_there ok (no_room told to_is lacks same) = absurd (omega (arith, ok, told))
 
   -- so does a row
-  module _ {c : Column} {dimension i status : ℕ}
-      (named : dimension_of_thousands dimension ≡ Some asked) where
+  module _ {c : Column} {dimension i status : ℕ} (named : dimension_of_thousands dimension ≡ Some asked) where
     in_asked : {other : Dimension} {xs : List Subject} → HasCoordinates c dimension i other xs
         → ArePut other xs status from to before after → ArePut asked xs status from to before after
     in_asked {other} {xs} has put =
         subst (λ d. ArePut d xs status from to before after)
         (one_dimension dimension other asked has.asked_is named) put
 
-    pub row_goes : IsCoordinatesRow c dimension i status from to before after
-        → GoesOn asked out from to before after
-    row_goes (handed other xs has put) =
-        geometry_goes (rw has.are (counted has.s has.t)) (in_asked has put)
+    pub row_goes : IsCoordinatesRow c dimension i status from to before after → GoesOn asked out from to before after
+    row_goes (handed other xs has put) = geometry_goes (rw has.are (counted has.s has.t)) (in_asked has put)
     row_goes (failed why to_is same) = stays same (λ fits. to_is)
 
     -- a row of the status OK is there, if it begins with this geometry
-    pub row_there : {row rest : List ℕ} {s : Spelling} {t : Value} → status ≡ OK → IsRow c i row
-        → Front row s t rest → IsCoordinatesRow c dimension i status from to before after
+    pub row_there : {row rest : List ℕ} {s : Spelling} {t : Value} → status ≡ OK → IsRow c i row → Front row s t rest
+        → IsCoordinatesRow c dimension i status from to before after
         → HoldsLevels asked out after from to (subjects s t)
     row_there {row} {rest} {s} {t} ok is front (handed other xs has put) =
         let own : Front row has.s has.t has.rest =
@@ -267,7 +235,8 @@ pub record AreGivenEnds (e : Ends) (xs : List ℕ) : Type 0 where
 given_ends : (xs : Bor (List ℕ)) (n : ℕ) → n ≡ length xs.now
     → AreGivenEnds (if length xs.now == 0 then Each 0 n else At 0 xs) xs.now
 given_ends xs n many =
-    cond_both (length xs.now == 0) (Each 0 n) (At 0 xs) (λ e. AreGivenEnds e xs.now) (λ none.
+    cond_both (length xs.now == 0) (Each 0 n) (At 0 xs) (λ e. AreGivenEnds e xs.now)
+    (λ none.
     let empty : length xs.now ≡ 0 = eqb-true (length xs.now) 0 none in
     record { start = refl; ends = rw (many, empty) (sym (nil_from_length xs.now empty)) })
     (λ some. record { start = refl; ends = refl })
@@ -280,14 +249,12 @@ begin_same e xs k g = λ i. start_at (g.start i) (g.ends i) k
 pub record BeginsAt (l : Levels) (j : ℕ) (at : Totals) : Type 0 where
   pub singles : begin_of l.row_ends j ≡ at.singles
   pub rings : begin_of l.single_ends (begin_of l.row_ends j) ≡ at.rings
-  pub coordinates : begin_of l.ring_ends (begin_of l.single_ends (begin_of l.row_ends j))
-      ≡ at.coordinates
+  pub coordinates : begin_of l.ring_ends (begin_of l.single_ends (begin_of l.row_ends j)) ≡ at.coordinates
 
 -- ---- the rows of a column
 
 -- the rows below a number are done: where they end, and where the next one begins
-pub record IsDone (asked : Dimension) (row_ends : List ℕ) (out : LevelLists) (i : ℕ) (at : Totals)
-    (now : LevelLists)
+pub record IsDone (asked : Dimension) (row_ends : List ℕ) (out : LevelLists) (i : ℕ) (at : Totals) (now : LevelLists)
     : Type 0 where
   pub small : AreSmall at
   pub long : AreAsLong now out
@@ -295,8 +262,7 @@ pub record IsDone (asked : Dimension) (row_ends : List ℕ) (out : LevelLists) (
   pub placed : HasRoomUpTo asked out at → IsPlaced now at
 
 -- some rows are done on the way to these totals and lists
-pub record Stage (asked : Dimension) (Done : Totals → LevelLists → Type 0) (to : Totals)
-    (now : LevelLists) : Type 0
+pub record Stage (asked : Dimension) (Done : Totals → LevelLists → Type 0) (to : Totals) (now : LevelLists) : Type 0
   where
     pub at : Totals
     pub lists : LevelLists
@@ -304,8 +270,8 @@ pub record Stage (asked : Dimension) (Done : Totals → LevelLists → Type 0) (
     pub far : Reaches at to
     pub kept : Keeps asked at lists now
 
-module _ {c : Column} {dimension : ℕ} {asked : Dimension} {statuses : List ℕ} {rows : ℕ}
-    {l : LevelColumn} (g : AreGivenOn c dimension asked statuses rows l) where
+module _ {c : Column} {dimension : ℕ} {asked : Dimension} {statuses : List ℕ} {rows : ℕ} {l : LevelColumn}
+    (g : AreGivenOn c dimension asked statuses rows l) where
   -- the levels of the rows below a number end here, and the lists are these then
   abbrev pub Done : ℕ → Totals → LevelLists → Type 0
   Done i at now = AreColumnCoordinates c dimension statuses g.row_ends g.out i at now
@@ -329,13 +295,11 @@ module _ {c : Column} {dimension : ℕ} {asked : Dimension} {statuses : List ℕ
         small = says.small;
         long = long_more says.long d.long;
         begins = done.1.1.2;
-        placed =
-            λ room. goes.placed (d.placed (room_before asked g.out done.0 at says.far room)) room;
+        placed = λ room. goes.placed (d.placed (room_before asked g.out done.0 at says.far room)) room;
       }
 
   -- the last of some rows is done on the way to itself
-  last_stage : (n i : ℕ) (to : Totals) (now : LevelLists) → Done n to now → i ≡ n
-      → Stage asked (Done i) to now
+  last_stage : (n i : ℕ) (to : Totals) (now : LevelLists) → Done n to now → i ≡ n → Stage asked (Done i) to now
   last_stage n i to now done same = record {
     at = to;
     lists = now;
@@ -345,8 +309,7 @@ module _ {c : Column} {dimension : ℕ} {asked : Dimension} {statuses : List ℕ
   }
 
   -- and the one from the last on
-  pub stage : (n i : ℕ) (to : Totals) (now : LevelLists) → i ≤ n → Done n to now
-      → Stage asked (Done i) to now
+  pub stage : (n i : ℕ) (to : Totals) (now : LevelLists) → i ≤ n → Done n to now → Stage asked (Done i) to now
   stage zero i to now below done = last_stage zero i to now done (omega (arith, below))
   stage (suc n) i to now below done =
       elim (cases_eq i (suc n)) [
@@ -384,17 +347,18 @@ module _ {c : Column} {dimension : ℕ} {asked : Dimension} {statuses : List ℕ
   ring_level = given_ends l.ring_ends l.rings g.levels.rings
 
   -- so a row begins in them where those before it end
-  pub begins_at : (j : ℕ) (at : Totals) (now : LevelLists) → Done j at now
-      → Keeps asked at now given → HasRoomUpTo asked g.out at → BeginsAt (levels_in l) j at
+  pub begins_at : (j : ℕ) (at : Totals) (now : LevelLists) → Done j at now → Keeps asked at now given
+      → HasRoomUpTo asked g.out at → BeginsAt (levels_in l) j at
   begins_at j at now done kept room =
       let d = rows_done j at now done in
       let placed = placed_on kept (d.placed room) in
       let row_level = given_ends l.row_ends l.rows g.levels.rows in
-      let singles = begin_same (levels_in l).row_ends l.row_ends.now j row_level
+      let singles =
+      begin_same (levels_in l).row_ends l.row_ends.now j row_level
       ∙ ap (λ z. start_at 0 z j) g.levels.row_ends_are ∙ d.begins in
-      let rings = ap (begin_of (levels_in l).single_ends) singles
-      ∙ begin_same (levels_in l).single_ends l.single_ends.now at.singles single_level
-      ∙ placed.singles in
+      let rings =
+      ap (begin_of (levels_in l).single_ends) singles
+      ∙ begin_same (levels_in l).single_ends l.single_ends.now at.singles single_level ∙ placed.singles in
       record {
         singles = singles;
         rings = rings;
