@@ -168,7 +168,7 @@ class Names(judge.Judge):
         ("docs/COST.md", "", "`rt check --only coord::Coord::lost`\n\n", "no source has `coord::Coord::lost`"),
         ("docs/COST.md", "", "`wkb::reader::to_vec`\n\n", "no source has `wkb::reader::to_vec`"),
         (FLOWS, "reader::read_wkb<", "writer::read_wkb<", "no code and no file is writer::read_wkb"),
-        (FLOWS, ">put_encoding<", ">put_lost<", "no code and no file is put_lost"),
+        (FLOWS, ">lay_encoding<", ">lay_lost<", "no code and no file is lay_lost"),
         ("docs/pictures/layers.svg", "c/proved/*.s<", "c/proved/*.o<", "no code and no file is c/proved/*.o"),
         ("ARCHITECTURE.md", "", f"{TABLE}| `wkb_read/src/read.rt` | `to_vec` |\n\n", "doesn't define `to_vec`"),
     ]

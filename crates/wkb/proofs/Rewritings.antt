@@ -21,12 +21,12 @@ use Rattle.wkb_read.specs.Reads.{IsRefusal}
 use Rattle.wkb_rewrite.proofs.Measured.{here}
 use Rattle.wkb.specs.Canonical.{IsAccepted, HaveOneValue, HaveTwoValues, OverflowsWithSrid}
 
--- what was put into a list of as many bytes is all that it then holds
+-- what was laid into a list of as many bytes is all that it then holds
 pub filled : (x old new items : List ℕ) (len n : ℕ) → length old ≡ len → len ≡ n → n ≡ length x → new ≡ sets old 0 x
     → take len (new ++ drop (length new) items) ≡ x
-filled x old new items len n long is fits put =
+filled x old new items len n long is fits laid =
     let new_is : new ≡ x =
-    put ∙ sets-eq x old 0 (omega (arith, long, is, fits))
+    laid ∙ sets-eq x old 0 (omega (arith, long, is, fits))
     ∙ ap (λ n. x ++ drop n old) (omega arith)
     ∙ ap (λ l. x ++ l) (drop_all (length x) old (omega (arith, long, is, fits))) ∙ append-nil x in
     ap (λ n. take n (new ++ drop (length new) items)) (is ∙ fits ∙ sym (ap length new_is))

@@ -20,7 +20,7 @@ use wkb_geom::error::{WkbError, WkbResult};
 use wkb_geom::header::MAX_HEADER_SIZE;
 use wkb_geom::{Endianness, Form};
 use wkb_rewrite::{
-    Copied, encoded_size, have_one_value, put_one_piece, put_pieces, size_with_own_srid,
+    Copied, encoded_size, have_one_value, lay_one_piece, lay_pieces, size_with_own_srid,
 };
 use wkb_write::WriteOptions;
 
@@ -98,7 +98,7 @@ fn copied_to_vec(alloc: Global, copied: &Copied) -> WkbResult<Vec<u8>>
     ensures err { IfErr result IsMemory }
 {
     let mut header = [0; MAX_HEADER_SIZE];
-    let end = copied.put_header(&mut header);
+    let end = copied.lay_header(&mut header);
     let mut encoding = Vec::with_capacity(alloc, end + copied.rest.len())?;
     encoding.extend_from_slice(&header[..end])?;
     encoding.extend_from_slice(copied.rest)?;
@@ -119,7 +119,7 @@ fn rewritten_piece(
     ensures err { IfErr result IsMemory }
 {
     let mut encoding = vec![in alloc; 0; size_with_own_srid(buf, found, options.form)]?;
-    put_one_piece(buf, found, options, encoding.as_mut_slice());
+    lay_one_piece(buf, found, options, encoding.as_mut_slice());
     Ok(encoding)
 }
 
@@ -142,6 +142,6 @@ fn rewritten(
         return copied_to_vec(alloc, &copied);
     }
     let mut encoding = vec![in alloc; 0; encoded_size(buf, found, options.form)]?;
-    put_pieces(buf, options, encoding.as_mut_slice());
+    lay_pieces(buf, options, encoding.as_mut_slice());
     Ok(encoding)
 }

@@ -24,7 +24,7 @@ use Rattle.wkb_abi.specs.Coordinates.{LevelLists, HasRoomUpTo, with_levels}
 use Rattle.wkb_abi.specs.LevelLists.{levels_of, AreSameSlices, HasRoomFor}
 use Rattle.wkb_abi.specs.declared.level_slices.LevelSlices.{LevelSlices}
 use Rattle.wkb_abi.specs.declared.totals.Totals.{Totals}
-use Rattle.wkb_abi.specs.PieceLevels.{ring_sizes, single_sizes, piece_words, PieceFits, PutsPiece, AreTotalsWith}
+use Rattle.wkb_abi.specs.PieceLevels.{ring_sizes, single_sizes, piece_words, PieceFits, LaysPiece, AreTotalsWith}
 use Rattle.wkb_abi.specs.RowItems.{end_of}
 use Rattle.wkb_check.proofs.Subjects.{IsPieceOf, ArePiecesOf, kind_in, count_in, pieces_match}
 use Rattle.wkb_check.specs.Subjects.{Subject, whole, ring, subjects, subjects_of_rings, subjects_of_each, dimension_in}
@@ -45,19 +45,19 @@ asked_length Xy own c = refl
 asked_length _ own c = refl
 
 -- a store after a store is a store of both
-pub two_put : (out : List ℕ) (at : ℕ) {a b x y : ℕ} → a ≡ x → b ≡ y
+pub two_laid : (out : List ℕ) (at : ℕ) {a b x y : ℕ} → a ≡ x → b ≡ y
     → set (set out at a) (at + 1) b ≡ sets out at (x ∷ y ∷ [])
-two_put out at p q = let one : at + 1 ≡ suc at = omega arith in λ i. set (set out at (p i)) (one i) (q i)
+two_laid out at p q = let one : at + 1 ≡ suc at = omega arith in λ i. set (set out at (p i)) (one i) (q i)
 
-pub three_put : (out : List ℕ) (at : ℕ) {a b c x y z : ℕ} → a ≡ x → b ≡ y → c ≡ z
+pub three_laid : (out : List ℕ) (at : ℕ) {a b c x y z : ℕ} → a ≡ x → b ≡ y → c ≡ z
     → set (set (set out at a) (at + 1) b) (at + 2) c ≡ sets out at (x ∷ y ∷ z ∷ [])
-three_put out at p q r =
-    let two : at + 2 ≡ suc (suc at) = omega arith in λ i. set (two_put out at p q i) (two i) (r i)
+three_laid out at p q r =
+    let two : at + 2 ≡ suc (suc at) = omega arith in λ i. set (two_laid out at p q i) (two i) (r i)
 
-pub four_put : (out : List ℕ) (at : ℕ) {a b c d x y z w : ℕ} → a ≡ x → b ≡ y → c ≡ z → d ≡ w
+pub four_laid : (out : List ℕ) (at : ℕ) {a b c d x y z w : ℕ} → a ≡ x → b ≡ y → c ≡ z → d ≡ w
     → set (set (set (set out at a) (at + 1) b) (at + 2) c) (at + 3) d ≡ sets out at (x ∷ y ∷ z ∷ w ∷ [])
-four_put out at p q r s =
-    let three : at + 3 ≡ suc (suc (suc at)) = omega arith in λ i. set (three_put out at p q r i) (three i) (s i)
+four_laid out at p q r s =
+    let three : at + 3 ≡ suc (suc (suc at)) = omega arith in λ i. set (three_laid out at p q r i) (three i) (s i)
 
 -- n coordinates are still to be written
 pub record WordsLeft (asked own : Dimension) (order : Endianness) (row all : List ℕ) (n from at : ℕ) (out : List ℕ)
@@ -349,7 +349,7 @@ subjects_words asked (x ∷ xs) =
       ap (λ n. width asked * n) (sum_append (ring_counts x) (flat_map ring_counts xs)),
     )
 
--- these items are still to be put here, for which there is room, and then the list is this
+-- these items are still to be laid here, for which there is room, and then the list is this
 pub record ItemsLeft (out : List ℕ) (at : ℕ) (items all : List ℕ) : Type 0 where
   pub short : length out < 2 ^ 63
   pub room : at + length items ≤ length out
@@ -469,7 +469,7 @@ module _ {asked : Dimension} {input : List ℕ} {from : Totals} {all : List Subj
   }
 
   module _ (to : Totals) (new : LevelLists) (with : AreTotalsWith at p to)
-      (put : PutsPiece asked input p at out new) where
+      (laid : LaysPiece asked input p at out new) where
     coordinates_to : to.coordinates ≡ at.coordinates + sum (ring_sizes p)
     coordinates_to =
         omega (
@@ -510,13 +510,13 @@ module _ {asked : Dimension} {input : List ℕ} {from : Totals} {all : List Subj
       words =
           items_next left.words (width asked * to.coordinates) (piece_words asked input p)
           (flat_map (asked_subject_words asked) this.others) new.words (words_are this asked)
-          (ap (λ n. width asked * n) coordinates_to ∙ omega (arith, piece_length)) put.words;
+          (ap (λ n. width asked * n) coordinates_to ∙ omega (arith, piece_length)) laid.words;
       ring_ends =
           items_next left.ring_ends to.rings (ends at.coordinates (ring_sizes p))
           (ends to.coordinates (flat_map ring_counts this.others)) new.ring_ends
           (ap (ends at.coordinates) (rings_are this)
           ∙ ends_append at.coordinates to.coordinates (ring_sizes p) (flat_map ring_counts this.others) coordinates_to)
-          (omega (arith, rings_to, ends_length at.coordinates (ring_sizes p))) put.ring_ends;
+          (omega (arith, rings_to, ends_length at.coordinates (ring_sizes p))) laid.ring_ends;
       single_ends =
           let start = at.rings + left.rings_left in
           items_next left.single_ends to.singles (ends start (single_sizes p))
@@ -524,7 +524,7 @@ module _ {asked : Dimension} {input : List ℕ} {from : Totals} {all : List Subj
           (ap (ends start) (singles_are this)
           ∙ ends_append start (to.rings + paces.now) (single_sizes p) (flat_map single_counts this.others) open_to)
           (omega (arith, singles_to, ends_length start (single_sizes p)))
-          (put.single_ends ∙ ap (sets out.single_ends at.singles) (from_here paces.single_or_none));
+          (laid.single_ends ∙ ap (sets out.single_ends at.singles) (from_here paces.single_or_none));
     }
 
     pub levels_next : {now : Pieces} → IsAhead now rest → Coming now (LevelsLeft asked input from all before to new)
@@ -546,15 +546,15 @@ levels_end {asked} {input} {at = at} {ps = ps} left none =
 -- where it is the only piece, all is written then
 pub levels_alone : {asked : Dimension} {input : List ℕ} {from at : Totals} {all : List Subject}
     {before out new : LevelLists} {ps : List Piece} {p : Piece} → LevelsLeft asked input from all before at out ps
-    → ps ≡ p ∷ [] → PutsPiece asked input p at out new → new ≡ with_levels asked all from before
-levels_alone {at = at} {new = new} {p = p} left only put =
+    → ps ≡ p ∷ [] → LaysPiece asked input p at out new → new ≡ with_levels asked all from before
+levels_alone {at = at} {new = new} {p = p} left only laid =
     let to : Totals = record {
       coordinates = end_of at.coordinates (sum (ring_sizes p));
       rings = end_of at.rings (length (ring_sizes p));
       singles = end_of at.singles (length (single_sizes p));
     } in
     let with : AreTotalsWith at p to = record { coordinates = refl; rings = refl; singles = refl } in
-    levels_end (levels_behind left only to new with put) refl
+    levels_end (levels_behind left only to new with laid) refl
 
 -- ---- a walk
 
@@ -581,10 +581,10 @@ module _ {asked : Dimension} {row : List ℕ} {from : Totals} where
     first_fits g = piece_fits (all_left g) (behind.steps g).first
 
     pub walk_begins : {to : Totals} {out : LevelSlices} → AreTotalsWith from first to
-        → PutsPiece asked row first from (levels_of before) (levels_of out) → AreSameSlices before out
+        → LaysPiece asked row first from (levels_of before) (levels_of out) → AreSameSlices before out
         → Walks asked row from before w to out
-    walk_begins {to} {out} with put same = record {
-      left = λ g. levels_next (all_left g) (behind.steps g).first to (levels_of out) with put (behind.steps g).ahead;
+    walk_begins {to} {out} with laid same = record {
+      left = λ g. levels_next (all_left g) (behind.steps g).first to (levels_of out) with laid (behind.steps g).ahead;
       same_slices = same;
       same = behind.same;
       inside = behind.inside.inside;
@@ -601,13 +601,13 @@ module _ {asked : Dimension} {row : List ℕ} {from : Totals} where
     next_fits steps g = let l = walks.left g in piece_fits l.left (steps.steps l.ps l.ahead).first
 
     pub walk_goes_on : {p : Piece} {now : Pieces} {to : Totals} {new : LevelSlices} → Steps w (Some p) now
-        → AreTotalsWith at p to → PutsPiece asked row p at (levels_of out) (levels_of new) → AreSameSlices out new
+        → AreTotalsWith at p to → LaysPiece asked row p at (levels_of out) (levels_of new) → AreSameSlices out new
         → Walks asked row from before now to new
-    walk_goes_on {to = to} {new = new} steps with put same = record {
+    walk_goes_on {to = to} {new = new} steps with laid same = record {
       left = λ g.
           let l = walks.left g in
           let taken = steps.steps l.ps l.ahead in
-          levels_next l.left taken.first to (levels_of new) with put taken.ahead;
+          levels_next l.left taken.first to (levels_of new) with laid taken.ahead;
       same_slices = stay_same same walks.same_slices;
       same = steps.same ∙ walks.same;
       inside = omega (arith, steps.inside.inside, ap length walks.same);

@@ -12,7 +12,7 @@ use Rattle.wkb_abi.specs.Columns.{IsRow}
 use Rattle.wkb_abi.specs.declared.column.Column.{Column}
 use Rattle.wkb_abi.specs.Coordinates.{LevelLists, HasRoomUpTo, LevelsSuffice, written, no_room, LacksCoordinates}
 use Rattle.wkb_abi.specs.Coordinates.{IsCoordinatesRow, HasCoordinates, handed, failed, refused}
-use Rattle.wkb_abi.specs.LevelLists.{PutsAny, PutsRow, accepted, rejected}
+use Rattle.wkb_abi.specs.LevelLists.{LaysAny, LaysRow, accepted, rejected}
 use Rattle.wkb_abi.specs.declared.level_slices.LevelSlices.{LevelSlices}
 use Rattle.wkb_abi.specs.Coordinates.{totals_after, with_levels, ring_counts, single_counts, ends, asked_subject_words}
 use Rattle.wkb_abi.specs.declared.totals.Totals.{Totals}
@@ -38,12 +38,12 @@ has_coordinates row is asked_is found d = record {
 }
 
 -- what becomes of a row that has these bytes
-pub any_put : {c : Column} {dimension i status : ℕ} {asked : Dimension} {row : List ℕ} {from to : Totals}
+pub any_laid : {c : Column} {dimension i status : ℕ} {asked : Dimension} {row : List ℕ} {from to : Totals}
     {before after : LevelSlices} → IsRow c i row → dimension_of_thousands dimension ≡ Some asked
-    → PutsAny asked row status from to before after → PutsRow c dimension i status from to before after
-any_put {asked = asked} {row = row} is asked_is (accepted found d put) =
-    handed asked (subjects d.spelled d.value) (has_coordinates row is asked_is found d) (put d)
-any_put {asked = asked} {row = row} is asked_is (rejected why stays same) =
+    → LaysAny asked row status from to before after → LaysRow c dimension i status from to before after
+any_laid {asked = asked} {row = row} is asked_is (accepted found d laid) =
+    handed asked (subjects d.spelled d.value) (has_coordinates row is asked_is found d) (laid d)
+any_laid {asked = asked} {row = row} is asked_is (rejected why stays same) =
     failed (refused row asked is asked_is why) stays same
 
 -- lists are as long as others
@@ -92,9 +92,9 @@ small_after from xs = record { coordinates = omega arith; rings = omega arith; s
 same_long : (out : LevelLists) → AreAsLong out out
 same_long out = record { words = refl; ring_ends = refl; single_ends = refl }
 
-put_long : (asked : Dimension) (xs : List Subject) (from : Totals) (out : LevelLists)
+laid_long : (asked : Dimension) (xs : List Subject) (from : Totals) (out : LevelLists)
     → AreAsLong (with_levels asked xs from out) out
-put_long asked xs from out = record {
+laid_long asked xs from out = record {
   words = length-sets out.words (width asked * from.coordinates) (flat_map (asked_subject_words asked) xs);
   ring_ends = length-sets out.ring_ends from.rings (ends from.coordinates (flat_map ring_counts xs));
   single_ends = length-sets out.single_ends from.singles (ends from.rings (flat_map single_counts xs));
@@ -127,8 +127,8 @@ says {from = from} {before = before} xs now to_is after_is small long lacks = re
 pub row_says : {c : Column} {dimension i status : ℕ} {from to : Totals} {before after : LevelLists}
     → IsCoordinatesRow c dimension i status from to before after → AreSmall from
     → RowSays dimension status from to before after
-row_says {from = from} {before = before} (handed asked xs has (written ok is room put)) small =
-    says xs _ is put small (put_long asked xs from before) (λ other named room told. omega (arith, ok, told))
+row_says {from = from} {before = before} (handed asked xs has (written ok is room laid)) small =
+    says xs _ is laid small (laid_long asked xs from before) (λ other named room told. omega (arith, ok, told))
 row_says {dimension = dimension} {to = to} {before = before} (handed asked xs has (no_room told is short same)) small =
     says xs _ is same small (same_long before)
     (λ other named room told.

@@ -58,7 +58,7 @@ pub record TellsFound (input : List ℕ) (before after : Found) (fault fault' : 
   pub found_kept : status ≢ OK → after ≡ before
   pub fault_kept : status ≡ OK → fault' ≡ fault
 
--- the effect of a call that puts the bounds of the geometry at the start of an input, or reports its error
+-- the effect of a call that lays the bounds of the geometry at the start of an input, or reports its error
 pub record TellsBounds (input : List ℕ) (before after : Bounds) (fault fault' : WkbFault) (status : ℕ) : Type 0 where
   pub accepted : status ≡ OK → BoundsFront input after
   pub refused : status ≢ OK → IsFault input status fault'

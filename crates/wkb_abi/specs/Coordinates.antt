@@ -96,7 +96,7 @@ pub record HasRoomUpTo (asked : Dimension) (out : LevelLists) (to : Totals) : Ty
   pub rings_fit : to.rings ≤ length out.ring_ends
   pub singles_fit : to.singles ≤ length out.single_ends
 
--- the lists after the levels of these subjects are put into them, from these totals on
+-- the lists after the levels of these subjects are laid into them, from these totals on
 abbrev pub with_levels : Dimension → List Subject → Totals → LevelLists → LevelLists
 with_levels asked xs from out = record {
   words = sets out.words (width asked * from.coordinates) (flat_map (asked_subject_words asked) xs);
@@ -105,13 +105,13 @@ with_levels asked xs from out = record {
 }
 
 -- the levels of these subjects that begin here are written, or there is no room for them and nothing changes
-pub data ArePut (asked : Dimension) (xs : List Subject) (status : ℕ) (from to : Totals) (before after : LevelLists)
+pub data AreLaid (asked : Dimension) (xs : List Subject) (status : ℕ) (from to : Totals) (before after : LevelLists)
     : Type 0
   where
     written : status ≡ OK → to ≡ totals_after from xs → HasRoomUpTo asked before to
-        → after ≡ with_levels asked xs from before → ArePut asked xs status from to before after
+        → after ≡ with_levels asked xs from before → AreLaid asked xs status from to before after
     no_room : status ≡ NO_ROOM → to ≡ totals_after from xs → (HasRoomUpTo asked before to → ⊥)
-        → after ≡ before → ArePut asked xs status from to before after
+        → after ≡ before → AreLaid asked xs status from to before after
 
 -- row i has no coordinates, and this status says why
 pub data LacksCoordinates (c : Column) (dimension i status : ℕ) : Type 0 where
@@ -136,7 +136,7 @@ pub record HasCoordinates (c : Column) (dimension i : ℕ) (asked : Dimension) (
 pub data IsCoordinatesRow (c : Column) (dimension i status : ℕ) (from to : Totals) (before after : LevelLists) : Type 0
   where
     handed : (asked : Dimension) (xs : List Subject) → HasCoordinates c dimension i asked xs
-        → ArePut asked xs status from to before after
+        → AreLaid asked xs status from to before after
         → IsCoordinatesRow c dimension i status from to before after
     failed : LacksCoordinates c dimension i status → to ≡ from → after ≡ before
         → IsCoordinatesRow c dimension i status from to before after

@@ -5,7 +5,7 @@ use Rattle.wkb_check.specs.Known.{HasGeometry}
 use Rattle.wkb_check.specs.Public.{DescribesFront}
 use Rattle.wkb_check.specs.declared.answer.Summary.{Summary}
 use Rattle.wkb_abi.specs.Coordinates.{LevelLists, levels, HasRoomUpTo, totals_after, with_levels, IsCoordinatesRow}
-use Rattle.wkb_abi.specs.Coordinates.{ArePut, AreColumnCoordinates, LevelsSuffice}
+use Rattle.wkb_abi.specs.Coordinates.{AreLaid, AreColumnCoordinates, LevelsSuffice}
 use Rattle.wkb_abi.specs.RowItems.{rows_of}
 use Rattle.wkb_check.specs.Subjects.{subjects}
 use Rattle.wkb_abi.specs.Columns.{IsRefusedWith}
@@ -29,27 +29,27 @@ HasRoomFor asked row from out =
     (g : HasGeometry row) → HasRoomUpTo asked (levels_of out) (totals_after from (subjects g.spelled g.value))
 
 -- the levels of the geometry that a row begins with are written to the slices
-abbrev pub PutsLevels : Dimension → List ℕ → Totals → LevelSlices → LevelSlices → Type 0
-PutsLevels asked row from before after =
+abbrev pub LaysLevels : Dimension → List ℕ → Totals → LevelSlices → LevelSlices → Type 0
+LaysLevels asked row from before after =
     (g : HasGeometry row) → levels_of after ≡ with_levels asked (subjects g.spelled g.value) from (levels_of before)
 
 -- the levels of a row in which the check found this, where they begin and end, and what becomes of the slices
-abbrev pub PutsFound : Dimension → List ℕ → Summary → ℕ → Totals → Totals → LevelSlices → LevelSlices → Type 0
-PutsFound asked row found status from to before after =
+abbrev pub LaysFound : Dimension → List ℕ → Summary → ℕ → Totals → Totals → LevelSlices → LevelSlices → Type 0
+LaysFound asked row found status from to before after =
     (d : DescribesFront row found)
-    → ArePut asked (subjects d.spelled d.value) status from to (levels_of before) (levels_of after)
+    → AreLaid asked (subjects d.spelled d.value) status from to (levels_of before) (levels_of after)
 
 -- the status of a row with any bytes, where its levels begin and end, and what becomes of the slices
-pub data PutsAny (asked : Dimension) (row : List ℕ) (status : ℕ) (from to : Totals) (before after : LevelSlices) : Type 0
+pub data LaysAny (asked : Dimension) (row : List ℕ) (status : ℕ) (from to : Totals) (before after : LevelSlices) : Type 0
   where
-    accepted : (found : Summary) → DescribesFront row found → PutsFound asked row found status from to before after
-        → PutsAny asked row status from to before after
+    accepted : (found : Summary) → DescribesFront row found → LaysFound asked row found status from to before after
+        → LaysAny asked row status from to before after
     rejected : IsRefusedWith row status → to ≡ from → levels_of after ≡ levels_of before
-        → PutsAny asked row status from to before after
+        → LaysAny asked row status from to before after
 
 -- the status of row i, where its levels begin and end, and what becomes of the slices
-abbrev pub PutsRow : Column → ℕ → ℕ → ℕ → Totals → Totals → LevelSlices → LevelSlices → Type 0
-PutsRow c dimension i status from to before after =
+abbrev pub LaysRow : Column → ℕ → ℕ → ℕ → Totals → Totals → LevelSlices → LevelSlices → Type 0
+LaysRow c dimension i status from to before after =
     IsCoordinatesRow c dimension i status from to (levels_of before) (levels_of after)
 
 -- the levels of all rows are written to the slices, with a status and an end for each row

@@ -27,7 +27,7 @@ pub data LacksLevels (c : LevelColumn) (asked : Option LevelTarget) (i status : 
       → ((bytes : List ℕ) → HasRowEncoding (levels_in c) t.kind t.dim t.options i bytes → ⊥) → status ≡ BAD_LEVELS
       → LacksLevels c asked i status
 
--- the status of row i and the length of its encoding, which is put behind those before it if there is room
+-- the status of row i and the length of its encoding, which is laid behind those before it if there is room
 abbrev pub IsLevelStep : LevelColumn → Option LevelTarget → ℕ → ℕ × ℕ → ℕ → List ℕ → List ℕ → Type 0
 IsLevelStep c asked i told start before after =
     IsRowStep (HasLevelEncoding c asked) (LacksLevels c asked) i told.0 told.1 start before after

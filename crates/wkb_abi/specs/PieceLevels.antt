@@ -96,7 +96,7 @@ pub record PieceFits (asked : Dimension) (row : List ℕ) (p : Piece) (at : Tota
   pub small : at.rings < 2 ^ 63
 
 -- what a piece gives each level is written
-pub record PutsPiece (asked : Dimension) (row : List ℕ) (p : Piece) (at : Totals) (before after : LevelLists) : Type 0
+pub record LaysPiece (asked : Dimension) (row : List ℕ) (p : Piece) (at : Totals) (before after : LevelLists) : Type 0
   where
     pub words : after.words ≡ with_words asked row p at before.words
     pub ring_ends : after.ring_ends ≡ with_ring_end p at before.ring_ends

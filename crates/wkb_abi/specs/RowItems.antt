@@ -79,11 +79,11 @@ LastEndSuffices rows statuses ends out = NoneLacksRoom (start_at 0 ends rows ≤
 abbrev pub KeepsFrom : {A : Type 0} → ℕ → List A → List A → Type 0
 KeepsFrom n before after = drop n after ≡ drop n before
 
--- The status of row i, and how many items it has, where those before it end at `start`: they are put there, if there is
+-- The status of row i, and how many items it has, where those before it end at `start`: they are laid there, if there is
 -- room for them.
 pub data IsRowStep {A : Type 0} (Has : ℕ → List A → Type 0) (Fails : ℕ → ℕ → Type 0)
     (i status count start : ℕ) (before after : List A) : Type 0 where
-  put : (items : List A) → Has i items → status ≡ OK → count ≡ length items → start + count ≤ length before
+  laid : (items : List A) → Has i items → status ≡ OK → count ≡ length items → start + count ≤ length before
       → after ≡ take start before ++ (items ++ drop (start + count) before)
       → IsRowStep Has Fails i status count start before after
   lacks : (items : List A) → Has i items → status ≡ NO_ROOM → count ≡ length items

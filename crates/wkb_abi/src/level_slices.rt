@@ -8,10 +8,10 @@ ghost use Rattle.wkb_geom.specs.declared.code.TheConstants.{POLYGON};
 ghost use Rattle.wkb_check.specs.Known.{HasGeometry};
 ghost use Rattle.wkb_check.specs.Pieces.{IsPieceAt};
 ghost use Rattle.wkb_abi.specs.Coordinates.{z_of, m_of, HasRoomUpTo};
-ghost use Rattle.wkb_abi.specs.LevelLists.{levels_of, AreSameSlices, HasRoomFor, PutsLevels};
+ghost use Rattle.wkb_abi.specs.LevelLists.{levels_of, AreSameSlices, HasRoomFor, LaysLevels};
 ghost use Rattle.wkb_abi.specs.PieceLevels.{ring_sizes, single_sizes, AreInside, IsRingInside, words_read, words_from};
 ghost use Rattle.wkb_abi.specs.PieceLevels.{words_asked_of, with_words, with_ring_end, with_single_end};
-ghost use Rattle.wkb_abi.specs.PieceLevels.{coordinates_with, PieceFits, PutsPiece};
+ghost use Rattle.wkb_abi.specs.PieceLevels.{coordinates_with, PieceFits, LaysPiece};
 
 use crate::totals::{Totals, is_single};
 use wkb_check::{Piece, Pieces};
@@ -68,7 +68,7 @@ fn m_word(row: &[u8], from: usize, order: Endianness, own: Dimension) -> u64
 
 /// Writes the words that are asked for of a coordinate.
 #[inline(always)]
-fn put_coordinate(
+fn lay_coordinate(
     row: &[u8],
     from: usize,
     order: Endianness,
@@ -99,7 +99,7 @@ fn put_coordinate(
 
 /// Writes the words that are asked for of `count` coordinates, which have this order and dimension.
 #[inline(always)]
-fn put_ordered(
+fn lay_ordered(
     bytes: &[u8],
     count: u32,
     order: Endianness,
@@ -115,15 +115,15 @@ fn put_ordered(
     let mut from = 0;
     let mut at = start;
     for _ in 0..count {
-        put_coordinate(bytes, from, order, own, asked, out, at);
+        lay_coordinate(bytes, from, order, own, asked, out, at);
         from += own.coordinate_size();
         at += asked.width();
     }
 }
 
-/// As `put_many_coordinates`, of one coordinate. It is inlined, so that a point takes no call.
+/// As `lay_many_coordinates`, of one coordinate. It is inlined, so that a point takes no call.
 #[inline(always)]
-fn put_one_coordinate(
+fn lay_one_coordinate(
     bytes: &[u8],
     order: Endianness,
     own: Dimension,
@@ -137,8 +137,8 @@ fn put_one_coordinate(
 {
     use Endianness::{BigEndian, LittleEndian};
     match order {
-        LittleEndian => put_ordered(bytes, 1, LittleEndian, own, asked, out, start),
-        BigEndian => put_ordered(bytes, 1, BigEndian, own, asked, out, start),
+        LittleEndian => lay_ordered(bytes, 1, LittleEndian, own, asked, out, start),
+        BigEndian => lay_ordered(bytes, 1, BigEndian, own, asked, out, start),
     }
 }
 
@@ -146,7 +146,7 @@ fn put_one_coordinate(
 /// alone are there and asked for, the dimensions are, too. It takes scalars, so that its callers need no piece in
 /// memory.
 #[inline(never)]
-fn put_many_coordinates(
+fn lay_many_coordinates(
     bytes: &[u8],
     count: u32,
     order: Endianness,
@@ -162,25 +162,25 @@ fn put_many_coordinates(
     use Dimension::Xy;
     use Endianness::{BigEndian, LittleEndian};
     match (order, own, asked) {
-        (LittleEndian, Xy, Xy) => put_ordered(bytes, count, LittleEndian, Xy, Xy, out, start),
-        (BigEndian, Xy, Xy) => put_ordered(bytes, count, BigEndian, Xy, Xy, out, start),
-        (LittleEndian, _, _) => put_ordered(bytes, count, LittleEndian, own, asked, out, start),
-        (BigEndian, _, _) => put_ordered(bytes, count, BigEndian, own, asked, out, start),
+        (LittleEndian, Xy, Xy) => lay_ordered(bytes, count, LittleEndian, Xy, Xy, out, start),
+        (BigEndian, Xy, Xy) => lay_ordered(bytes, count, BigEndian, Xy, Xy, out, start),
+        (LittleEndian, _, _) => lay_ordered(bytes, count, LittleEndian, own, asked, out, start),
+        (BigEndian, _, _) => lay_ordered(bytes, count, BigEndian, own, asked, out, start),
     }
 }
 
 /// Writes the words that are asked for of the coordinates of a piece.
 #[inline(always)]
-fn put_piece_coordinates(row: &[u8], piece: &Piece, asked: Dimension, out: &mut [u64], start: usize)
+fn lay_piece_coordinates(row: &[u8], piece: &Piece, asked: Dimension, out: &mut [u64], start: usize)
     requires inside { AreInside row.now piece.now.dimension piece.now }
     requires room { start + width asked * piece.now.count ≤ length out.old }
     ensures { out.new ≡ sets out.old start (words_asked_of asked row.now piece.now) }
 {
     let bytes = rest_from(row, piece.offset);
     if piece.count == 1 {
-        put_one_coordinate(bytes, piece.order, piece.dimension, asked, out, start);
+        lay_one_coordinate(bytes, piece.order, piece.dimension, asked, out, start);
     } else {
-        put_many_coordinates(
+        lay_many_coordinates(
             bytes,
             piece.count,
             piece.order,
@@ -219,7 +219,7 @@ pub fn has_room(to: &Totals, asked: Dimension, out: &LevelSlices<'_>) -> bool
 
 /// Writes the words of a piece and where it ends, if it is a ring.
 #[inline(always)]
-fn put_ring(
+fn lay_ring(
     row: &[u8],
     piece: &Piece,
     asked: Dimension,
@@ -237,13 +237,13 @@ fn put_ring(
         return;
     }
     let start = asked.width() * at.coordinates as usize;
-    put_piece_coordinates(row, piece, asked, words, start);
+    lay_piece_coordinates(row, piece, asked, words, start);
     ring_ends[at.rings as usize] = at.coordinates + piece.count as u64;
 }
 
 /// Writes where a piece ends, if it is a single.
 #[inline(always)]
-fn put_single(piece: &Piece, at: Totals, single_ends: &mut [u64])
+fn lay_single(piece: &Piece, at: Totals, single_ends: &mut [u64])
     requires small { at.rings < 2 ^ 63 }
     requires fits { at.singles + length (single_sizes piece.now) ≤ length single_ends.old }
     ensures { single_ends.new ≡ with_single_end piece.now at single_ends.old }
@@ -261,7 +261,7 @@ fn put_single(piece: &Piece, at: Totals, single_ends: &mut [u64])
 
 /// Writes what a piece gives each level.
 #[inline(always)]
-fn put_piece_levels(
+fn lay_piece_levels(
     row: &[u8],
     piece: &Piece,
     asked: Dimension,
@@ -269,16 +269,16 @@ fn put_piece_levels(
     out: &mut LevelSlices<'_>,
 )
     requires { PieceFits asked row.now piece.now at (levels_of out.old) }
-    ensures put { PutsPiece asked row.now piece.now at (levels_of out.old) (levels_of out.new) }
+    ensures laid { LaysPiece asked row.now piece.now at (levels_of out.old) (levels_of out.new) }
     ensures same_slices { AreSameSlices out.old out.new }
 {
-    put_ring(row, piece, asked, at, out.words, out.ring_ends);
-    put_single(piece, at, out.single_ends);
+    lay_ring(row, piece, asked, at, out.words, out.ring_ends);
+    lay_single(piece, at, out.single_ends);
 }
 
 /// Writes the levels of a row from the totals on, for which there is room, by its first piece.
 #[inline(always)]
-pub fn put_levels(
+pub fn lay_levels(
     row: &[u8],
     first: &Piece,
     from: Totals,
@@ -288,19 +288,19 @@ pub fn put_levels(
     requires here { HasGeometry row.now }
     requires first { IsPieceAt row.now 0 first.now }
     requires room { HasRoomFor asked row.now from out.old }
-    ensures levels { PutsLevels asked row.now from out.old out.new }
+    ensures levels { LaysLevels asked row.now from out.old out.new }
     ensures same_slices { AreSameSlices out.old out.new }
 {
     if first.has_coordinates() {
-        put_piece_levels(row, first, asked, from, out);
+        lay_piece_levels(row, first, asked, from, out);
     } else {
-        put_walked(row, first, from, asked, out);
+        lay_walked(row, first, from, asked, out);
     }
 }
 
 /// Writes the levels of a polygon from the totals on, for which there is room, by its first piece.
 #[inline(always)]
-pub fn put_rings(
+pub fn lay_rings(
     row: &[u8],
     first: &Piece,
     from: Totals,
@@ -311,32 +311,32 @@ pub fn put_rings(
     requires first { IsPieceAt row.now 0 first.now }
     requires polygon { first.now.kind ≡ POLYGON }
     requires room { HasRoomFor asked row.now from out.old }
-    ensures levels { PutsLevels asked row.now from out.old out.new }
+    ensures levels { LaysLevels asked row.now from out.old out.new }
     ensures same_slices { AreSameSlices out.old out.new }
 {
     let mut pieces = Pieces::behind(row, first);
-    put_piece_levels(row, first, asked, from, out);
+    lay_piece_levels(row, first, asked, from, out);
     let mut at = from.with(first);
     while let Some(ring) = pieces.next_if_ring() {
-        put_piece_levels(row, &ring, asked, at, out);
+        lay_piece_levels(row, &ring, asked, at, out);
         at = at.with(&ring);
     }
 }
 
-/// Puts the levels of a geometry, by a walk from its first piece on.
+/// Lays the levels of a geometry, by a walk from its first piece on.
 #[inline(never)]
-fn put_walked(row: &[u8], first: &Piece, from: Totals, asked: Dimension, out: &mut LevelSlices<'_>)
+fn lay_walked(row: &[u8], first: &Piece, from: Totals, asked: Dimension, out: &mut LevelSlices<'_>)
     requires here { HasGeometry row.now }
     requires first { IsPieceAt row.now 0 first.now }
     requires room { HasRoomFor asked row.now from out.old }
-    ensures levels { PutsLevels asked row.now from out.old out.new }
+    ensures levels { LaysLevels asked row.now from out.old out.new }
     ensures same_slices { AreSameSlices out.old out.new }
 {
     let mut pieces = Pieces::behind(row, first);
-    put_piece_levels(row, first, asked, from, out);
+    lay_piece_levels(row, first, asked, from, out);
     let mut at = from.with(first);
     while let Some(piece) = pieces.next() {
-        put_piece_levels(row, &piece, asked, at, out);
+        lay_piece_levels(row, &piece, asked, at, out);
         at = at.with(&piece);
     }
 }

@@ -28,4 +28,4 @@ mod scan;
 mod widen;
 
 pub use range::{Bounds, Range};
-pub use scan::{bounds, put_any_bounds, put_plain_bounds};
+pub use scan::{any_bounds_into, bounds, plain_bounds_into};

@@ -21,33 +21,33 @@ use wkb_geom::code::{POLYGON, WkbType};
 use wkb_geom::words::rest_from;
 use wkb_geom::{Dimension, Endianness};
 
-/// Puts the bounds of `count` coordinates of x and y in an order that is a constant if this is inlined.
+/// Writes the bounds of `count` coordinates of x and y in an order that is a constant if this is inlined.
 #[inline(always)]
-fn put_bounds_of_xy_in(order: Endianness, count: u32, bytes: &[u8], bounds: &mut Bounds)
+fn xy_bounds_of_order_into(order: Endianness, count: u32, bytes: &[u8], bounds: &mut Bounds)
     requires { XY_SIZE * count ≤ length bytes.now }
     ensures { Widens no_bounds bounds.new (λ a. words_in a Xy (coordinates order Xy count bytes.now)) }
 {
     let mut ranks = AxisRanks::empty();
     ranks.widen_xy_by_numbers(order, count, bytes);
     if !ranks.are_plane_numbers() {
-        put_bounds_of_any(order, Dimension::Xy, count, bytes, bounds);
+        coordinates_bounds_into(order, Dimension::Xy, count, bytes, bounds);
         return;
     }
     *bounds = ranks.bounds();
 }
 
-/// As `put_bounds_of_xy_in`, with a loop for each order. It isn't inlined, so that its counters stay in registers.
+/// As `xy_bounds_of_order_into`, with a loop for each order. It isn't inlined, so that its counters stay in registers.
 #[inline(never)]
-fn put_bounds_of_xy(order: Endianness, count: u32, bytes: &[u8], bounds: &mut Bounds)
+fn xy_bounds_into(order: Endianness, count: u32, bytes: &[u8], bounds: &mut Bounds)
     requires { XY_SIZE * count ≤ length bytes.now }
     ensures { Widens no_bounds bounds.new (λ a. words_in a Xy (coordinates order Xy count bytes.now)) }
 {
-    by_order!(order, put_bounds_of_xy_in(order, count, bytes, bounds))
+    by_order!(order, xy_bounds_of_order_into(order, count, bytes, bounds))
 }
 
-/// Puts the bounds of `count` coordinates of any dimension. It isn't inlined, so that others don't pay for its frame.
+/// Writes the bounds of `count` coordinates of any dimension. It isn't inlined, so that others don't pay for its frame.
 #[inline(never)]
-fn put_bounds_of_any(
+fn coordinates_bounds_into(
     order: Endianness,
     dimension: Dimension,
     count: u32,
@@ -62,9 +62,9 @@ fn put_bounds_of_any(
     *bounds = ranks.bounds();
 }
 
-/// Puts the bounds of a geometry that has coordinates, and so is this piece alone.
+/// Writes the bounds of a geometry that has coordinates, and so is this piece alone.
 #[inline(always)]
-fn put_bounds_of_piece(buf: &[u8], only: &Piece, bounds: &mut Bounds)
+fn piece_bounds_into(buf: &[u8], only: &Piece, bounds: &mut Bounds)
     requires here { HasGeometry buf.now }
     requires only { IsPieceAt buf.now 0 only.now }
     requires low { nat_lt only.now.kind POLYGON ≡ true }
@@ -76,15 +76,15 @@ fn put_bounds_of_piece(buf: &[u8], only: &Piece, bounds: &mut Bounds)
         return;
     }
     match only.dimension {
-        Dimension::Xy => put_bounds_of_xy(only.order, only.count, bytes, bounds),
-        dimension => put_bounds_of_any(only.order, dimension, only.count, bytes, bounds),
+        Dimension::Xy => xy_bounds_into(only.order, only.count, bytes, bounds),
+        dimension => coordinates_bounds_into(only.order, dimension, only.count, bytes, bounds),
     }
 }
 
-/// Puts the bounds of a polygon of x and y in an order that is a constant if this is inlined.
+/// Writes the bounds of a polygon of x and y in an order that is a constant if this is inlined.
 #[tactic(auto, using(wkb_check::proofs::Following::fewer_left))]
 #[inline(always)]
-fn put_bounds_of_rings_in(buf: &[u8], order: Endianness, srid: Option<u32>, bounds: &mut Bounds)
+fn rings_bounds_of_order_into(buf: &[u8], order: Endianness, srid: Option<u32>, bounds: &mut Bounds)
     requires here { HasGeometry buf.now }
     requires header { IsHeaderAt buf.now 0 POLYGON Xy order srid }
     ensures { (g : HasGeometry buf.now) → AreBounds bounds.new g.value }
@@ -97,44 +97,44 @@ fn put_bounds_of_rings_in(buf: &[u8], order: Endianness, srid: Option<u32>, boun
         ranks.widen_xy_by_numbers(order, ring.count, bytes);
     }
     if !ranks.are_plane_numbers() {
-        put_bounds_of_front(buf, bounds);
+        front_bounds_into(buf, bounds);
         return;
     }
     *bounds = ranks.bounds();
 }
 
-/// Puts the bounds of a polygon of x and y, with a loop for each order. It takes scalars, so that the findings on other
+/// Writes the bounds of a polygon of x and y, with a loop for each order. It takes scalars, so that the findings on other
 /// geometries need no place in memory.
 #[inline(never)]
-fn put_bounds_of_rings(buf: &[u8], order: Endianness, srid: Option<u32>, bounds: &mut Bounds)
+fn rings_bounds_into(buf: &[u8], order: Endianness, srid: Option<u32>, bounds: &mut Bounds)
     requires here { HasGeometry buf.now }
     requires header { IsHeaderAt buf.now 0 POLYGON Xy order srid }
     ensures { (g : HasGeometry buf.now) → AreBounds bounds.new g.value }
 {
-    by_order!(order, put_bounds_of_rings_in(buf, order, srid, bounds))
+    by_order!(order, rings_bounds_of_order_into(buf, order, srid, bounds))
 }
 
-/// Puts the bounds of the geometry at the start of bytes in which the check found this.
+/// Writes the bounds of the geometry at the start of bytes in which the check found this.
 #[inline(always)]
-fn put_bounds_found(buf: &[u8], found: &Summary, bounds: &mut Bounds)
+fn found_bounds_into(buf: &[u8], found: &Summary, bounds: &mut Bounds)
     requires { DescribesFront buf.now found.now }
     ensures { (g : HasGeometry buf.now) → AreBounds bounds.new g.value }
 {
     if found.wkb_type.kind() < POLYGON {
-        put_bounds_of_piece(buf, &Piece::outermost(buf, found), bounds);
+        piece_bounds_into(buf, &Piece::outermost(buf, found), bounds);
         return;
     }
     match found.wkb_type {
         WkbType::Polygon(Dimension::Xy) => {
-            put_bounds_of_rings(buf, found.order, found.srid, bounds);
+            rings_bounds_into(buf, found.order, found.srid, bounds);
         }
-        _ => put_bounds_of_front(buf, bounds),
+        _ => front_bounds_into(buf, bounds),
     }
 }
 
-/// Puts the bounds of the geometry at the start of the bytes, which is known to be there.
+/// Writes the bounds of the geometry at the start of the bytes, which is known to be there.
 #[inline(never)]
-fn put_bounds_of_front(buf: &[u8], bounds: &mut Bounds)
+fn front_bounds_into(buf: &[u8], bounds: &mut Bounds)
     requires here { HasGeometry buf.now }
     ensures { (g : HasGeometry buf.now) → AreBounds bounds.new g.value }
 {
@@ -148,13 +148,13 @@ fn put_bounds_of_front(buf: &[u8], bounds: &mut Bounds)
     *bounds = ranks.bounds();
 }
 
-/// Puts the bounds of the geometry at the start of the bytes, if `check_plain` finds it. Else [`put_any_bounds`] has to
+/// Writes the bounds of the geometry at the start of the bytes, if `check_plain` finds it. Else [`any_bounds_into`] has to
 /// look.
 ///
 /// It returns no `Result`, which would need a place in memory.
 #[tactic(auto, using(crate::proofs::Scanning::front_there))]
 #[inline(always)]
-pub fn put_plain_bounds(buf: &[u8], bounds: &mut Bounds) -> bool
+pub fn plain_bounds_into(buf: &[u8], bounds: &mut Bounds) -> bool
     ensures front { result ≡ true → BoundsFront buf.now bounds.new }
     ensures one_front { result ≡ true → BoundsOnlyFront buf.now bounds.new }
     ensures none { result ≡ false → HasNoPlain buf.now }
@@ -162,23 +162,23 @@ pub fn put_plain_bounds(buf: &[u8], bounds: &mut Bounds) -> bool
 {
     match check_plain(buf) {
         Some(found) => {
-            put_bounds_found(buf, &found, bounds);
+            found_bounds_into(buf, &found, bounds);
             true
         }
         None => false,
     }
 }
 
-/// Puts what [`bounds`] finds into the caller's bounds, or leaves these as they are and returns its refusal.
+/// Writes what [`bounds`] finds into the caller's bounds, or leaves these as they are and returns its refusal.
 #[tactic(auto, using(crate::proofs::Scanning::front_there))]
-pub fn put_any_bounds(buf: &[u8], bounds: &mut Bounds) -> Result<(), Refused>
+pub fn any_bounds_into(buf: &[u8], bounds: &mut Bounds) -> Result<(), Refused>
     ensures front { IfOk result (λ _. BoundsFront buf.now bounds.new) }
     ensures one_front { IfOk result (λ _. BoundsOnlyFront buf.now bounds.new) }
     ensures refused { IfErr result (λ e. Checks buf.now (Err e)) }
     ensures kept { IfErr result (λ _. bounds.new ≡ bounds.old) }
 {
     check(buf)?;
-    put_bounds_of_front(buf, bounds);
+    front_bounds_into(buf, bounds);
     Ok(())
 }
 
@@ -191,9 +191,9 @@ pub fn bounds(buf: &[u8]) -> Result<Bounds, Refused>
     ensures { FindsBounds buf.now result }
 {
     let mut found = Bounds::empty();
-    if put_plain_bounds(buf, &mut found) {
+    if plain_bounds_into(buf, &mut found) {
         return Ok(found);
     }
-    put_any_bounds(buf, &mut found)?;
+    any_bounds_into(buf, &mut found)?;
     Ok(found)
 }

@@ -78,9 +78,9 @@ fits_table input many parts h fit =
       fit = omega (arith, fit, h.many_are, counted h.s h.t h.front.front h.front.spelled, alone_is);
     }
 
-pub table_put : (input : List ℕ) (many : ℕ) (parts new : List Part) → (h : HasParts input many) → many ≤ length parts
+pub table_laid : (input : List ℕ) (many : ℕ) (parts new : List Part) → (h : HasParts input many) → many ≤ length parts
     → new ≡ sets parts 0 (geometry_entries 0 0 h.s h.t) → IsTable input parts new many
-table_put input many parts new h fit put =
+table_laid input many parts new h fit laid =
     let entries = geometry_entries 0 0 h.s h.t in
     let long = entries_many h.s h.t h.front.front h.front.spelled in
     record {
@@ -91,7 +91,7 @@ table_put input many parts new h fit put =
       held = record {
         count_is = h.many_are ∙ sym long;
         whole =
-            put ∙ sets-eq entries parts 0 (omega (arith, fit, long, h.many_are))
+            laid ∙ sets-eq entries parts 0 (omega (arith, fit, long, h.many_are))
             ∙ ap (λ n. entries ++ drop n parts) (omega arith);
       };
       parts = holds h.s h.t (begins input h.s h.t h.rest h.front);
@@ -113,10 +113,10 @@ parts_found d = record {
   many_are = omega (arith, d.described.parts);
 }
 
-pub whole_put : {input : List ℕ} {f : Summary} {parts new : List Part} (d : DescribesFront input f) (p : Piece)
+pub whole_laid : {input : List ℕ} {f : Summary} {parts new : List Part} (d : DescribesFront input f) (p : Piece)
     → IsPieceAt input 0 p → f.parts ≡ 1 → f.parts ≤ length parts → new ≡ set parts 0 (entry_of p f.bytes 1)
     → IsTable input parts new f.parts
-whole_put {input} {f} {parts} {new} d p is one fit put =
+whole_laid {input} {f} {parts} {new} d p is one fit laid =
     let front = d.front in
     let long = spelled_end 0 d.spelled d.value front.front front.spelled in
     let many = entries_many d.spelled d.value front.front front.spelled in
@@ -124,6 +124,6 @@ whole_put {input} {f} {parts} {new} d p is one fit put =
     let end : f.bytes ≡ last_end 0 (subjects d.spelled d.value) = omega (arith, d.described.bytes_are, long) in
     let next : 1 ≡ 0 + length (subjects d.spelled d.value) =
     omega (arith, one, d.described.parts, counted d.spelled d.value front.front front.spelled) in
-    table_put input f.parts parts new (parts_found d) fit
-    (put ∙ (λ i. set parts 0 (entry_of (is (geometry_of_front front) i) (end i) (next i)))
+    table_laid input f.parts parts new (parts_found d) fit
+    (laid ∙ (λ i. set parts 0 (entry_of (is (geometry_of_front front) i) (end i) (next i)))
     ∙ ap (sets parts 0) (sym entries))

@@ -56,23 +56,23 @@ module _ (request : Request) {input : List ℕ} {found : Summary} (d : Describes
   bound : {size : ℕ} → AreBytes input → size ≡ length bytes → size ≤ length input + 4
   bound are size_is = omega (arith, size_is, at_most options.endianness options.form input (here d) are)
 
-  -- it is put, or there is less room
+  -- it is laid, or there is less room
   pub writes : {out new : List ℕ} {size : ℕ} → AreBytes input → size ≡ length bytes → size ≤ length out
       → new ≡ sets out 0 bytes → WritesRequested request input out new OK size
-  writes {out} {new} {size} are size_is fit put = record {
+  writes {out} {new} {size} are size_is fit laid = record {
     written = λ told. record {
       items = bytes;
       is = requested_of request options_are;
       held = record {
         count_is = size_is;
         whole =
-            put ∙ sets-eq bytes out 0 (omega (arith, fit, size_is)) ∙ ap (λ n. bytes ++ drop n out) (omega arith);
+            laid ∙ sets-eq bytes out 0 (omega (arith, fit, size_is)) ∙ ap (λ n. bytes ++ drop n out) (omega arith);
       };
     };
     no_room = λ told. absurd (omega (arith, told));
     bound = bound are size_is;
     known = inl refl;
-    long = ap length put ∙ length-sets out 0 bytes;
+    long = ap length laid ∙ length-sets out 0 bytes;
     out_kept = λ differ. absurd (differ refl);
   }
 

@@ -29,7 +29,7 @@ use Rattle.wkb_check.specs.declared.answer.Summary.{Summary}
 use Rattle.wkb_check.proofs.Ahead.{type_kind_is, type_dimension_is}
 use Rattle.wkb_check.proofs.Placing.{sets_after}
 use Rattle.wkb_rewrite.specs.Inputs.{IsAccepted}
-use Rattle.wkb_rewrite.specs.Shares.{IsPut}
+use Rattle.wkb_rewrite.specs.Shares.{IsLaid}
 use Rattle.wkb_rewrite.specs.Targets.{encoding_for}
 use Rattle.wkb_rewrite.proofs.Measured.{measured}
 use Rattle.wkb_sink.specs.declared.options.WriteOptions.{WriteOptions}
@@ -274,24 +274,24 @@ all_measured {c} {target} {size = size} r m all =
       short = omega (arith, m.fits, reach_inside c r);
     })
 
--- ---- the members that are still to be put
+-- ---- the members that are still to be laid
 
 pub record MembersLeft (c : Column) (target : CollectTarget) (rows i at : ℕ) (out before whole : List ℕ) (end : ℕ)
     : Type 0 where
   pub left : Values
   pub are : AreRowMembers c (part_of target) i left
   pub many : i + count left ≡ rows
-  pub put : sets out at (inside_of target left) ≡ whole
+  pub laid : sets out at (inside_of target left) ≡ whole
   pub ends : at + length (inside_of target left) ≡ end
   pub long : length out ≡ length before
 
--- the row that the first of them is in: it is accepted as this member alone, which fits, and once it is put, those behind
+-- the row that the first of them is in: it is accepted as this member alone, which fits, and once it is laid, those behind
 -- it are left
 pub record Turn (c : Column) (target : CollectTarget) (rows i at : ℕ) (out before whole : List ℕ) (end : ℕ)
     (row : List ℕ) (o : WriteOptions) : Type 0 where
   pub here : IsAccepted row
   pub room : end ≤ length before → (a : IsAccepted row) → at + length (encoding_for o a.t) ≤ length out
-  pub next : (to : ℕ) (new : List ℕ) → ((a : IsAccepted row) → IsPut out new at to (encoding_for o a.t))
+  pub next : (to : ℕ) (new : List ℕ) → ((a : IsAccepted row) → IsLaid out new at to (encoding_for o a.t))
       → MembersLeft c target rows (i + 1) to new before whole end
 
 module _ {c : Column} {target : CollectTarget} {rows i at : ℕ} {out before whole : List ℕ} {end : ℕ}
@@ -304,12 +304,12 @@ module _ {c : Column} {target : CollectTarget} {rows i at : ℕ} {out before who
 
   pub turn : {o : WriteOptions} (row : List ℕ) → o ≡ inner_of target → i < rows → IsRow c i row
       → Turn c target rows i at out before whole end row o
-  turn {o} row o_is below is = by l.left l.are l.many l.put l.ends where
+  turn {o} row o_is below is = by l.left l.are l.many l.laid l.ends where
     by : (left : Values) → AreRowMembers c (part_of target) i left → i + count left ≡ rows
         → sets out at (inside_of target left) ≡ whole → at + length (inside_of target left) ≡ end
         → Turn c target rows i at out before whole end row o
-    by no_members are many put ends = absurd (omega (arith, many, below))
-    by (member t ts) are many put ends =
+    by no_members are many laid ends = absurd (omega (arith, many, below))
+    by (member t ts) are many laid ends =
         let begins : BeginsWithMember (part_of target) row t =
         subst (λ z. BeginsWithMember (part_of target) z t) (one_row are.0.is is) are.0.has in
         let own = encoding_for (inner_of target) t in
@@ -321,32 +321,32 @@ module _ {c : Column} {target : CollectTarget} {rows i at : ℕ} {out before who
           here = there begins;
           room = λ fit a. omega (arith, fit, ends, l.long, length-append own others, ap length (so a));
           next = λ to new p.
-              let q : IsPut out new at to own = subst (IsPut out new at to) (so (there begins)) (p (there begins)) in
+              let q : IsLaid out new at to own = subst (IsLaid out new at to) (so (there begins)) (p (there begins)) in
               record {
                 left = ts;
                 are = subst (λ n. AreRowMembers c (part_of target) n ts) behind are.1;
                 many = omega (arith, many);
-                put = ap (λ z. sets z to others) q.put ∙ sets_after out at to own others q.end_is ∙ put;
+                laid = ap (λ z. sets z to others) q.laid ∙ sets_after out at to own others q.end_is ∙ laid;
                 ends = omega (arith, ends, q.end_is, length-append own others);
-                long = ap length q.put ∙ length-sets out at own ∙ l.long;
+                long = ap length q.laid ∙ length-sets out at own ∙ l.long;
               };
         }
 
 pub none_left : {c : Column} {target : CollectTarget} {rows i at : ℕ} {out before whole : List ℕ} {end : ℕ}
     → (l : MembersLeft c target rows i at out before whole end) → rows ≤ i → out ≡ whole
-none_left {target = target} {rows} {i} {at} {out} {whole = whole} l past = by l.left (omega (arith, l.many, past)) l.put
+none_left {target = target} {rows} {i} {at} {out} {whole = whole} l past = by l.left (omega (arith, l.many, past)) l.laid
   where
     by : (left : Values) → count left ≤ 0 → sets out at (inside_of target left) ≡ whole → out ≡ whole
-    by no_members few put = put
-    by (member t ts) few put = absurd (omega (arith, few))
+    by no_members few laid = laid
+    by (member t ts) few laid = absurd (omega (arith, few))
 
--- ---- a member that is put behind others
+-- ---- a member that is laid behind others
 
-pub requested_put : {o : WriteOptions} {row sub : List ℕ} {status size : ℕ} (out : List ℕ) (at : ℕ)
+pub requested_laid : {o : WriteOptions} {row sub : List ℕ} {status size : ℕ} (out : List ℕ) (at : ℕ)
     → WritesRequested (Encoding o) row (take (length out - at) (drop at out)) sub status size → (a : IsAccepted row)
     → at + length (encoding_for o a.t) ≤ length out
-    → IsPut out (take at out ++ (sub ++ drop (length out - at) (drop at out))) at (at + size) (encoding_for o a.t)
-requested_put {o} {sub = sub} out at w a room =
+    → IsLaid out (take at out ++ (sub ++ drop (length out - at) (drop at out))) at (at + size) (encoding_for o a.t)
+requested_laid {o} {sub = sub} out at w a room =
     let enc = encoding_for o a.t in
     let l = lent_rest {start = at} out sub at (omega (arith, room)) w.long in
     let sub_is : sub ≡ enc ++ drop (at + length enc) out =
@@ -355,21 +355,21 @@ requested_put {o} {sub = sub} out at w a room =
     ∙ ap (λ z. enc ++ z) (drop-drop (length enc) at out ∙ ap (λ n. drop n out) (omega arith)) in
     record {
       end_is = ap (λ n. at + n) (requested_size w a);
-      put =
+      laid =
           l.after_is ∙ ap (λ z. take at out ++ z) sub_is
           ∙ sym (append_assoc (take at out) enc (drop (at + length enc) out)) ∙ sym (sets-eq enc out at room);
     }
 
 -- the front of the whole, and its members behind it
-pub whole_put : (out copied new front inside : List ℕ) (start : ℕ) → start ≡ length front
+pub whole_laid : (out copied new front inside : List ℕ) (start : ℕ) → start ≡ length front
     → start + length inside ≤ length out → copied ≡ front → new ≡ sets (copied ++ drop start out) start inside
     → new ≡ (front ++ inside) ++ drop (length (front ++ inside)) out
-whole_put out copied new front inside start start_is room copied_is put =
+whole_laid out copied new front inside start start_is room copied_is laid =
     let long : 0 + length front ≤ length out = omega (arith, room, start_is) in
-    let laid : copied ++ drop start out ≡ sets out 0 front =
+    let begun : copied ++ drop start out ≡ sets out 0 front =
     (λ i. copied_is i ++ drop (start_is i) out) ∙ ap (λ n. front ++ drop n out) (omega arith)
     ∙ sym (sets-eq front out 0 long) in
-    put ∙ ap (λ z. sets z start inside) laid
+    laid ∙ ap (λ z. sets z start inside) begun
     ∙ sets_after out 0 start front inside (omega (arith, start_is))
     ∙ sets-eq (front ++ inside) out 0 (omega (arith, room, start_is, length-append front inside))
     ∙ ap (λ n. (front ++ inside) ++ drop n out) (omega arith)

@@ -17,7 +17,7 @@ use Rattle.wkb_abi.specs.declared.level_column.LevelColumn.{LevelColumn}
 use Rattle.wkb_abi.specs.declared.level_column.LevelTarget.{LevelTarget}
 use Rattle.wkb_abi.specs.declared.status.TheConstants.{OK, NO_ROOM, BAD_LEVELS}
 use Rattle.wkb_c.proofs.Encodings.{some_encoding}
-use Rattle.wkb_c.proofs.RowItems.{IsLent, put_step, lacks_step, no_step}
+use Rattle.wkb_c.proofs.RowItems.{IsLent, laid_step, lacks_step, no_step}
 
 -- the status of what was told of a row
 abbrev pub told_status : Written → ℕ
@@ -60,7 +60,7 @@ module _ {c : LevelColumn} {asked : Option LevelTarget} {i : ℕ} (t : LevelTarg
             → IsRowStep (HasLevelEncoding c asked) (LacksLevels c asked) i (told_status told) (told_size told) start
             before after
         step (row_writes.put bytes has told_is whole) =
-            put_step l bytes (has_encoding bytes has) (ap told_status told_is) (some_bytes (levels_in c) t i bytes has)
+            laid_step l bytes (has_encoding bytes has) (ap told_status told_is) (some_bytes (levels_in c) t i bytes has)
             (record { count_is = ap told_size told_is; whole = whole })
         step (row_writes.lacks bytes has told_is short same) =
             lacks_step l bytes (has_encoding bytes has) (ap told_status told_is)

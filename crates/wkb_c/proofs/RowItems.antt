@@ -14,7 +14,7 @@ use Rattle.wkb_abi.specs.declared.status.TheConstants.{OK, NO_ROOM}
 use Rattle.wkb_abi.specs.Room.{IsHeld, Exceeds, IsWritten, FindsNoRoom}
 use Rattle.wkb_levels.specs.Cuts.{start_at}
 use Rattle.wkb_abi.specs.RowItems.{rows_of, end_of, IsRowAnswer, handed, no_room, failed, AreRowAnswers, KeepsAfter}
-use Rattle.wkb_abi.specs.RowItems.{KeepsFrom, IsRowStep, put, lacks, nothing, NoneLacksRoom, LastEndSuffices}
+use Rattle.wkb_abi.specs.RowItems.{KeepsFrom, IsRowStep, laid, lacks, nothing, NoneLacksRoom, LastEndSuffices}
 use Rattle.wkb_abi.specs.Columns.{RowShows, RowsShow}
 use Rattle.wkb_abi.specs.declared.column.Column.{Column}
 use Rattle.wkb_abi.proofs.Reasons.{TellsOther}
@@ -35,9 +35,9 @@ range_before xs ys n start end rise below there =
     prefix_range (take n xs) ys start end rise inside ∙ sym (prefix_range (take n xs) (drop n xs) start end rise inside)
     ∙ ap (λ z. slice_range z start end) (take-append-drop n xs)
 
-range_put : {A : Type 0} (xs items rest : List A) (start : ℕ) → start ≤ length xs
+range_laid : {A : Type 0} (xs items rest : List A) (start : ℕ) → start ≤ length xs
     → slice_range (take start xs ++ (items ++ rest)) start (start + length items) ≡ items
-range_put xs items rest start there =
+range_laid xs items rest start there =
     let behind = drop_at (take start xs) (items ++ rest) start (length-take-le start xs there) in
     let many : start + length items - start ≡ length items = omega arith in
     (λ i. take (many i) (behind i)) ∙ take-append_seam items rest
@@ -51,9 +51,9 @@ drop_behind xs items start k there far =
     ∙ drop-append-drop end xs (take start xs ++ items) k far
     (omega (arith, length-append (take start xs) items, length-take-le start xs (omega (arith, there))))
 
-put_length : {A : Type 0} (xs items : List A) (start : ℕ) → start + length items ≤ length xs
+laid_length : {A : Type 0} (xs items : List A) (start : ℕ) → start + length items ≤ length xs
     → length (take start xs ++ (items ++ drop (start + length items) xs)) ≡ length xs
-put_length xs items start there =
+laid_length xs items start there =
     ap length
     (sym (append_assoc (take start xs) items (drop (start + length items) xs)) ∙ sym (sets-eq items xs start there))
     ∙ length-sets xs start items
@@ -65,17 +65,17 @@ module _ {A : Type 0} {Has : ℕ → List A → Type 0} {Fails : ℕ → ℕ →
     step_length : {i status count start : ℕ} {before after : List A}
         → IsRowStep Has Fails i status count start before after
         → length after ≡ length before
-    step_length {start = start} {before = before} (put items has ok many there put_is) =
-        ap length put_is ∙ ap (λ n. length (take start before ++ (items ++ drop (start + n) before))) many
-        ∙ put_length before items start (rw many at there)
+    step_length {start = start} {before = before} (laid items has ok many there laid_is) =
+        ap length laid_is ∙ ap (λ n. length (take start before ++ (items ++ drop (start + n) before))) many
+        ∙ laid_length before items start (rw many at there)
     step_length (lacks items has ok many short same) = ap length same
     step_length (nothing why none same) = ap length same
 
     step_before : {i status count start : ℕ} {before after : List A}
         → IsRowStep Has Fails i status count start before after
         → (a b : ℕ) → a ≤ b → b ≤ start → slice_range after a b ≡ slice_range before a b
-    step_before {start = start} {before = before} (put items has ok many there put_is) a b rise below =
-        ap (λ z. slice_range z a b) put_is ∙ range_before before _ start a b rise below (omega (arith, there))
+    step_before {start = start} {before = before} (laid items has ok many there laid_is) a b rise below =
+        ap (λ z. slice_range z a b) laid_is ∙ range_before before _ start a b rise below (omega (arith, there))
     step_before (lacks items has ok many short same) a b rise below = ap (λ z. slice_range z a b) same
     step_before (nothing why none same) a b rise below = ap (λ z. slice_range z a b) same
 
@@ -83,11 +83,11 @@ module _ {A : Type 0} {Has : ℕ → List A → Type 0} {Fails : ℕ → ℕ →
         → IsRowStep Has Fails i status count start before after
         → length before < 2 ^ 64 → (k : ℕ) → (status ≡ OK → end_of start count ≤ k) → drop k after ≡ drop k before
     step_behind {count = count} {start = start} {before = before}
-        (put items has ok many there put_is) small k far =
+        (laid items has ok many there laid_is) small k far =
         let end : end_of start count ≤ k = far ok in
-        let put_there : start + length items ≤ length before = rw many at there in
-        ap (drop k) (put_is ∙ ap (λ n. take start before ++ (items ++ drop (start + n) before)) many)
-        ∙ drop_behind before items start k put_there
+        let laid_there : start + length items ≤ length before = rw many at there in
+        ap (drop k) (laid_is ∙ ap (λ n. take start before ++ (items ++ drop (start + n) before)) many)
+        ∙ drop_behind before items start k laid_there
         (omega (arith, end, there, small, many))
     step_behind (lacks items has ok many short same) small k far = ap (drop k) same
     step_behind (nothing why none same) small k far = ap (drop k) same
@@ -98,13 +98,13 @@ module _ {A : Type 0} {Has : ℕ → List A → Type 0} {Fails : ℕ → ℕ →
         → length before < 2 ^ 64 → start < 2 ^ 64
         → IsRowAnswer Has Fails i status start (end_of start count) after
     step_answer {count = count} {start = start} {before = before} {after = after}
-        (put items has ok many there put_is) small fits =
-        let put_there : start + length items ≤ length before = rw many at there in
+        (laid items has ok many there laid_is) small fits =
+        let laid_there : start + length items ≤ length before = rw many at there in
         let end : end_of start count ≡ start + length items = omega (arith, there, small, many) in
-        let same = step_length (put items has ok many there put_is) in
-        handed items has ok end (omega (arith, end, same, put_there))
-        (ap (λ e. slice_range after start e) end ∙ ap (λ z. slice_range z start (start + length items)) put_is
-        ∙ range_put before items (drop (start + count) before) start (omega (arith, there)))
+        let same = step_length (laid items has ok many there laid_is) in
+        handed items has ok end (omega (arith, end, same, laid_there))
+        (ap (λ e. slice_range after start e) end ∙ ap (λ z. slice_range z start (start + length items)) laid_is
+        ∙ range_laid before items (drop (start + count) before) start (omega (arith, there)))
     step_answer {count = count} {start = start} (lacks items has ok many short same) small fits =
         no_room items has ok (ap (end_of start) many) (omega (arith, ap length same, many, short))
     step_answer {status = status} {count = count} {start = start} (nothing why none same) small fits =
@@ -114,11 +114,11 @@ module _ {A : Type 0} {Has : ℕ → List A → Type 0} {Fails : ℕ → ℕ →
     step_room : {i status count start : ℕ} {before after : List A}
         → IsRowStep Has Fails i status count start before after → TellsOther Fails → length before < 2 ^ 63
         → end_of start count ≤ length before → status ≡ NO_ROOM → ⊥
-    step_room (put items has ok many there put_is) other small room told = omega (arith, ok, told)
+    step_room (laid items has ok many there laid_is) other small room told = omega (arith, ok, told)
     step_room (lacks items has is many short same) other small room told = omega (arith, short, small, room)
     step_room {i = i} (nothing why none same) other small room told = other i (subst (Fails i) told why)
 
-    -- what is put after a row doesn't change its answer
+    -- what is laid after a row doesn't change its answer
     kept_answer : {i status start end : ℕ} {out new : List A} (at : ℕ)
         → IsRowAnswer Has Fails i status start end out
         → (status ≡ OK → end ≤ at) → length new ≡ length out
@@ -312,17 +312,17 @@ module _ {A : Type 0} {start : ℕ} {before lent sub after : List A} (l : IsLent
 
 module _ {A : Type 0} {Has : ℕ → List A → Type 0} {Fails : ℕ → ℕ → Type 0} {i status count start : ℕ}
     {before lent sub after : List A} (l : IsLent start before lent sub after) where
-  -- its items were put
-  pub put_step : (items : List A) → Has i items → status ≡ OK → 0 < length items → IsHeld items lent sub count
+  -- its items were laid
+  pub laid_step : (items : List A) → Has i items → status ≡ OK → 0 < length items → IsHeld items lent sub count
       → IsRowStep Has Fails i status count start before after
-  put_step items has ok some held =
+  laid_step items has ok some held =
       let n = length items in
       let there : n ≤ length lent =
       omega (arith, l.long, ap length held.whole, length-append items (drop n lent), length-drop n lent) in
       let same : l.at ≡ start = omega (arith, l.at_is, some, there, many_lent l) in
       let rest : drop n lent ≡ drop (start + count) before =
       ap (drop n) l.lent_is ∙ drop-drop n l.at before ∙ ap (λ k. drop k before) (omega (arith, same, held.count_is)) in
-      put items has ok held.count_is (omega (arith, same, there, many_lent l, held.count_is))
+      laid items has ok held.count_is (omega (arith, same, there, many_lent l, held.count_is))
       (l.after_is ∙ ap (λ z. take l.at before ++ z) (held.whole ∙ ap (λ z. items ++ z) rest)
       ∙ ap (λ k. take k before ++ (items ++ drop (start + count) before)) same)
 
@@ -337,11 +337,11 @@ module _ {A : Type 0} {Has : ℕ → List A → Type 0} {Fails : ℕ → ℕ →
   pub no_step : Fails i status → count ≡ 0 → sub ≡ lent → IsRowStep Has Fails i status count start before after
   no_step why none same = nothing why none (unchanged l same)
 
-  -- its items were put, or they have no room, as the status says
+  -- its items were laid, or they have no room, as the status says
   pub called_step : ((items : List A) → Has i items → 0 < length items)
       → (status ≡ OK → IsWritten (Has i) lent sub count) → (status ≡ NO_ROOM → FindsNoRoom (Has i) lent count)
       → (status ≢ OK → sub ≡ lent) → (status ≡ OK) ⊎ (status ≡ NO_ROOM)
       → IsRowStep Has Fails i status count start before after
-  called_step some puts short kept (inl ok) = let h = puts ok in put_step h.items h.is ok (some h.items h.is) h.held
-  called_step some puts short kept (inr told) =
+  called_step some lays short kept (inl ok) = let h = lays ok in laid_step h.items h.is ok (some h.items h.is) h.held
+  called_step some lays short kept (inr told) =
       let h = short told in lacks_step h.items h.is told h.lacks (kept (λ ok. omega (arith, ok, told)))

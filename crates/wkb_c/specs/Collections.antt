@@ -160,9 +160,9 @@ abbrev pub MembersFit : Column → CollectTarget → ℕ → ℕ → List ℕ �
 MembersFit c target rows start out =
     (m : HaveMembers c (part_of target) rows) → start + length (inside_of target m.values) ≤ length out
 
--- the encodings of the members that these rows begin with are put from this index on, and nothing else changes
-abbrev pub PutsMembers : Column → CollectTarget → ℕ → ℕ → List ℕ → List ℕ → Type 0
-PutsMembers c target rows start before after =
+-- the encodings of the members that these rows begin with are laid from this index on, and nothing else changes
+abbrev pub LaysMembers : Column → CollectTarget → ℕ → ℕ → List ℕ → List ℕ → Type 0
+LaysMembers c target rows start before after =
     (m : HaveMembers c (part_of target) rows) → after ≡ sets before start (inside_of target m.values)
 
 -- the encodings of the members that these rows begin with are together this long

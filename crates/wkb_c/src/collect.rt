@@ -4,12 +4,12 @@ ghost use Rattle.std.specs.Prelude.{◌≡◌, ◌≢◌, ◌⊎◌, ◌↔◌, 
 ghost use Rattle.std.specs.Prelude.{IfSome, IfOk, IfErr};
 ghost use Rattle.wkb_check.specs.Public.{DescribesFrontWithin, member_room};
 ghost use Rattle.wkb_rewrite.specs.Inputs.{IsAccepted};
-ghost use Rattle.wkb_rewrite.specs.Shares.{IsPut};
+ghost use Rattle.wkb_rewrite.specs.Shares.{IsLaid};
 ghost use Rattle.wkb_rewrite.specs.Targets.{encoding_for};
 ghost use Rattle.wkb_sink.specs.Blocks.{LaysAt};
 ghost use Rattle.wkb_abi.specs.Classes.{IsRefusalStatus, IsNoRefusal, TellsOfRow};
 ghost use Rattle.wkb_c.specs.Collections.{collect_asked, IsAsked, AsksForTooMany, part_of, TakesMember, front_of};
-ghost use Rattle.wkb_c.specs.Collections.{MembersFit, PutsMembers};
+ghost use Rattle.wkb_c.specs.Collections.{MembersFit, LaysMembers};
 ghost use Rattle.wkb_c.specs.Collections.{HaveMembers, IsUnwanted, IsUnfit, IsFirstUnfit, IsFirstUnfitFor};
 ghost use Rattle.wkb_c.specs.Collections.{IsMeasuredFound, AreMeasured, IsWhole, IsCollected, IsStatusOfCollecting};
 ghost use Rattle.wkb_abi.specs.Columns.{Reach};
@@ -193,14 +193,14 @@ fn measure_members(
     Ok(size)
 }
 
-/// Puts the encoding of the geometry that a row begins with from an index on, and returns the index after it.
-fn put_row_member(row: &[u8], options: WriteOptions, out: &mut [u8], at: usize) -> usize
+/// Lays the encoding of the geometry that a row begins with from an index on, and returns the index after it.
+fn lay_row_member(row: &[u8], options: WriteOptions, out: &mut [u8], at: usize) -> usize
     requires here { IsAccepted row.now }
     requires inside { at ≤ length out.old }
     requires room { (a : IsAccepted row.now)
         → at + length (encoding_for options a.t) ≤ length out.old }
     ensures { (a : IsAccepted row.now)
-        → IsPut out.old out.new at result (encoding_for options a.t) }
+        → IsLaid out.old out.new at result (encoding_for options a.t) }
 {
     let found = match found_in(row) {
         Ok(found) => found,
@@ -212,8 +212,8 @@ fn put_row_member(row: &[u8], options: WriteOptions, out: &mut [u8], at: usize) 
     at + size as usize
 }
 
-/// Puts the encodings of the members that the rows begin with from an index on.
-fn put_row_members(
+/// Lays the encodings of the members that the rows begin with from an index on.
+fn lay_row_members(
     column: &Column,
     rows: usize,
     target: &CollectTarget,
@@ -223,7 +223,7 @@ fn put_row_members(
     requires few { rows < 2 ^ 32 }
     requires here { HaveMembers column.now (part_of target.now) rows }
     requires room { MembersFit column.now target.now rows start out.old }
-    ensures { PutsMembers column.now target.now rows start out.old out.new }
+    ensures { LaysMembers column.now target.now rows start out.old out.new }
 {
     let options = target.options.inner();
     let mut reach = 0;
@@ -233,7 +233,7 @@ fn put_row_members(
             Ok(row) => row,
             Err(_status) => unreachable!(),
         };
-        at = put_row_member(row, options, out, at);
+        at = lay_row_member(row, options, out, at);
     }
 }
 
@@ -265,7 +265,7 @@ fn write_collected(
         return NO_ROOM;
     }
     out[..start].copy_from_slice(&front[..start]);
-    put_row_members(column, rows, target, out, start);
+    lay_row_members(column, rows, target, out, start);
     OK
 }
 

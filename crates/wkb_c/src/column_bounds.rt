@@ -9,9 +9,9 @@ ghost use Rattle.wkb_abi.specs.RowItems.{KeepsFrom, rows_of};
 use wkb_abi::column::Column;
 use wkb_abi::fault::status_of_cause;
 use wkb_abi::status::OK;
-use wkb_bounds::{Bounds, put_any_bounds, put_plain_bounds};
+use wkb_bounds::{Bounds, any_bounds_into, plain_bounds_into};
 
-/// Puts the bounds of row i, and returns its status.
+/// Writes the bounds of row i, and returns its status.
 fn bound_row(column: &Column, i: usize, reach: &mut u64, found: &mut Bounds) -> u32
     requires small { i < 2 ^ 63 }
     requires before { Reach column.now i reach.old }
@@ -24,7 +24,7 @@ fn bound_row(column: &Column, i: usize, reach: &mut u64, found: &mut Bounds) -> 
         Ok(row) => row,
         Err(status) => return status,
     };
-    if put_plain_bounds(row, found) {
+    if plain_bounds_into(row, found) {
         return OK;
     }
     match bounds_or_status(row, found) {
@@ -33,7 +33,7 @@ fn bound_row(column: &Column, i: usize, reach: &mut u64, found: &mut Bounds) -> 
     }
 }
 
-/// Puts the bounds of a row by the long way, or returns the status of its error.
+/// Writes the bounds of a row by the long way, or returns the status of its error.
 ///
 /// It isn't inlined, so that other rows don't pay for its frame.
 #[inline(never)]
@@ -43,7 +43,7 @@ fn bounds_or_status(row: &[u8], found: &mut Bounds) -> Result<(), u32>
     ensures kept { IfErr result (λ _. found.new ≡ found.old) }
     ensures known { IfErr result FitsByte }
 {
-    match put_any_bounds(row, found) {
+    match any_bounds_into(row, found) {
         Ok(()) => Ok(()),
         Err(refused) => Err(status_of_cause(refused.cause)),
     }

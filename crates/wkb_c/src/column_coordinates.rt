@@ -6,11 +6,11 @@ ghost use Rattle.wkb_abi.specs.Columns.{Reach};
 ghost use Rattle.wkb_geom.specs.Reading.{type_kind};
 ghost use Rattle.wkb_geom.specs.declared.code.TheConstants.{POLYGON};
 ghost use Rattle.wkb_check.specs.Public.{DescribesFront};
-ghost use Rattle.wkb_abi.specs.LevelLists.{PutsFound, PutsAny, PutsRow, AreLevels, TotalsSuffice, AreSameSlices};
+ghost use Rattle.wkb_abi.specs.LevelLists.{LaysFound, LaysAny, LaysRow, AreLevels, TotalsSuffice, AreSameSlices};
 ghost use Rattle.wkb_abi.specs.RowItems.{KeepsFrom, rows_of};
 
 use wkb_abi::column::{Column, check_row};
-use wkb_abi::level_slices::{LevelSlices, has_room, put_levels, put_rings};
+use wkb_abi::level_slices::{LevelSlices, has_room, lay_levels, lay_rings};
 use wkb_abi::status::{NO_ROOM, OK, UNKNOWN_OPTION};
 use wkb_abi::totals::Totals;
 use wkb_check::{Piece, Summary, check_plain};
@@ -20,7 +20,7 @@ use wkb_geom::code::WkbType;
 /// Writes the levels of a row in which the check found this from the totals on, and moves the totals to their end.
 /// Without room it only moves the totals. Returns the row's status.
 #[inline(always)]
-fn put_found(
+fn found_levels_into(
     row: &[u8],
     found: &Summary,
     asked: Dimension,
@@ -28,7 +28,7 @@ fn put_found(
     out: &mut LevelSlices<'_>,
 ) -> u32
     requires { DescribesFront row.now found.now }
-    ensures put { PutsFound asked row.now found.now result at.old at.new out.old out.new }
+    ensures laid { LaysFound asked row.now found.now result at.old at.new out.old out.new }
     ensures same_slices { AreSameSlices out.old out.new }
     ensures known { FitsByte result }
 {
@@ -38,13 +38,13 @@ fn put_found(
     if !has_room(at, asked, out) {
         return NO_ROOM;
     }
-    put_levels(row, &first, from, asked, out);
+    lay_levels(row, &first, from, asked, out);
     OK
 }
 
-/// As `put_found`, for any kind. It isn't inlined, so that the frames around the check of a row stay small.
+/// As `found_levels_into`, for any kind. It isn't inlined, so that the frames around the check of a row stay small.
 #[inline(never)]
-fn put_others(
+fn other_levels_into(
     row: &[u8],
     found: &Summary,
     asked: Dimension,
@@ -52,16 +52,16 @@ fn put_others(
     out: &mut LevelSlices<'_>,
 ) -> u32
     requires { DescribesFront row.now found.now }
-    ensures put { PutsFound asked row.now found.now result at.old at.new out.old out.new }
+    ensures laid { LaysFound asked row.now found.now result at.old at.new out.old out.new }
     ensures same_slices { AreSameSlices out.old out.new }
     ensures known { FitsByte result }
 {
-    put_found(row, found, asked, at, out)
+    found_levels_into(row, found, asked, at, out)
 }
 
-/// As `put_found`, of a polygon. It isn't inlined, so that others don't pay for its frame.
+/// As `found_levels_into`, of a polygon. It isn't inlined, so that others don't pay for its frame.
 #[inline(never)]
-fn put_polygon_found(
+fn polygon_levels_into(
     row: &[u8],
     found: &Summary,
     asked: Dimension,
@@ -70,7 +70,7 @@ fn put_polygon_found(
 ) -> u32
     requires found { DescribesFront row.now found.now }
     requires polygon { type_kind found.now.wkb_type ≡ POLYGON }
-    ensures put { PutsFound asked row.now found.now result at.old at.new out.old out.new }
+    ensures laid { LaysFound asked row.now found.now result at.old at.new out.old out.new }
     ensures same_slices { AreSameSlices out.old out.new }
     ensures known { FitsByte result }
 {
@@ -80,13 +80,13 @@ fn put_polygon_found(
     if !has_room(at, asked, out) {
         return NO_ROOM;
     }
-    put_rings(row, &first, from, asked, out);
+    lay_rings(row, &first, from, asked, out);
     OK
 }
 
-/// As `put_found`, with the kind known in each arm.
+/// As `found_levels_into`, with the kind known in each arm.
 #[inline(always)]
-fn put_by_kind(
+fn levels_by_kind_into(
     row: &[u8],
     found: &Summary,
     asked: Dimension,
@@ -94,21 +94,21 @@ fn put_by_kind(
     out: &mut LevelSlices<'_>,
 ) -> u32
     requires { DescribesFront row.now found.now }
-    ensures put { PutsFound asked row.now found.now result at.old at.new out.old out.new }
+    ensures laid { LaysFound asked row.now found.now result at.old at.new out.old out.new }
     ensures same_slices { AreSameSlices out.old out.new }
     ensures known { FitsByte result }
 {
     match found.wkb_type {
-        WkbType::Point(_) => put_found(row, found, asked, at, out),
-        WkbType::LineString(_) => put_found(row, found, asked, at, out),
+        WkbType::Point(_) => found_levels_into(row, found, asked, at, out),
+        WkbType::LineString(_) => found_levels_into(row, found, asked, at, out),
         // Copies, so that the findings on points and line strings need no place in memory.
         WkbType::Polygon(_) => {
             let own = *found;
-            put_polygon_found(row, &own, asked, at, out)
+            polygon_levels_into(row, &own, asked, at, out)
         }
         _ => {
             let own = *found;
-            put_others(row, &own, asked, at, out)
+            other_levels_into(row, &own, asked, at, out)
         }
     }
 }
@@ -117,20 +117,20 @@ fn put_by_kind(
 ///
 /// It isn't inlined, so that other rows don't pay for its frame.
 #[inline(never)]
-fn put_any(row: &[u8], asked: Dimension, at: &mut Totals, out: &mut LevelSlices<'_>) -> u32
-    ensures put { PutsAny asked row.now result at.old at.new out.old out.new }
+fn any_levels_into(row: &[u8], asked: Dimension, at: &mut Totals, out: &mut LevelSlices<'_>) -> u32
+    ensures laid { LaysAny asked row.now result at.old at.new out.old out.new }
     ensures same_slices { AreSameSlices out.old out.new }
     ensures known { FitsByte result }
 {
     match check_row(row) {
-        Ok(found) => put_others(row, &found, asked, at, out),
+        Ok(found) => other_levels_into(row, &found, asked, at, out),
         Err(status) => status,
     }
 }
 
 /// Writes the levels of row i from the totals on, and moves the totals to their end. Without room it only moves the
 /// totals. Returns the row's status.
-fn put_row(
+fn row_levels_into(
     column: &Column<'_>,
     i: usize,
     reach: &mut u64,
@@ -141,7 +141,7 @@ fn put_row(
     requires small { i < 2 ^ 63 }
     requires before { Reach column.now i reach.old }
     ensures reach { Reach column.now (i + 1) reach.new }
-    ensures put { PutsRow column.now dimension i result at.old at.new out.old out.new }
+    ensures laid { LaysRow column.now dimension i result at.old at.new out.old out.new }
     ensures same_slices { AreSameSlices out.old out.new }
     ensures known { FitsByte result }
 {
@@ -153,8 +153,8 @@ fn put_row(
         return UNKNOWN_OPTION;
     };
     match check_plain(row) {
-        Some(found) => put_by_kind(row, &found, asked, at, out),
-        None => put_any(row, asked, at, out),
+        Some(found) => levels_by_kind_into(row, &found, asked, at, out),
+        None => any_levels_into(row, asked, at, out),
     }
 }
 
@@ -186,7 +186,7 @@ pub extern "C" fn wkb_raw_column_coordinates(
     };
     let mut reach = 0;
     for i in 0..statuses.len().min(row_ends.len()) {
-        let status = put_row(column, i, &mut reach, dimension, &mut at, out);
+        let status = row_levels_into(column, i, &mut reach, dimension, &mut at, out);
         statuses[i] = status as u8;
         row_ends[i] = at.singles;
     }

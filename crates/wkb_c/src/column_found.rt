@@ -11,7 +11,7 @@ use wkb_abi::found::{Found, NOTHING_FOUND, found_of};
 use wkb_abi::status::OK;
 use wkb_check::check_plain;
 
-/// Puts what the check finds of some bytes by the long way, and returns their status.
+/// Lays what the check finds of some bytes by the long way, and returns their status.
 ///
 /// It isn't inlined, so that rows that take the short way don't pay for its frame.
 #[inline(never)]
@@ -31,7 +31,7 @@ fn find_any(row: &[u8], found: &mut Found) -> u32
     }
 }
 
-/// Puts what the check finds of row i, and returns its status.
+/// Lays what the check finds of row i, and returns its status.
 fn find_row(column: &Column, i: usize, reach: &mut u64, found: &mut Found) -> u32
     requires small { i < 2 ^ 63 }
     requires before { Reach column.now i reach.old }

@@ -9,7 +9,7 @@ ghost use Rattle.wkb_abi.specs.Subjects.{IsTable, LacksEntries};
 use crate::check::check_input;
 use wkb_abi::fault::WkbFault;
 use wkb_abi::status::{NO_ROOM, OK};
-use wkb_check::{Part, PartPlace, Piece, Summary, check_plain, put_geometries};
+use wkb_check::{Part, PartPlace, Piece, Summary, check_plain, lay_geometries};
 
 /// Lists the parts of the geometry at the start of the bytes in preorder, and writes their number.
 ///
@@ -39,7 +39,7 @@ pub extern "C" fn wkb_raw_parts(
 }
 
 /// Lists the parts of the geometry at the start of bytes in which the check found this, and reports how many there are.
-/// Without room nothing is put. Most geometries of a column are their only part, which needs no walk.
+/// Without room nothing is laid. Most geometries of a column are their only part, which needs no walk.
 #[inline(always)]
 pub fn list_parts(buf: &[u8], found: &Summary, parts: &mut [Part], count: &mut u64) -> u32
     requires accepted { DescribesFront buf.now found.now }
@@ -58,6 +58,6 @@ pub fn list_parts(buf: &[u8], found: &Summary, parts: &mut [Part], count: &mut u
         parts[0] = entry;
         return OK;
     }
-    put_geometries(buf, 1, parts, PartPlace { index: 0, byte: 0 });
+    lay_geometries(buf, 1, parts, PartPlace { index: 0, byte: 0 });
     OK
 }

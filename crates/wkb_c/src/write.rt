@@ -18,7 +18,7 @@ use wkb_check::{Summary, check_plain};
 use wkb_geom::Form;
 use wkb_geom::code::WkbType;
 use wkb_geom::header::SRID_SIZE;
-use wkb_rewrite::{encoded_size, put_encoding, put_one_piece, put_polygon, size_with_own_srid};
+use wkb_rewrite::{encoded_size, lay_encoding, lay_one_piece, lay_polygon, size_with_own_srid};
 use wkb_sink::WriteOptions;
 
 /// Writes the encoding that the options ask for, and its length.
@@ -120,7 +120,7 @@ fn write_one_piece(
     if out.len() < wanted {
         return NO_ROOM;
     }
-    put_one_piece(buf, found, options, out);
+    lay_one_piece(buf, found, options, out);
     OK
 }
 
@@ -146,7 +146,7 @@ fn write_polygon(
     if out.len() < wanted {
         return NO_ROOM;
     }
-    put_polygon(buf, found, options, out);
+    lay_polygon(buf, found, options, out);
     OK
 }
 
@@ -193,7 +193,7 @@ pub fn write_requested(
             return NO_ROOM;
         }
     }
-    *size = put_encoding(buf, found, options, out) as u64;
+    *size = lay_encoding(buf, found, options, out) as u64;
     OK
 }
 

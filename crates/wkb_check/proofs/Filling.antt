@@ -1,4 +1,4 @@
--- The loop over geometries whose entries are put into a table.
+-- The loop over geometries whose entries are laid into a table.
 use Rattle.std.proofs.Common.{◌≡◌, ℕ, suc, ◌+◌, ◌-◌, ◌<◌, ◌≤◌, List, length, drop, refl, sym, ap, ◌∙◌, arith, length-append}
 use lib.Seq.{sets, length-sets}
 use Rattle.wkb_laws.specs.Prelude.{Value, Spelling, node}
@@ -7,7 +7,7 @@ use Rattle.wkb_check.specs.Pieces.{last_end}
 use Rattle.wkb_check.specs.Subjects.{subjects, subjects_of_each}
 use Rattle.wkb_check.specs.Tables.{entries_from}
 use Rattle.wkb_check.specs.declared.parts.Part.{Part}
-use Rattle.wkb_check.proofs.Placing.{begun_at, behind_geometry, first_one, sets_after, IsPut, end_append}
+use Rattle.wkb_check.proofs.Placing.{begun_at, behind_geometry, first_one, sets_after, IsLaid, end_append}
 use Rattle.wkb_check.proofs.Placing.{end_onward, as_many_entries, entries_append}
 
 -- What is left of the geometries, at the next index and from the next byte on, makes of the table what all make of it.
@@ -18,7 +18,7 @@ pub record Left (buf : List ℕ) (total start : ℕ) (more : List ℕ) (all : Ha
       ≡ first + length (subjects_of_each all.spelled all.values)
   pub bytes : last_end at (subjects_of_each to_come.spelled to_come.values)
       ≡ last_end start (subjects_of_each all.spelled all.values)
-  pub put : sets parts index (entries_from index at (subjects_of_each to_come.spelled to_come.values))
+  pub laid : sets parts index (entries_from index at (subjects_of_each to_come.spelled to_come.values))
       ≡ sets before first (entries_from first start (subjects_of_each all.spelled all.values))
   pub long : length parts ≡ length before
   pub onward : start ≤ at
@@ -36,11 +36,11 @@ module _ {buf more : List ℕ} {total start : ℕ} {all : HasGeometries total (d
     {before : List Part} where
   pub left_first : {n : ℕ} → n ≡ total → Left buf total start more all first before n first start before
   left_first e =
-      rw e (record { to_come = all; indices = refl; bytes = refl; put = refl; long = refl; onward = omega arith })
+      rw e (record { to_come = all; indices = refl; bytes = refl; laid = refl; long = refl; onward = omega arith })
 
   module _ {n index at : ℕ} {parts : List Part} (l : Left buf total start more all first before n index at parts) where
     pub left_next : {m : ℕ} → n ≡ suc m → (next to : ℕ) (after : List Part)
-        → ((g : HasGeometry (drop at buf)) → IsPut parts after index at next to g.spelled g.value)
+        → ((g : HasGeometry (drop at buf)) → IsLaid parts after index at next to g.spelled g.value)
         → Left buf total start more all first before m next to after
     left_next {m = m} e next to after item =
         let f = first_one n m (drop at buf) more l.to_come e in
@@ -54,15 +54,15 @@ module _ {buf more : List ℕ} {total start : ℕ} {all : HasGeometries total (d
           bytes =
               (λ j. last_end (i.to_is j) others) ∙ sym (end_append at own others)
               ∙ ap (last_end at) (sym f.are) ∙ l.bytes;
-          put =
-              ap (λ ps. sets ps next (entries_from next to others)) i.put
+          laid =
+              ap (λ ps. sets ps next (entries_from next to others)) i.laid
               ∙ sets_after parts index next (entries_from index at own) (entries_from next to others)
               (omega (arith, i.next_is, as_many_entries index at own))
               ∙ ap (sets parts index)
               (entries_append index at next to own others i.next_is i.to_is
               ∙ ap (entries_from index at) (sym f.are))
-              ∙ l.put;
-          long = ap length i.put ∙ length-sets parts index (entries_from index at own) ∙ l.long;
+              ∙ l.laid;
+          long = ap length i.laid ∙ length-sets parts index (entries_from index at own) ∙ l.long;
           onward = omega (arith, l.onward, i.to_is, end_onward at own);
         }
 

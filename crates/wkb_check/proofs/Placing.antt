@@ -40,9 +40,9 @@ module _ {A : Type 0} where
   sets_after l i j [] ys e = ap (λ k. sets l k ys) (omega (arith, e))
   sets_after l i j (x ∷ xs) ys e = sets_after (set l i x) (suc i) j xs ys (omega (arith, e))
 
-  -- an item that is put last, before others
-  pub put_first : (l r : List A) (i : ℕ) (a : A) (vs : List A) → r ≡ sets l (i + 1) vs → set r i a ≡ sets l i (a ∷ vs)
-  put_first l r i a vs e = rw (e, ← add-one i) (set_first l i (i + 1) a vs (omega arith))
+  -- an item that is laid last, before others
+  pub laid_first : (l r : List A) (i : ℕ) (a : A) (vs : List A) → r ≡ sets l (i + 1) vs → set r i a ≡ sets l i (a ∷ vs)
+  laid_first l r i a vs e = rw (e, ← add-one i) (set_first l i (i + 1) a vs (omega arith))
 
 -- ---- where bytes stand
 
@@ -460,21 +460,21 @@ module _ (buf : List ℕ) (at : ℕ) (g : HasGeometry (drop at buf)) (p : Piece)
         le-ltb (kind g.value) 4 (omega (arith, kind_of, other, ltb-false p.kind 3 high)) in
         rw (ends, is) (has_members buf at g.spelled g.value g.rest g.begins more order d)
 
--- The entry of this geometry and of what is inside it are put at this index, and the next place is the one after them.
-pub record IsPut (parts new : List Part) (index at next to : ℕ) (s : Spelling) (t : Value) : Type 0 where
-  pub put : new ≡ sets parts index (geometry_entries index at s t)
+-- The entry of this geometry and of what is inside it are laid at this index, and the next place is the one after them.
+pub record IsLaid (parts new : List Part) (index at next to : ℕ) (s : Spelling) (t : Value) : Type 0 where
+  pub laid : new ≡ sets parts index (geometry_entries index at s t)
   pub next_is : next ≡ index + length (subjects s t)
   pub to_is : to ≡ last_end at (subjects s t)
 
--- so it is where the own entry is put after those of what is inside
-pub item_put : (index at : ℕ) (s : Spelling) (t : Value) (p : Piece) → p ≡ piece_of at s t
+-- so it is where the own entry is laid after those of what is inside
+pub item_laid : (index at : ℕ) (s : Spelling) (t : Value) (p : Piece) → p ≡ piece_of at s t
     → (parts with : List Part) (from next to : ℕ) (e : Part) → from ≡ own_end p
     → with ≡ sets parts (index + 1) (entries_from (index + 1) from (inner s t))
     → next ≡ index + length (subjects s t) → to ≡ last_end at (subjects s t) → e ≡ entry_of p to next
-    → IsPut parts (set with index e) index at next to s t
-item_put index at s t p p-is parts with from next to e ends put n b e-is = record {
-  put =
-      put_first parts with index e (entries_from (index + 1) from (inner s t)) put
+    → IsLaid parts (set with index e) index at next to s t
+item_laid index at s t p p-is parts with from next to e ends laid n b e-is = record {
+  laid =
+      laid_first parts with index e (entries_from (index + 1) from (inner s t)) laid
       ∙ (λ j. sets parts index
       ((e-is ∙ (λ k. entry_of (p-is k) (b k) (n k))) j
       ∷ entries_from (index + 1) ((ends ∙ ap own_end p-is) j) (inner s t)))

@@ -22,7 +22,7 @@ pub width_is_small : (d : Dimension) → width d < 2 ^ 32
 width_is_small Xy = omega arith
 width_is_small _ = omega arith
 
--- What is left to be put, at the next index and from the next byte on, makes of the table what all rings make of it.
+-- What is left to be laid, at the next index and from the next byte on, makes of the table what all rings make of it.
 pub record RingsLeft (buf : List ℕ) (order : Endianness) (d : Dimension) (n index at : ℕ) (parts : List Part)
     (all first start : ℕ) (before : List Part) : Type 0 where
   pub whole : AreWhole order d n (drop at buf)
@@ -30,7 +30,7 @@ pub record RingsLeft (buf : List ℕ) (order : Endianness) (d : Dimension) (n in
   pub indices : index + n ≡ first + all
   pub bytes : last_end at (first_rings order d n (drop at buf))
       ≡ last_end start (first_rings order d all (drop start buf))
-  pub put : sets parts index (entries_from index at (first_rings order d n (drop at buf)))
+  pub laid : sets parts index (entries_from index at (first_rings order d n (drop at buf)))
       ≡ sets before first (entries_from first start (first_rings order d all (drop start buf)))
 
 -- the next of r rings, and those after it
@@ -62,13 +62,13 @@ next_ring buf order d (suc r) m at next w e ends =
       inside = omega (arith, w.0, w.1, ends, length-drop at buf);
     }
 
-pub ring_put : {buf : List ℕ} {order : Endianness} {d : Dimension} {n m index at : ℕ} {parts : List Part}
+pub ring_laid : {buf : List ℕ} {order : Endianness} {d : Dimension} {n m index at : ℕ} {parts : List Part}
     {all first start : ℕ} {before : List Part} → RingsLeft buf order d n index at parts all first start before
     → n ≡ suc m → (p : Part) (next : ℕ)
     → next ≡ own_end (ring_piece order d at (number order 4 (drop at buf)))
     → p ≡ entry_of (ring_piece order d at (number order 4 (drop at buf))) next (index + 1)
     → RingsLeft buf order d m (index + 1) next (set parts index p) all first start before
-ring_put {buf = buf} {order = order} {d = d} {n = n} {m = m} {index = index} {at = at} {parts = parts} l e p next ends
+ring_laid {buf = buf} {order = order} {d = d} {n = n} {m = m} {index = index} {at = at} {parts = parts} l e p next ends
     is =
     let r = next_ring buf order d n m at next l.whole e ends in
     let one : index + 1 ≡ suc index = omega arith in
@@ -82,7 +82,7 @@ ring_put {buf = buf} {order = order} {d = d} {n = n} {m = m} {index = index} {at
       bytes =
           (λ i. last_end (r.next_is i) others)
           ∙ ap (λ rs. last_end at (subjects_of_rings order d rs)) (sym r.are) ∙ l.bytes;
-      put =
+      laid =
           (λ i. sets (set parts index (entry i)) (one i) (entries_from (index + 1) (r.next_is i) others))
-          ∙ ap (λ rs. sets parts index (entries_from index at (subjects_of_rings order d rs))) (sym r.are) ∙ l.put;
+          ∙ ap (λ rs. sets parts index (entries_from index at (subjects_of_rings order d rs))) (sym r.are) ∙ l.laid;
     }

@@ -15,5 +15,5 @@ mod walk;
 
 pub use answer::{Refused, Summary, check, check_member, check_plain};
 pub use head::size_of_srid;
-pub use parts::{Part, PartPlace, put_geometries, width_number};
+pub use parts::{Part, PartPlace, lay_geometries, width_number};
 pub use pieces::{Piece, Pieces, RING};

@@ -2,7 +2,7 @@
 
 ghost use Rattle.std.specs.Prelude.{◌≡◌, ◌+◌, ◌≤◌, length, drop};
 ghost use Rattle.wkb_geom.specs.Dimensions.{width};
-ghost use Rattle.wkb_check.specs.Tables.{entry_of, HasRingsFrom, PutsRings, FitGeometries, PutsFrom};
+ghost use Rattle.wkb_check.specs.Tables.{entry_of, HasRingsFrom, LaysRings, FitGeometries, LaysFrom};
 
 use crate::pieces::Piece;
 use wkb_geom::Dimension;
@@ -62,11 +62,11 @@ pub struct PartPlace {
     pub byte: usize,
 }
 
-/// Puts the entries of the rings of a polygon from this place on, and returns the place after them.
-pub fn put_rings(buf: &[u8], polygon: &Piece, parts: &mut [Part], start: PartPlace) -> PartPlace
+/// Lays the entries of the rings of a polygon from this place on, and returns the place after them.
+pub fn lay_rings(buf: &[u8], polygon: &Piece, parts: &mut [Part], start: PartPlace) -> PartPlace
     requires whole { HasRingsFrom buf.now polygon.now start.byte }
     requires room { start.index + polygon.now.count ≤ length parts.old }
-    ensures { PutsRings buf.now polygon.now parts.old parts.new start result }
+    ensures { LaysRings buf.now polygon.now parts.old parts.new start result }
 {
     let mut at = start;
     for _ in 0..polygon.count {
@@ -81,11 +81,11 @@ pub fn put_rings(buf: &[u8], polygon: &Piece, parts: &mut [Part], start: PartPla
     at
 }
 
-/// Puts the entries of `count` geometries one after another from this place on, and returns the place after them.
+/// Lays the entries of `count` geometries one after another from this place on, and returns the place after them.
 #[cycle(table)]
-pub fn put_geometries(buf: &[u8], count: u32, parts: &mut [Part], start: PartPlace) -> PartPlace
+pub fn lay_geometries(buf: &[u8], count: u32, parts: &mut [Part], start: PartPlace) -> PartPlace
     requires fit { FitGeometries count (drop start.byte buf.now) start.index (length parts.old) }
-    ensures { PutsFrom buf.now count parts.old parts.new start result }
+    ensures { LaysFrom buf.now count parts.old parts.new start result }
 {
     let mut at = start;
     for _ in 0..count {
@@ -97,9 +97,9 @@ pub fn put_geometries(buf: &[u8], count: u32, parts: &mut [Part], start: PartPla
         let next = if piece.has_coordinates() {
             inside
         } else if piece.kind == POLYGON {
-            put_rings(buf, &piece, parts, inside)
+            lay_rings(buf, &piece, parts, inside)
         } else {
-            put_geometries(buf, piece.count, parts, inside)
+            lay_geometries(buf, piece.count, parts, inside)
         };
         parts[at.index] = Part::of(&piece, next.byte, next.index);
         at = next;

@@ -106,8 +106,8 @@ is_row = record {
   };
 }
 
-point_put : HasCoordinates column 0 0 Xy (subjects spelled value)
-point_put = record {
+point_laid : HasCoordinates column 0 0 Xy (subjects spelled value)
+point_laid = record {
   row = bytes;
   is_row = is_row;
   asked_is = refl;
@@ -121,8 +121,8 @@ point_put = record {
 -- the levels of the first row are written
 first_row : AreColumnCoordinates column 0 statuses (1 ∷ 1 ∷ []) out 1 after_point filled
 first_row =
-    let put = handed Xy (subjects spelled value) point_put (written refl refl (search rules) refl) in
-    (no_totals, (out, ((refl, refl), put, refl)))
+    let laid = handed Xy (subjects spelled value) point_laid (written refl refl (search rules) refl) in
+    (no_totals, (out, ((refl, refl), laid, refl)))
 
 -- an encoding is bytes
 all_bytes : AreBytes bytes

@@ -29,10 +29,10 @@ pub record IsHeld {A : Type 0} (xs : List A) (from to : ℕ) (items : List A) : 
   pub are : slice_range xs from to ≡ items
 
 module _ {A : Type 0} where
-  -- it does where they are put
-  pub held_put : (xs items : List A) (from to : ℕ) → to ≡ from + length items → to ≤ length xs
+  -- it does where they are laid
+  pub held_laid : (xs items : List A) (from to : ℕ) → to ≡ from + length items → to ≤ length xs
       → IsHeld (sets xs from items) from to items
-  held_put xs items from to many within = record {
+  held_laid xs items from to many within = record {
     many = many;
     within = omega (arith, length-sets xs from items);
     are =

@@ -18,7 +18,7 @@ use Rattle.wkb_levels.specs.Cuts.{start_at}
 use Rattle.wkb_levels.specs.EndLists.{start_of, ends_of, begin_of}
 use Rattle.wkb_levels.proofs.Pieces.{start_behind, last_of_part}
 use Rattle.wkb_abi.specs.Columns.{IsRow, IsRefusedWith}
-use Rattle.wkb_abi.specs.Coordinates.{LevelLists, levels, HasRoomUpTo, totals_after, with_levels, ArePut, written, no_room}
+use Rattle.wkb_abi.specs.Coordinates.{LevelLists, levels, HasRoomUpTo, totals_after, with_levels, AreLaid, written, no_room}
 use Rattle.wkb_abi.specs.Coordinates.{IsCoordinatesRow, HasCoordinates, handed, failed, no_row, unknown, refused}
 use Rattle.wkb_abi.specs.Coordinates.{AreColumnCoordinates, ends, ring_counts, single_counts, asked_subject_words}
 use Rattle.wkb_abi.specs.LevelTargets.{levels_in}
@@ -31,7 +31,7 @@ use Rattle.wkb_abi.proofs.Levels.{AreSmall, ends_length, sum-first, wide_enough}
 use Rattle.wkb_abi.proofs.Rooms.{AreAsLong, Reaches, row_says, long_more, scaled, room_before, room_in, one_dimension}
 use Rattle.wkb_column_laws.specs.ThereAndBack.{AreShort, AreGivenOn}
 use Rattle.wkb_column_laws.proofs.ThereAndBackKinds.{AreCounted, counted}
-use Rattle.wkb_column_laws.proofs.ThereAndBackLevels.{IsHeld, held_put}
+use Rattle.wkb_column_laws.proofs.ThereAndBackLevels.{IsHeld, held_laid}
 
 -- ---- lists that keep what they have
 
@@ -95,7 +95,7 @@ held_ends {xs} {from} {to} start ns h is =
 
 -- ---- a row that is written
 
--- items that are put behind a number change nothing before it
+-- items that are laid behind a number change nothing before it
 take_before : {A : Type 0} (k at : ℕ) (xs items : List A) → k ≤ at → take k (sets xs at items) ≡ take k xs
 take_before k at xs [] h = refl
 take_before k at xs (a ∷ items) h =
@@ -136,9 +136,9 @@ module _ {asked : Dimension} (xs : List Subject) (from : Totals) {out before : L
   abbrev after : LevelLists
   after = with_levels asked xs from before
 
-  -- where there is room they are put
-  put_levels : HoldsLevels asked out after from to xs
-  put_levels =
+  -- where there is room they are laid
+  laid_levels : HoldsLevels asked out after from to xs
+  laid_levels =
       let coordinates : to.coordinates ≡ from.coordinates + sum rings = omega (arith, wide_enough asked to.coordinates) in
       record {
         room =
@@ -147,19 +147,19 @@ module _ {asked : Dimension} (xs : List Subject) (from : Totals) {out before : L
         coordinates = coordinates;
         rings = omega arith;
         single_ends =
-            held_put before.single_ends _ _ _ (omega (arith, ends_length from.rings singles)) room.singles_fit;
+            held_laid before.single_ends _ _ _ (omega (arith, ends_length from.rings singles)) room.singles_fit;
         ring_ends =
-            held_put before.ring_ends _ _ _ (omega (arith, ends_length from.coordinates rings)) room.rings_fit;
+            held_laid before.ring_ends _ _ _ (omega (arith, ends_length from.coordinates rings)) room.rings_fit;
         words = λ wide.
-            held_put before.words _ _ _ (rw (wide, ← mul-add) (ap (λ n. width asked * n) coordinates)) room.words_fit;
+            held_laid before.words _ _ _ (rw (wide, ← mul-add) (ap (λ n. width asked * n) coordinates)) room.words_fit;
       }
 
   -- and the row goes on
-  put_goes : AreCounted xs → GoesOn asked out from to before after
-  put_goes counted =
+  laid_goes : AreCounted xs → GoesOn asked out from to before after
+  laid_goes counted =
       let keeps : Keeps asked from before after =
       record { words = rw take_stays; ring_ends = rw take_stays; single_ends = rw take_stays } in
-      let e = put_levels in
+      let e = laid_levels in
       record {
         keeps = keeps;
         placed = λ is fits.
@@ -183,41 +183,41 @@ module _ {asked : Dimension} {from to : Totals} {out before after : LevelLists} 
   }
 
   -- a geometry goes on, and where the status is OK its levels are there
-  geometry_goes : {status : ℕ} {xs : List Subject} → AreCounted xs → ArePut asked xs status from to before after
+  geometry_goes : {status : ℕ} {xs : List Subject} → AreCounted xs → AreLaid asked xs status from to before after
       → GoesOn asked out from to before after
   geometry_goes {xs = xs} counted (written ok to_is room after_is) =
-      rw (after_is, to_is) (put_goes xs from short long (rw to_is at room) counted)
+      rw (after_is, to_is) (laid_goes xs from short long (rw to_is at room) counted)
   geometry_goes counted (no_room told to_is lacks same) =
       stays same (λ fits. absurd (lacks (room_in asked out before to long fits)))
 
-  geometry_there : {status : ℕ} {xs : List Subject} → status ≡ OK → ArePut asked xs status from to before after
+  geometry_there : {status : ℕ} {xs : List Subject} → status ≡ OK → AreLaid asked xs status from to before after
       → HoldsLevels asked out after from to xs
   geometry_there {xs = xs} ok (written told to_is room after_is) =
-      rw (after_is, to_is) (put_levels xs from short long (rw to_is at room))
+      rw (after_is, to_is) (laid_levels xs from short long (rw to_is at room))
   geometry_there ok (no_room told to_is lacks same) = absurd (omega (arith, ok, told))
 
   -- so does a row
   module _ {c : Column} {dimension i status : ℕ} (named : dimension_of_thousands dimension ≡ Some asked) where
     in_asked : {other : Dimension} {xs : List Subject} → HasCoordinates c dimension i other xs
-        → ArePut other xs status from to before after → ArePut asked xs status from to before after
-    in_asked {other} {xs} has put =
-        subst (λ d. ArePut d xs status from to before after)
-        (one_dimension dimension other asked has.asked_is named) put
+        → AreLaid other xs status from to before after → AreLaid asked xs status from to before after
+    in_asked {other} {xs} has laid =
+        subst (λ d. AreLaid d xs status from to before after)
+        (one_dimension dimension other asked has.asked_is named) laid
 
     pub row_goes : IsCoordinatesRow c dimension i status from to before after → GoesOn asked out from to before after
-    row_goes (handed other xs has put) = geometry_goes (rw has.are (counted has.s has.t)) (in_asked has put)
+    row_goes (handed other xs has laid) = geometry_goes (rw has.are (counted has.s has.t)) (in_asked has laid)
     row_goes (failed why to_is same) = stays same (λ fits. to_is)
 
     -- a row of the status OK is there, if it begins with this geometry
     pub row_there : {row rest : List ℕ} {s : Spelling} {t : Value} → status ≡ OK → IsRow c i row → Front row s t rest
         → IsCoordinatesRow c dimension i status from to before after
         → HoldsLevels asked out after from to (subjects s t)
-    row_there {row} {rest} {s} {t} ok is front (handed other xs has put) =
+    row_there {row} {rest} {s} {t} ok is front (handed other xs has laid) =
         let own : Front row has.s has.t has.rest =
         subst (λ z. Front z has.s has.t has.rest) (one_row has.is_row is) has.front in
         let one = one_front_lem row has.s s has.t t has.rest rest own front in
         subst (HoldsLevels asked out after from to) (has.are ∙ (λ k. subjects (one.1 k) (one.2 k)))
-        (geometry_there ok (in_asked has put))
+        (geometry_there ok (in_asked has laid))
     row_there ok is front (failed (no_row lacks) to_is same) = absurd (never_lacks is lacks)
     row_there ok is front (failed (unknown other is' none told) to_is same) = absurd (cc named)
     row_there {s = s} {t = t} ok is front (failed (refused other d is' n why) to_is same) =

@@ -21,7 +21,7 @@ use Rattle.wkb_rewrite.specs.Targets.{encoding_for}
 use Rattle.wkb_rewrite.specs.Rewritings.{HasPassed}
 use Rattle.wkb_rewrite.proofs.Encodings.{shares_encoding, inner_twice}
 use Rattle.wkb_rewrite.proofs.Measured.{srid_sizes, measured}
-use Rattle.wkb_rewrite.proofs.Putting.{header_of_some}
+use Rattle.wkb_rewrite.proofs.Laying.{header_of_some}
 use Rattle.wkb_rewrite.proofs.Spelled.{pieces_say}
 use Rattle.wkb_sink.proofs.Lengths.{length-header}
 use Rattle.wkb_rewrite.proofs.Standing.{Spans, span_on, own_body, IsGeometry, IsThere, geometry_there, next_there}

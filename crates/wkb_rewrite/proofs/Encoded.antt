@@ -1,4 +1,4 @@
--- The encoding is put piece by piece.
+-- The encoding is laid piece by piece.
 use Rattle.std.proofs.Common.{◌≡◌, ℕ, ◌+◌, ◌≤◌, List, [], ◌++◌, length, sym, ap, ◌∙◌, arith, length-append, nat_lt}
 use Rattle.std.proofs.Common.{true, append-nil, refl, map}
 use lib.Seq.{sets}
@@ -11,22 +11,22 @@ use Rattle.wkb_check.proofs.Placing.{sets_after, only_piece, geometry_inside}
 use Rattle.wkb_check.specs.declared.answer.Summary.{Summary}
 use Rattle.wkb_check.specs.Public.{DescribesFront}
 use Rattle.wkb_sink.specs.declared.options.WriteOptions.{WriteOptions}
-use Rattle.wkb_rewrite.specs.Shares.{Share, share_in, share_encoding, piece_encoding, HasRoomAt, IsPut}
-use Rattle.wkb_rewrite.specs.Targets.{FrontFits, PutsFront, IsFrontSize, IsFrontEncoding}
+use Rattle.wkb_rewrite.specs.Shares.{Share, share_in, share_encoding, piece_encoding, HasRoomAt, IsLaid}
+use Rattle.wkb_rewrite.specs.Targets.{FrontFits, LaysFront, IsFrontSize, IsFrontEncoding}
 use Rattle.wkb_rewrite.proofs.Comparing.{encoded}
 use Rattle.wkb_rewrite.proofs.Measured.{here}
 use Rattle.wkb_rewrite.proofs.Encodings.{shares_encoding}
 use Rattle.wkb_rewrite.proofs.Spelled.{pieces_say}
 use Rattle.wkb_rewrite.proofs.Walks.{Rest, Next}
-use Rattle.wkb_rewrite.proofs.Putting.{put_length}
+use Rattle.wkb_rewrite.proofs.Laying.{laid_length}
 
--- what is left to be put makes of the slice what all makes of it
+-- what is left to be laid makes of the slice what all makes of it
 pub record Left (buf : List ℕ) (order : Endianness) (form : Form) (w : Pieces) (at : ℕ) (out before whole : List ℕ)
     : Type 0 where
   pub shares : List Share
   pub rest : Rest buf w shares
   pub size : at + length (shares_encoding order form shares) ≡ length whole
-  pub put : sets out at (shares_encoding order form shares) ≡ sets before 0 whole
+  pub laid : sets out at (shares_encoding order form shares) ≡ sets before 0 whole
   pub long : length out ≡ length before
 
 module _ {buf : List ℕ} {order : Endianness} {form : Form} {w : Pieces} {at : ℕ} {out before whole : List ℕ}
@@ -34,7 +34,7 @@ module _ {buf : List ℕ} {order : Endianness} {form : Form} {w : Pieces} {at : 
   pub left_none : l.shares ≡ [] → (at ≡ length whole) × (out ≡ sets before 0 whole)
   left_none none =
       let nothing : shares_encoding order form l.shares ≡ [] = ap (shares_encoding order form) none in
-      (omega (arith, l.size, ap length nothing), ap (sets out at) (sym nothing) ∙ l.put)
+      (omega (arith, l.size, ap length nothing), ap (sets out at) (sym nothing) ∙ l.laid)
 
   module _ {new : Pieces} {p : Piece} (n : Next buf new l.shares p) where
     abbrev pub own : List ℕ
@@ -49,15 +49,15 @@ module _ {buf : List ℕ} {order : Endianness} {form : Form} {w : Pieces} {at : 
     pub left_room : length whole ≤ length before → at + length own ≤ length out
     left_room room = omega (arith, room, l.size, l.long, ap length all, length-append own others)
 
-    pub left_next : {to : ℕ} {with : List ℕ} → IsPut out with at to own
+    pub left_next : {to : ℕ} {with : List ℕ} → IsLaid out with at to own
         → Left buf order (inner form) new to with before whole
     left_next {to = to} p = record {
       shares = n.others;
       rest = n.left;
       size = omega (arith, l.size, p.end_is, ap length all, length-append own others);
-      put = ap (λ z. sets z to others) p.put ∙ sets_after out at to own others p.end_is ∙ ap (sets out at) (sym all)
-          ∙ l.put;
-      long = put_length p ∙ l.long;
+      laid = ap (λ z. sets z to others) p.laid ∙ sets_after out at to own others p.end_is ∙ ap (sets out at) (sym all)
+          ∙ l.laid;
+      long = laid_length p ∙ l.long;
     }
 
 -- the first piece comes first, and then the others are left
@@ -80,15 +80,15 @@ module _ {buf : List ℕ} (order : Endianness) (form : Form) (g : HasGeometry bu
   first_room out fits = omega (arith, fits, ap length first_all, length-append first_own first_others)
 
   pub first_left : {to : ℕ} {out with : List ℕ} → w.bytes.now ≡ buf
-      → IsPut out with 0 to (share_encoding order form (share_in buf p))
+      → IsLaid out with 0 to (share_encoding order form (share_in buf p))
       → Left buf order (inner form) w to with out (encoding order form (geometry_of g.value))
-  first_left {to = to} {out = out} same put = record {
+  first_left {to = to} {out = out} same laid = record {
     shares = map (share_in buf) taken.rest;
     rest = record { pieces = taken.rest; ahead = taken.ahead; bytes = same; say = refl };
-    size = omega (arith, put.end_is, ap length first_all, length-append first_own first_others);
-    put = ap (λ z. sets z to first_others) put.put ∙ sets_after out 0 to first_own first_others put.end_is
+    size = omega (arith, laid.end_is, ap length first_all, length-append first_own first_others);
+    laid = ap (λ z. sets z to first_others) laid.laid ∙ sets_after out 0 to first_own first_others laid.end_is
         ∙ ap (sets out 0) (sym first_all);
-    long = put_length put;
+    long = laid_length laid;
   }
 
 -- a geometry with coordinates is one piece, and its encoding is that piece's
@@ -112,9 +112,9 @@ module _ {buf : List ℕ} {found : Summary} (d : DescribesFront buf found) {p : 
     room = omega (arith, fits (here d), ap length (alone (here d)));
   }
 
-  pub alone_put : {out new : List ℕ} {end : ℕ} → IsPut out new 0 end own_encoding
-      → record { size : IsFrontSize buf options.endianness options.form end; put : PutsFront buf options out new }
-  alone_put {out = out} p = record {
+  pub alone_laid : {out new : List ℕ} {end : ℕ} → IsLaid out new 0 end own_encoding
+      → record { size : IsFrontSize buf options.endianness options.form end; laid : LaysFront buf options out new }
+  alone_laid {out = out} p = record {
     size = λ g. omega (arith, p.end_is, ap length (alone g));
-    put = λ g. p.put ∙ ap (sets out 0) (sym (alone g));
+    laid = λ g. p.laid ∙ ap (sets out 0) (sym (alone g));
   }

@@ -1,4 +1,4 @@
--- Bytes that are put one after another.
+-- Bytes that are laid one after another.
 use Rattle.std.proofs.Common.{◌≡◌, ℕ, ◌+◌, ◌≤◌, List, ◌++◌, length, take, drop, refl, sym, ap, ◌∙◌, arith, append_assoc}
 use Rattle.std.proofs.Common.{length-append, append-nil, ◌≢◌, ◌∷◌, [], None, slice_set, if◌then◌else◌, Bool, true}
 use Rattle.std.proofs.Common.{false}
@@ -10,46 +10,46 @@ use Rattle.wkb_laws.proofs.Parts.{take_front}
 use Rattle.wkb_laws.specs.Prelude.{Endianness, Dimension, Form, order_byte, form_srid, type_of}
 use Rattle.wkb_geom.specs.Encodings.{type_code}
 unfoldable use Rattle.wkb_laws.specs.Prelude.{number_bytes, header_encoding, srid_encoding}
-use borrow.Rule.Slice.PartMut.{put_mid}
+use borrow.Rule.Slice.PartMut.{laid_mid}
 use Rattle.wkb_check.proofs.Placing.{sets_after}
 use Rattle.wkb_sink.proofs.Lengths.{length-number, length-header}
 use Rattle.wkb_geom.specs.Refusals.{srid_size}
 use Rattle.wkb_geom.specs.declared.code.WkbType.{WkbType}
-use Rattle.wkb_rewrite.specs.Shares.{IsPut, type_header, header_part}
+use Rattle.wkb_rewrite.specs.Shares.{IsLaid, type_header, header_part}
 
 -- a part of a slice that was borrowed
-pub part_put : (all part bytes : List ℕ) (at k end : ℕ) → at + length bytes ≤ length all → length bytes ≡ k
-    → end ≡ at + k → part ≡ bytes → IsPut all (put_mid at k all part) at end bytes
-part_put all part bytes at k end room long ends is = record {
+pub part_laid : (all part bytes : List ℕ) (at k end : ℕ) → at + length bytes ≤ length all → length bytes ≡ k
+    → end ≡ at + k → part ≡ bytes → IsLaid all (laid_mid at k all part) at end bytes
+part_laid all part bytes at k end room long ends is = record {
   end_is = omega (arith, ends, long);
-  put = ap (put_mid at k all) is
+  laid = ap (laid_mid at k all) is
       ∙ ap (λ z. take at all ++ (bytes ++ z)) (drop-drop k at all ∙ ap (λ n. drop n all) (omega (arith, long)))
       ∙ sym (append_assoc (take at all) bytes (drop (at + length bytes) all))
       ∙ sym (sets-eq bytes all at room);
 }
 
-pub put_on : {a b c : List ℕ} {i j k : ℕ} {xs ys : List ℕ} → IsPut a b i j xs → IsPut b c j k ys
-    → IsPut a c i k (xs ++ ys)
-put_on {a = a} {i = i} {j = j} {xs = xs} {ys = ys} p q = record {
+pub laid_on : {a b c : List ℕ} {i j k : ℕ} {xs ys : List ℕ} → IsLaid a b i j xs → IsLaid b c j k ys
+    → IsLaid a c i k (xs ++ ys)
+laid_on {a = a} {i = i} {j = j} {xs = xs} {ys = ys} p q = record {
   end_is = omega (arith, p.end_is, q.end_is, length-append xs ys);
-  put = q.put ∙ ap (λ z. sets z j ys) p.put ∙ sets_after a i j xs ys p.end_is;
+  laid = q.laid ∙ ap (λ z. sets z j ys) p.laid ∙ sets_after a i j xs ys p.end_is;
 }
 
-pub put_length : {a b : List ℕ} {i j : ℕ} {xs : List ℕ} → IsPut a b i j xs → length b ≡ length a
-put_length {a = a} {i = i} {xs = xs} p = ap length p.put ∙ length-sets a i xs
+pub laid_length : {a b : List ℕ} {i j : ℕ} {xs : List ℕ} → IsLaid a b i j xs → length b ≡ length a
+laid_length {a = a} {i = i} {xs = xs} p = ap length p.laid ∙ length-sets a i xs
 
-pub byte_put : {a b : List ℕ} {i j byte : ℕ} {xs : List ℕ} → IsPut (slice_set a i byte) b (i + 1) j xs
-    → IsPut a b i j (byte ∷ xs)
-byte_put {a = a} {i = i} {byte = byte} p =
-    put_on {i = i} {xs = byte ∷ []} (record { end_is = omega arith; put = refl }) p
+pub byte_laid : {a b : List ℕ} {i j byte : ℕ} {xs : List ℕ} → IsLaid (slice_set a i byte) b (i + 1) j xs
+    → IsLaid a b i j (byte ∷ xs)
+byte_laid {a = a} {i = i} {byte = byte} p =
+    laid_on {i = i} {xs = byte ∷ []} (record { end_is = omega arith; laid = refl }) p
 
-pub nothing_put : (out : List ℕ) (at : ℕ) → IsPut out out at at []
-nothing_put out at = record { end_is = omega arith; put = refl }
+pub nothing_laid : (out : List ℕ) (at : ℕ) → IsLaid out out at at []
+nothing_laid out at = record { end_is = omega arith; laid = refl }
 
 -- at the start of a slice
-pub put_front : {a b : List ℕ} {j : ℕ} {xs : List ℕ} → IsPut a b 0 j xs → length xs ≤ length a → take j b ≡ xs
-put_front {a = a} {j = j} {xs = xs} p room =
-    ap (take j) (p.put ∙ sets-eq xs a 0 (omega (arith, room))) ∙ take_front j xs _ (omega (arith, p.end_is))
+pub laid_front : {a b : List ℕ} {j : ℕ} {xs : List ℕ} → IsLaid a b 0 j xs → length xs ≤ length a → take j b ≡ xs
+laid_front {a = a} {j = j} {xs = xs} p room =
+    ap (take j) (p.laid ∙ sets-eq xs a 0 (omega (arith, room))) ∙ take_front j xs _ (omega (arith, p.end_is))
 
 -- ---- headers
 
@@ -72,6 +72,6 @@ pub most_srid : (some : Bool) → srid_size some ≤ 4
 most_srid true = omega arith
 most_srid false = omega arith
 
-pub ruleset put_laws = (length-number, nothing_put, part_put, put_length)
+pub ruleset lay_laws = (length-number, nothing_laid, part_laid, laid_length)
 
-pub ruleset copy_laws = (length-header, most_srid, put_length, put_front, part_put)
+pub ruleset copy_laws = (length-header, most_srid, laid_length, laid_front, part_laid)

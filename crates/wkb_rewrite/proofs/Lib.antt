@@ -2,7 +2,7 @@ mod Held
 mod ValueShares
 pub mod Encodings
 mod Spelled
-mod Putting
+mod Laying
 mod Walks
 mod Comparing
 pub mod Measured

@@ -18,7 +18,7 @@ use Rattle.wkb_check.specs.Subjects.{Subject, rings_of, subjects, subjects_of_ri
 use Rattle.wkb_check.specs.Pieces.{own_end, piece_of, ring_piece, piece_at, last_end, pieces_from, pieces_of}
 use Rattle.wkb_check.proofs.Ahead.{type_kind_is}
 use Rattle.wkb_rewrite.proofs.Comparing.{same_spelling, value_good}
-use Rattle.wkb_rewrite.proofs.Putting.{most_srid}
+use Rattle.wkb_rewrite.proofs.Laying.{most_srid}
 
 -- the bytes of the SRIDs of pieces
 abbrev pub srid_sizes : List Piece → ℕ

@@ -20,7 +20,7 @@ use Rattle.wkb_check.proofs.Public.{geometry_opens}
 use Rattle.wkb_rewrite.specs.Shares.{share_in, share_encoding, words_part, count_part, header_part, is_empty_point}
 use Rattle.wkb_rewrite.specs.Rewritings.{StandsAsWritten}
 use Rattle.wkb_rewrite.proofs.Held.{taken_bytes, number_held, own_held, own_end_is, written_own}
-use Rattle.wkb_rewrite.proofs.Putting.{bare_header, header_of_some}
+use Rattle.wkb_rewrite.proofs.Laying.{bare_header, header_of_some}
 
 -- ---- bytes from one index to another
 

@@ -84,7 +84,7 @@ piece_encoding options buf p = share_encoding options.endianness options.form (s
 abbrev pub HasRoomAt : List ℕ → ℕ → List ℕ → Type 0
 HasRoomAt slice at bytes = at + length bytes ≤ length slice
 
--- the bytes were put at the index `at`, and end at `end`
-pub record IsPut (old new : List ℕ) (at end : ℕ) (bytes : List ℕ) : Type 0 where
+-- the bytes were laid at the index `at`, and end at `end`
+pub record IsLaid (old new : List ℕ) (at end : ℕ) (bytes : List ℕ) : Type 0 where
   pub end_is : end ≡ at + length bytes
-  pub put : new ≡ sets old at bytes
+  pub laid : new ≡ sets old at bytes

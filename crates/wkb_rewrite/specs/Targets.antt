@@ -25,6 +25,6 @@ IsFrontSize input order form n = (g : HasGeometry input) → n ≡ length (encod
 abbrev pub FrontFits : List ℕ → WriteOptions → List ℕ → Type 0
 FrontFits input options slice = (g : HasGeometry input) → length (encoding_for options g.value) ≤ length slice
 
--- whatever geometry the input begins with, its encoding under the options was put at the start of the slice
-abbrev pub PutsFront : List ℕ → WriteOptions → List ℕ → List ℕ → Type 0
-PutsFront input options old new = (g : HasGeometry input) → new ≡ sets old 0 (encoding_for options g.value)
+-- whatever geometry the input begins with, its encoding under the options was laid at the start of the slice
+abbrev pub LaysFront : List ℕ → WriteOptions → List ℕ → List ℕ → Type 0
+LaysFront input options old new = (g : HasGeometry input) → new ≡ sets old 0 (encoding_for options g.value)

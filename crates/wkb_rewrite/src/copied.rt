@@ -7,13 +7,13 @@ ghost use Rattle.wkb_geom.specs.declared.code.TheConstants.{POLYGON};
 ghost use Rattle.wkb_check.specs.Pieces.{own_end, IsPieceAt, IsAhead, HasAhead};
 ghost use Rattle.wkb_check.specs.Public.{DescribesFront};
 ghost use Rattle.wkb_check.specs.declared.pieces.TheConstants.{RING};
-ghost use Rattle.wkb_rewrite.specs.Shares.{IsPut, is_empty_point};
+ghost use Rattle.wkb_rewrite.specs.Shares.{IsLaid, is_empty_point};
 ghost use Rattle.wkb_rewrite.specs.Rewritings.{CodeStands, StandsAsWritten, HasPassed};
 ghost use Rattle.wkb_rewrite.specs.Copies.{copied_header, copied_encoding};
 ghost use Rattle.wkb_rewrite.specs.Targets.{IsFrontEncoding};
 
+use crate::lay::lay_type_header;
 use crate::own::is_empty_point;
-use crate::put::put_type_header;
 use wkb_check::{Piece, Pieces, RING, Summary, size_of_srid};
 use wkb_geom::code::{WkbType, of_kind};
 use wkb_geom::header::MEMBER_HEADER_SIZE;
@@ -151,24 +151,24 @@ impl<'a> Copied<'a> {
         }
     }
 
-    /// Puts its header at the start of a slice that is as long as any header, and returns the index after it.
+    /// Lays its header at the start of a slice that is as long as any header, and returns the index after it.
     #[inline(always)]
-    #[tactic(auto, using(crate::proofs::Putting::copy_laws))]
-    pub fn put_header(&self, out: &mut [u8]) -> usize
+    #[tactic(auto, using(crate::proofs::Laying::copy_laws))]
+    pub fn lay_header(&self, out: &mut [u8]) -> usize
         requires { MAX_HEADER_SIZE ≤ length out.old }
         ensures header { take result out.new ≡ copied_header self.now }
         ensures inside { result ≤ length out.new }
     {
-        put_type_header(self.wkb_type, self.options, out, 0)
+        lay_type_header(self.wkb_type, self.options, out, 0)
     }
 
-    /// Puts the encoding at the start of a slice, and returns the index after it.
-    #[tactic(auto, using(crate::proofs::Putting::copy_laws))]
-    pub fn put(&self, out: &mut [u8]) -> usize
+    /// Lays the encoding at the start of a slice, and returns the index after it.
+    #[tactic(auto, using(crate::proofs::Laying::copy_laws))]
+    pub fn lay(&self, out: &mut [u8]) -> usize
         requires { length (copied_encoding self.now) ≤ length out.old }
-        ensures { IsPut out.old out.new 0 result (copied_encoding self.now) }
+        ensures { IsLaid out.old out.new 0 result (copied_encoding self.now) }
     {
-        let start = put_type_header(self.wkb_type, self.options, out, 0);
+        let start = lay_type_header(self.wkb_type, self.options, out, 0);
         let end = start + self.rest.len();
         out[start..end].copy_from_slice(self.rest);
         end

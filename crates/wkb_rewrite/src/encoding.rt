@@ -9,10 +9,10 @@ ghost use Rattle.wkb_geom.specs.Reading.{type_kind};
 ghost use Rattle.wkb_check.specs.Known.{HasGeometry};
 ghost use Rattle.wkb_check.specs.Pieces.{IsPieceAt};
 ghost use Rattle.wkb_check.specs.Public.{DescribesFront};
-ghost use Rattle.wkb_rewrite.specs.Targets.{IsFrontSize, FrontFits, PutsFront};
+ghost use Rattle.wkb_rewrite.specs.Targets.{IsFrontSize, FrontFits, LaysFront};
 
 use crate::copied::Copied;
-use crate::put::{put_piece, put_piece_of};
+use crate::lay::{lay_piece, lay_piece_of};
 use wkb_check::{Piece, Pieces, Summary, size_of_srid};
 use wkb_geom::code::MULTI_POINT;
 use wkb_geom::header::SRID_SIZE;
@@ -59,75 +59,75 @@ pub fn encoded_size(buf: &[u8], found: &Summary, form: Form) -> usize
     size
 }
 
-/// Puts the encoding of a geometry that is known to be at the start of these bytes at the start of a slice, which has
+/// Lays the encoding of a geometry that is known to be at the start of these bytes at the start of a slice, which has
 /// room for it, and returns its size. What comes after it in the slice stays as it was.
 #[tactic(auto, using(wkb_check::proofs::Following::fewer_left))]
-pub fn put_pieces(buf: &[u8], options: WriteOptions, out: &mut [u8]) -> usize
+pub fn lay_pieces(buf: &[u8], options: WriteOptions, out: &mut [u8]) -> usize
     requires here { HasGeometry buf.now }
     requires room { FrontFits buf.now options out.old }
     ensures size { IsFrontSize buf.now options.endianness options.form result }
-    ensures put { PutsFront buf.now options out.old out.new }
+    ensures laid { LaysFront buf.now options out.old out.new }
 {
     let mut at = 0;
     let endianness = options.endianness;
     let mut form = options.form;
     let mut pieces = Pieces::of(buf);
     while let Some(piece) = pieces.next() {
-        at = put_piece(buf, &piece, WriteOptions { endianness, form }, out, at);
+        at = lay_piece(buf, &piece, WriteOptions { endianness, form }, out, at);
         form = form.inner();
     }
     at
 }
 
-/// As `put_pieces`, for the geometry in which the check found this. Where all that follows its header stands as it is
+/// As `lay_pieces`, for the geometry in which the check found this. Where all that follows its header stands as it is
 /// written, it is copied at once.
-pub fn put_encoding(buf: &[u8], found: &Summary, options: WriteOptions, out: &mut [u8]) -> usize
+pub fn lay_encoding(buf: &[u8], found: &Summary, options: WriteOptions, out: &mut [u8]) -> usize
     requires here { DescribesFront buf.now found.now }
     requires room { FrontFits buf.now options out.old }
     ensures size { IsFrontSize buf.now options.endianness options.form result }
-    ensures put { PutsFront buf.now options out.old out.new }
+    ensures laid { LaysFront buf.now options out.old out.new }
 {
     let first = Piece::outermost(buf, found);
     if first.has_coordinates() {
         // It is the only piece.
-        return put_piece(buf, &first, options, out, 0);
+        return lay_piece(buf, &first, options, out, 0);
     }
     match Copied::of(buf, found, options) {
-        Some(copied) => copied.put(out),
-        None => put_pieces(buf, options, out),
+        Some(copied) => copied.lay(out),
+        None => lay_pieces(buf, options, out),
     }
 }
 
-/// Puts the encoding of a polygon that begins with this piece at the start of a slice.
+/// Lays the encoding of a polygon that begins with this piece at the start of a slice.
 ///
-/// Its rings follow one another, and no other piece follows them, so that each is put by short code.
+/// Its rings follow one another, and no other piece follows them, so that each is laid by short code.
 #[tactic(auto, using(wkb_check::proofs::Following::fewer_left))]
 #[inline(always)]
-fn put_rings(buf: &[u8], first: &Piece, options: WriteOptions, out: &mut [u8])
+fn lay_rings(buf: &[u8], first: &Piece, options: WriteOptions, out: &mut [u8])
     requires here { HasGeometry buf.now }
     requires first { IsPieceAt buf.now 0 first.now }
     requires polygon { first.now.kind ≡ POLYGON }
     requires room { FrontFits buf.now options out.old }
-    ensures put { PutsFront buf.now options out.old out.new }
+    ensures laid { LaysFront buf.now options out.old out.new }
 {
     let mut pieces = Pieces::behind(buf, first);
-    let mut at = put_piece(buf, first, options, out, 0);
+    let mut at = lay_piece(buf, first, options, out, 0);
     let inner = WriteOptions {
         endianness: options.endianness,
         form: options.form.inner(),
     };
     while let Some(ring) = pieces.next_if_ring() {
-        at = put_piece(buf, &ring, inner, out, at);
+        at = lay_piece(buf, &ring, inner, out, at);
     }
 }
 
-/// As `put_encoding`, for a polygon.
+/// As `lay_encoding`, for a polygon.
 #[inline(always)]
-pub fn put_polygon(buf: &[u8], found: &Summary, options: WriteOptions, out: &mut [u8])
+pub fn lay_polygon(buf: &[u8], found: &Summary, options: WriteOptions, out: &mut [u8])
     requires here { DescribesFront buf.now found.now }
     requires kind { type_kind found.now.wkb_type ≡ POLYGON }
     requires room { FrontFits buf.now options out.old }
-    ensures put { PutsFront buf.now options out.old out.new }
+    ensures laid { LaysFront buf.now options out.old out.new }
 {
     let first = Piece::polygon(buf, found);
     let form = options.form;
@@ -135,26 +135,26 @@ pub fn put_polygon(buf: &[u8], found: &Summary, options: WriteOptions, out: &mut
     match (first.order, options.endianness) {
         (Endianness::BigEndian, Endianness::LittleEndian) => {
             let endianness = Endianness::LittleEndian;
-            put_rings(buf, &first, WriteOptions { endianness, form }, out);
+            lay_rings(buf, &first, WriteOptions { endianness, form }, out);
         }
         (Endianness::LittleEndian, Endianness::BigEndian) => {
             let endianness = Endianness::BigEndian;
-            put_rings(buf, &first, WriteOptions { endianness, form }, out);
+            lay_rings(buf, &first, WriteOptions { endianness, form }, out);
         }
         _ => {
-            Copied::of_polygon(buf, found, &first, options).put(out);
+            Copied::of_polygon(buf, found, &first, options).lay(out);
         }
     }
 }
 
-/// As `put_encoding`, for a geometry that is one piece: a point or a line string.
+/// As `lay_encoding`, for a geometry that is one piece: a point or a line string.
 #[inline(always)]
-pub fn put_one_piece(buf: &[u8], found: &Summary, options: WriteOptions, out: &mut [u8])
+pub fn lay_one_piece(buf: &[u8], found: &Summary, options: WriteOptions, out: &mut [u8])
     requires here { DescribesFront buf.now found.now }
     requires kind { type_kind found.now.wkb_type < POLYGON }
     requires room { FrontFits buf.now options out.old }
-    ensures put { PutsFront buf.now options out.old out.new }
+    ensures laid { LaysFront buf.now options out.old out.new }
 {
     let first = Piece::outermost(buf, found);
-    put_piece_of(found.wkb_type, buf, &first, options, out, 0);
+    lay_piece_of(found.wkb_type, buf, &first, options, out, 0);
 }

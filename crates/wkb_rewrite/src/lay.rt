@@ -1,4 +1,4 @@
-//! Pieces and their numbers, put into a slice.
+//! Pieces and their numbers, laid into a slice.
 
 ghost use Rattle.std.specs.Prelude.{◌≡◌, ◌≤◌, ◌+◌, ◌*◌, ℕ, length};
 ghost use Rattle.wkb_geom.specs.declared.words.TheConstants.{COUNT_SIZE, WORD_SIZE};
@@ -7,7 +7,7 @@ ghost use Rattle.wkb_geom.specs.Numbers.{number_bytes};
 ghost use Rattle.wkb_check.specs.Pieces.{own_end};
 ghost use Rattle.wkb_sink.specs.Options.{header_of};
 ghost use Rattle.wkb_sink.specs.Runs.{Turns, empty_encoding, other};
-ghost use Rattle.wkb_rewrite.specs.Shares.{HasRoomAt, IsPut, count_part};
+ghost use Rattle.wkb_rewrite.specs.Shares.{HasRoomAt, IsLaid, count_part};
 ghost use Rattle.wkb_rewrite.specs.Shares.{piece_header, words_part, piece_encoding};
 
 use crate::own::{is_empty_point, own_bytes};
@@ -18,37 +18,37 @@ use wkb_geom::{Dimension, Endianness};
 use wkb_sink::block::{code_and_srid, lay_empty};
 use wkb_sink::{WriteOptions, store_words, u32_bytes};
 
-/// Puts a number of four bytes, and returns the index after it.
+/// Lays a number of four bytes, and returns the index after it.
 #[inline(always)]
-#[tactic(auto, using(crate::proofs::Putting::put_laws))]
-fn put_number(n: u32, order: Endianness, out: &mut [u8], at: usize) -> usize
+#[tactic(auto, using(crate::proofs::Laying::lay_laws))]
+fn lay_number(n: u32, order: Endianness, out: &mut [u8], at: usize) -> usize
     requires { HasRoomAt out.old at (number_bytes order COUNT_SIZE n) }
-    ensures { IsPut out.old out.new at result (number_bytes order COUNT_SIZE n) }
+    ensures { IsLaid out.old out.new at result (number_bytes order COUNT_SIZE n) }
 {
     let end = at + COUNT_SIZE;
     out[at..end].copy_from_slice(&u32_bytes(order, n));
     end
 }
 
-/// Puts an SRID where there is one, and returns the index after it.
+/// Lays an SRID where there is one, and returns the index after it.
 #[inline(always)]
-#[tactic(auto, using(crate::proofs::Putting::put_laws), unfolding(wkb_geom::specs::Encodings::srid_encoding))]
-fn put_srid(srid: Option<u32>, order: Endianness, out: &mut [u8], at: usize) -> usize
+#[tactic(auto, using(crate::proofs::Laying::lay_laws), unfolding(wkb_geom::specs::Encodings::srid_encoding))]
+fn lay_srid(srid: Option<u32>, order: Endianness, out: &mut [u8], at: usize) -> usize
     requires { HasRoomAt out.old at (srid_encoding order srid) }
-    ensures { IsPut out.old out.new at result (srid_encoding order srid) }
+    ensures { IsLaid out.old out.new at result (srid_encoding order srid) }
 {
     match srid {
-        Some(srid) => put_number(srid, order, out, at),
+        Some(srid) => lay_number(srid, order, out, at),
         None => at,
     }
 }
 
-/// Puts the header of a geometry of this type, and returns the index after it.
+/// Lays the header of a geometry of this type, and returns the index after it.
 #[inline(always)]
-#[tactic(auto, using(crate::proofs::Putting::put_laws), unfolding(wkb_geom::specs::Encodings::header_encoding))]
-pub fn put_type_header(wkb_type: WkbType, options: WriteOptions, out: &mut [u8], at: usize) -> usize
+#[tactic(auto, using(crate::proofs::Laying::lay_laws), unfolding(wkb_geom::specs::Encodings::header_encoding))]
+pub fn lay_type_header(wkb_type: WkbType, options: WriteOptions, out: &mut [u8], at: usize) -> usize
     requires { HasRoomAt out.old at (header_of options wkb_type) }
-    ensures { IsPut out.old out.new at result (header_of options wkb_type) }
+    ensures { IsLaid out.old out.new at result (header_of options wkb_type) }
 {
     let WriteOptions {
         endianness: order,
@@ -56,33 +56,33 @@ pub fn put_type_header(wkb_type: WkbType, options: WriteOptions, out: &mut [u8],
     } = options;
     let (code, srid) = code_and_srid(form, wkb_type);
     out[at] = order.byte();
-    let end = put_number(code, order, out, at + 1);
-    put_srid(srid, order, out, end)
+    let end = lay_number(code, order, out, at + 1);
+    lay_srid(srid, order, out, end)
 }
 
-/// Puts the header of a piece (a ring has none), and returns the index after it.
+/// Lays the header of a piece (a ring has none), and returns the index after it.
 #[inline(always)]
-fn put_piece_header(piece: &Piece, options: WriteOptions, out: &mut [u8], at: usize) -> usize
+fn lay_piece_header(piece: &Piece, options: WriteOptions, out: &mut [u8], at: usize) -> usize
     requires { HasRoomAt out.old at (piece_header options piece.now) }
-    ensures { IsPut out.old out.new at result (piece_header options piece.now) }
+    ensures { IsLaid out.old out.new at result (piece_header options piece.now) }
 {
     if piece.kind == RING {
         return at;
     }
-    put_type_header(of_kind(piece.kind, piece.dimension), options, out, at)
+    lay_type_header(of_kind(piece.kind, piece.dimension), options, out, at)
 }
 
-/// Puts the count of a piece, and of a point nothing, and returns the index after it.
+/// Lays the count of a piece, and of a point nothing, and returns the index after it.
 #[inline(always)]
-#[tactic(auto, using(crate::proofs::Putting::put_laws))]
-fn put_count_part(piece: &Piece, order: Endianness, out: &mut [u8], at: usize) -> usize
+#[tactic(auto, using(crate::proofs::Laying::lay_laws))]
+fn lay_count_part(piece: &Piece, order: Endianness, out: &mut [u8], at: usize) -> usize
     requires { HasRoomAt out.old at (count_part order piece.now.kind piece.now.count) }
-    ensures { IsPut out.old out.new at result (count_part order piece.now.kind piece.now.count) }
+    ensures { IsLaid out.old out.new at result (count_part order piece.now.kind piece.now.count) }
 {
     if piece.kind == POINT {
         return at;
     }
-    put_number(piece.count, order, out, at)
+    lay_number(piece.count, order, out, at)
 }
 
 /// Stores the empty word in each place.
@@ -130,22 +130,22 @@ fn store_written(buf: &[u8], piece: &Piece, order: Endianness, out: &mut [u8])
     }
 }
 
-/// Puts the words of a piece, and returns the index after them.
+/// Lays the words of a piece, and returns the index after them.
 #[inline(always)]
-#[tactic(auto, using(crate::proofs::Putting::put_laws, crate::proofs::Held::as_long))]
-fn put_words(buf: &[u8], piece: &Piece, order: Endianness, out: &mut [u8], at: usize) -> usize
+#[tactic(auto, using(crate::proofs::Laying::lay_laws, crate::proofs::Held::as_long))]
+fn lay_words(buf: &[u8], piece: &Piece, order: Endianness, out: &mut [u8], at: usize) -> usize
     requires inside { own_end piece.now ≤ length buf.now }
     requires room { HasRoomAt out.old at (words_part order buf.now piece.now) }
-    ensures { IsPut out.old out.new at result (words_part order buf.now piece.now) }
+    ensures { IsLaid out.old out.new at result (words_part order buf.now piece.now) }
 {
     let end = at + own_bytes(buf, piece).len();
     store_written(buf, piece, order, &mut out[at..end]);
     end
 }
 
-/// `put_words` compiled once per dimension: more code, and fewer instructions for a point.
+/// `lay_words` compiled once per dimension: more code, and fewer instructions for a point.
 #[inline(always)]
-fn put_words_by_dimension(
+fn lay_words_by_dimension(
     buf: &[u8],
     piece: &Piece,
     order: Endianness,
@@ -154,19 +154,19 @@ fn put_words_by_dimension(
 ) -> usize
     requires inside { own_end piece.now ≤ length buf.now }
     requires room { HasRoomAt out.old at (words_part order buf.now piece.now) }
-    ensures { IsPut out.old out.new at result (words_part order buf.now piece.now) }
+    ensures { IsLaid out.old out.new at result (words_part order buf.now piece.now) }
 {
     // In each arm the dimension is a constant, for which the call is compiled.
     match piece.dimension {
-        Dimension::Xy => put_words(buf, piece, order, out, at),
-        Dimension::Xyz | Dimension::Xym => put_words(buf, piece, order, out, at),
-        Dimension::Xyzm => put_words(buf, piece, order, out, at),
+        Dimension::Xy => lay_words(buf, piece, order, out, at),
+        Dimension::Xyz | Dimension::Xym => lay_words(buf, piece, order, out, at),
+        Dimension::Xyzm => lay_words(buf, piece, order, out, at),
     }
 }
 
-/// Puts the encoding of a piece up to its rings or members, and returns the index after it.
+/// Lays the encoding of a piece up to its rings or members, and returns the index after it.
 #[inline(always)]
-pub fn put_piece(
+pub fn lay_piece(
     buf: &[u8],
     piece: &Piece,
     options: WriteOptions,
@@ -175,17 +175,17 @@ pub fn put_piece(
 ) -> usize
     requires inside { own_end piece.now ≤ length buf.now }
     requires room { HasRoomAt out.old start (piece_encoding options buf.now piece.now) }
-    ensures { IsPut out.old out.new start result (piece_encoding options buf.now piece.now) }
+    ensures { IsLaid out.old out.new start result (piece_encoding options buf.now piece.now) }
 {
     let order = options.endianness;
-    let count_at = put_piece_header(piece, options, out, start);
-    let words_at = put_count_part(piece, order, out, count_at);
-    put_words(buf, piece, order, out, words_at)
+    let count_at = lay_piece_header(piece, options, out, start);
+    let words_at = lay_count_part(piece, order, out, count_at);
+    lay_words(buf, piece, order, out, words_at)
 }
 
-/// As `put_piece`, by `put_words_by_dimension`.
+/// As `lay_piece`, by `lay_words_by_dimension`.
 #[inline(always)]
-fn put_piece_by_dimension(
+fn lay_piece_by_dimension(
     buf: &[u8],
     piece: &Piece,
     options: WriteOptions,
@@ -194,17 +194,17 @@ fn put_piece_by_dimension(
 ) -> usize
     requires inside { own_end piece.now ≤ length buf.now }
     requires room { HasRoomAt out.old start (piece_encoding options buf.now piece.now) }
-    ensures { IsPut out.old out.new start result (piece_encoding options buf.now piece.now) }
+    ensures { IsLaid out.old out.new start result (piece_encoding options buf.now piece.now) }
 {
     let order = options.endianness;
-    let count_at = put_piece_header(piece, options, out, start);
-    let words_at = put_count_part(piece, order, out, count_at);
-    put_words_by_dimension(buf, piece, order, out, words_at)
+    let count_at = lay_piece_header(piece, options, out, start);
+    let words_at = lay_count_part(piece, order, out, count_at);
+    lay_words_by_dimension(buf, piece, order, out, words_at)
 }
 
-/// As `put_piece`, for the first piece of a geometry of this type. Points have code of their own.
+/// As `lay_piece`, for the first piece of a geometry of this type. Points have code of their own.
 #[inline(always)]
-pub fn put_piece_of(
+pub fn lay_piece_of(
     wkb_type: WkbType,
     buf: &[u8],
     piece: &Piece,
@@ -214,10 +214,10 @@ pub fn put_piece_of(
 ) -> usize
     requires inside { own_end piece.now ≤ length buf.now }
     requires room { HasRoomAt out.old start (piece_encoding options buf.now piece.now) }
-    ensures { IsPut out.old out.new start result (piece_encoding options buf.now piece.now) }
+    ensures { IsLaid out.old out.new start result (piece_encoding options buf.now piece.now) }
 {
     match wkb_type {
-        WkbType::Point(_) => put_piece_by_dimension(buf, piece, options, out, start),
-        _ => put_piece(buf, piece, options, out, start),
+        WkbType::Point(_) => lay_piece_by_dimension(buf, piece, options, out, start),
+        _ => lay_piece(buf, piece, options, out, start),
     }
 }

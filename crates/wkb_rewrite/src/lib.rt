@@ -5,11 +5,11 @@
 mod comparison;
 mod copied;
 mod encoding;
+mod lay;
 mod own;
-mod put;
 
 pub use comparison::have_one_value;
 pub use copied::Copied;
 pub use encoding::{
-    encoded_size, put_encoding, put_one_piece, put_pieces, put_polygon, size_with_own_srid,
+    encoded_size, lay_encoding, lay_one_piece, lay_pieces, lay_polygon, size_with_own_srid,
 };

@@ -14,12 +14,12 @@ inner_options options = record { endianness = options.endianness; form = inner o
 
 -- the header of a geometry of this kind and dimension
 abbrev pub header_of : WriteOptions → WkbType → List ℕ
-header_of options kind =
-    header_encoding options.endianness options.form (type_kind kind) (type_dimension kind)
+header_of options wkb_type =
+    header_encoding options.endianness options.form (type_kind wkb_type) (type_dimension wkb_type)
 
 -- such a header, and then a count
 abbrev pub counted_header : WriteOptions → WkbType → ℕ → List ℕ
-counted_header options kind n = header_of options kind ++ number_bytes options.endianness 4 n
+counted_header options wkb_type n = header_of options wkb_type ++ number_bytes options.endianness 4 n
 
 -- the length of a header under a form
 abbrev pub header_size : Form → ℕ

@@ -38,13 +38,13 @@ pub fn dimension_to_write(dim: Dimensions) -> Dimension
 /// branch.
 #[inline]
 #[tactic(auto, unfolding(wkb_geom::specs::Encodings::code_of))]
-pub fn code_and_srid(form: Form, kind: WkbType) -> (u32, Option<u32>)
-    ensures code { result.0 ≡ code_of form (type_kind kind) (type_dimension kind) }
+pub fn code_and_srid(form: Form, wkb_type: WkbType) -> (u32, Option<u32>)
+    ensures code { result.0 ≡ code_of form (type_kind wkb_type) (type_dimension wkb_type) }
     ensures srid { result.1 ≡ form_srid form }
 {
     match form {
-        Form::Iso => (u32::from(kind), None),
-        Form::Ewkb { srid } => (kind.ewkb_code(srid.is_some()), srid),
+        Form::Iso => (u32::from(wkb_type), None),
+        Form::Ewkb { srid } => (wkb_type.ewkb_code(srid.is_some()), srid),
     }
 }
 
@@ -145,17 +145,17 @@ pub fn lay_count(bytes: &mut [u8], at: usize, order: Endianness, n: u32) -> usiz
 
 /// Lays the order's byte, the code, and the SRID where there is one.
 #[inline(always)]
-pub fn lay_header(bytes: &mut [u8], at: usize, options: &WriteOptions, kind: WkbType) -> usize
+pub fn lay_header(bytes: &mut [u8], at: usize, options: &WriteOptions, wkb_type: WkbType) -> usize
     requires { at + header_size options.now.form ≤ length bytes.old }
     ensures end { result ≡ at + header_size options.now.form }
-    ensures bytes { LaysAt at result bytes.old bytes.new (header_of options.now kind) }
+    ensures bytes { LaysAt at result bytes.old bytes.new (header_of options.now wkb_type) }
 {
     let WriteOptions {
         endianness: order,
         form,
     } = *options;
     let at = lay(bytes, at, &[u8::from(order)]);
-    let (code, srid) = code_and_srid(form, kind);
+    let (code, srid) = code_and_srid(form, wkb_type);
     let at = lay_count(bytes, at, order, code);
     match srid {
         Some(srid) => lay_count(bytes, at, order, srid),

@@ -164,12 +164,17 @@ impl<'a, S: Sink> Buffered<'a, S> {
     /// Puts a header of this code, and a count.
     #[inline]
     #[tactic(auto, using(crate::proofs::Steps::step_laws, crate::proofs::Behind::behind))]
-    pub fn put_head(&mut self, options: &WriteOptions, kind: WkbType, n: u32) -> Result<(), Stopped>
+    pub fn put_head(
+        &mut self,
+        options: &WriteOptions,
+        wkb_type: WkbType,
+        n: u32,
+    ) -> Result<(), Stopped>
         requires working { S.has_failed self.old.sink.now ≡ false }
-        ensures { Lays S.Sink self.old self.new (counted_header options.now kind n) result }
+        ensures { Lays S.Sink self.old self.new (counted_header options.now wkb_type n) result }
     {
         self.make_room(length_of_header(options.form) + COUNT_SIZE)?;
-        let end = lay_header(self.bytes, self.len, options, kind);
+        let end = lay_header(self.bytes, self.len, options, wkb_type);
         self.len = lay_count(self.bytes, end, options.endianness, n);
         Ok(())
     }

@@ -51,10 +51,10 @@ counted order encode xs = number_bytes order 4 (length xs) ++ flat_map encode xs
 
 -- a geometry's encoding is a header of this type, and its items after their count
 abbrev pub ListsItems : Geometry → WkbType → ItemList → Type 0
-ListsItems g kind items =
+ListsItems g wkb_type items =
     (options : WriteOptions)
     → encoding_of options g
-    ≡ header_of options kind ++ counted options.endianness (items.encode (inner_options options)) items.list
+    ≡ header_of options wkb_type ++ counted options.endianness (items.encode (inner_options options)) items.list
 
 -- what is said of the item at an index
 abbrev pub OfItem : (items : ItemList) → ℕ → (items.Item → Type 0) → Type 0

@@ -22,7 +22,7 @@ pub trait Items<G: Dimensioned> {
     const ITEM_HEADER: u8;
 
     /// The kind and the dimension that the header has.
-    fn kind(geom: &G) -> WkbType
+    fn wkb_type(geom: &G) -> WkbType
         ensures { ListsItems (geometry geom.now) result (items geom.now) };
 
     /// The number of items after the count.
@@ -81,7 +81,7 @@ impl<G: Dimensioned, I: Items<G>> Writable<G> for Counted<I> {
     fn put<S: Sink>(out: &mut Buffered<'_, S>, geom: &G, options: &WriteOptions) -> Put {
         let count = I::count(geom) as u32;
         let inner = options.inner();
-        out.put_head(options, I::kind(geom), count)?;
+        out.put_head(options, I::wkb_type(geom), count)?;
         for i in 0..count as usize {
             I::put_item(out, geom, i, &inner)?;
         }

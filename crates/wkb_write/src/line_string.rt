@@ -82,8 +82,8 @@ impl<L: LineStringTrait> Writable<L> for LineStringKind {
     }
 
     fn put<S: Sink>(out: &mut Buffered<'_, S>, geom: &L, options: &WriteOptions) -> Put {
-        let kind = WkbType::LineString(dimension_to_write(geom.dim()));
-        out.put_head(options, kind, geom.num_coords() as u32)?;
+        let wkb_type = WkbType::LineString(dimension_to_write(geom.dim()));
+        out.put_head(options, wkb_type, geom.num_coords() as u32)?;
         put_coordinates(out, geom, options.endianness)
     }
 }

@@ -27,7 +27,7 @@ impl<M: MultiLineStringTrait> Items<M> for MultiLineStringKind {
 
     ghost lawful = { λ m. M.lawful m };
 
-    fn kind(geom: &M) -> WkbType {
+    fn wkb_type(geom: &M) -> WkbType {
         WkbType::MultiLineString(dimension_to_write(geom.dim()))
     }
 

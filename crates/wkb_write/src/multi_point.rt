@@ -28,7 +28,7 @@ impl<M: MultiPointTrait> Items<M> for MultiPointKind {
 
     ghost lawful = { λ m. M.lawful m };
 
-    fn kind(geom: &M) -> WkbType {
+    fn wkb_type(geom: &M) -> WkbType {
         WkbType::MultiPoint(dimension_to_write(geom.dim()))
     }
 

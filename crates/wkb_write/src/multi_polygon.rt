@@ -27,7 +27,7 @@ impl<M: MultiPolygonTrait> Items<M> for MultiPolygonKind {
 
     ghost lawful = { λ m. M.lawful m };
 
-    fn kind(geom: &M) -> WkbType {
+    fn wkb_type(geom: &M) -> WkbType {
         WkbType::MultiPolygon(dimension_to_write(geom.dim()))
     }
 

@@ -151,8 +151,8 @@ pub fn put_members<S: Sink, G: Dimensioned, K: Nested<G>>(
     let count = members.len();
     let order = options.endianness;
     let has_flags = has_flags(options.form);
-    let kind = WkbType::GeometryCollection(dimension_to_write(dim));
-    out.put_head(options, kind, count as u32)?;
+    let wkb_type = WkbType::GeometryCollection(dimension_to_write(dim));
+    out.put_head(options, wkb_type, count as u32)?;
     if count == 0 {
         return Ok(());
     }

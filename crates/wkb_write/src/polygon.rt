@@ -50,7 +50,7 @@ impl<P: PolygonTrait> Items<P> for PolygonKind {
 
     ghost lawful = { λ p. P.lawful p };
 
-    fn kind(geom: &P) -> WkbType {
+    fn wkb_type(geom: &P) -> WkbType {
         WkbType::Polygon(dimension_to_write(geom.dim()))
     }
 

@@ -53,7 +53,7 @@ impl<M: MadePolygons> Items<M> for MadePolygonsKind {
 
     ghost lawful = { λ m. M.lawful m };
 
-    fn kind(geom: &M) -> WkbType {
+    fn wkb_type(geom: &M) -> WkbType {
         WkbType::MultiPolygon(dimension_to_write(geom.dim()))
     }
 

@@ -12,8 +12,8 @@ returns-in-Some-clause-ok c =
 pub returns-clause-ok : goal.returns-clause-ok
 returns-clause-ok c =
     let found = here c.requires in
-    let put = c.put_pieces.ensures.put found in
+    let laid = c.lay_pieces.ensures.laid found in
     made c.requires
-    (filled _ c.as_mut_slice.result.now c.put_pieces.new.out c.in_ok-encoding.encoding.items
+    (filled _ c.as_mut_slice.result.now c.lay_pieces.new.out c.in_ok-encoding.encoding.items
     c.in_ok-encoding.encoding.len c.encoded_size.result c.as_mut_slice.ensures.len c.in_ok-encoding.ensures.len
-    (c.encoded_size.ensures.size c.args.options.endianness found) put)
+    (c.encoded_size.ensures.size c.args.options.endianness found) laid)

@@ -5,8 +5,8 @@ use Rattle.wkb.proofs.canon.rewritten_piece.Goals as goal
 pub returns-clause-ok : goal.returns-clause-ok
 returns-clause-ok c =
     let found = here c.requires.here in
-    let put = c.put_one_piece.ensures.put found in
+    let laid = c.lay_one_piece.ensures.laid found in
     made c.requires.here
-    (filled _ c.as_mut_slice.result.now c.put_one_piece.new.out c.in_ok-encoding.encoding.items
+    (filled _ c.as_mut_slice.result.now c.lay_one_piece.new.out c.in_ok-encoding.encoding.items
     c.in_ok-encoding.encoding.len c.size_with_own_srid.result c.as_mut_slice.ensures.len c.in_ok-encoding.ensures.len
-    (c.size_with_own_srid.ensures.size c.args.options.endianness found) put)
+    (c.size_with_own_srid.ensures.size c.args.options.endianness found) laid)

@@ -2,10 +2,10 @@ use Rattle.wkb_abi.proofs.Common.{arith, sym, ◌∙◌}
 use Rattle.wkb_abi.specs.LevelLists.{levels_of}
 use Rattle.wkb_check.proofs.Placing.{only_piece}
 use Rattle.wkb_abi.proofs.Levels.{levels_first, levels_alone, piece_fits}
-use Rattle.wkb_abi.proofs.level_slices.put_levels.Goals as goal
+use Rattle.wkb_abi.proofs.level_slices.lay_levels.Goals as goal
 
-pub put_piece_levels-requires : goal.put_piece_levels-requires
-put_piece_levels-requires c =
+pub lay_piece_levels-requires : goal.lay_piece_levels-requires
+lay_piece_levels-requires c =
     let a = c.args in
     let g = c.requires.here in
     piece_fits
@@ -22,4 +22,4 @@ returns-then-has_coordinates-clause-levels c = λ g.
     (c.requires.room g))
     (only_piece a.row.now 0 g a.first.now (c.requires.first g)
     (sym c.has_coordinates.ensures ∙ c.if-has_coordinates.true))
-    c.put_piece_levels.ensures.put
+    c.lay_piece_levels.ensures.laid

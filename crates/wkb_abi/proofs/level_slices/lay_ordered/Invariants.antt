@@ -2,7 +2,7 @@ use Rattle.std.specs.Prelude.{◌-◌}
 use lib.Seq.{sets}
 use Rattle.wkb_abi.specs.PieceLevels.{words_from}
 use Rattle.wkb_abi.proofs.Levels.{WordsLeft}
-use Rattle.wkb_abi.proofs.level_slices.put_ordered.Given as goal
+use Rattle.wkb_abi.proofs.level_slices.lay_ordered.Given as goal
 
 abbrev pub invariant-loop : goal.invariant-loop
 invariant-loop l =

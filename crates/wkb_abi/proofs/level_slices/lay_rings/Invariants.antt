@@ -1,7 +1,7 @@
 use Rattle.std.specs.Prelude.{◌≡◌}
 use Rattle.wkb_check.specs.Pieces.{bytes_left}
 use Rattle.wkb_abi.proofs.Levels.{Walks}
-use Rattle.wkb_abi.proofs.level_slices.put_rings.Given as goal
+use Rattle.wkb_abi.proofs.level_slices.lay_rings.Given as goal
 
 abbrev pub invariant-loop-ring : goal.invariant-loop-ring
 invariant-loop-ring l = record {

@@ -1,6 +1,6 @@
 use Rattle.std.specs.Prelude.{◌-◌, length}
 use Rattle.wkb_abi.proofs.Levels.{Walks}
-use Rattle.wkb_abi.proofs.level_slices.put_walked.Given as goal
+use Rattle.wkb_abi.proofs.level_slices.lay_walked.Given as goal
 
 abbrev pub invariant-loop-piece : goal.invariant-loop-piece
 invariant-loop-piece l = Walks l.asked l.row l.fn.from l.fn.out l.pieces l.at l.out

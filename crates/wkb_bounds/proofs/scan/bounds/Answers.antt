@@ -1,7 +1,7 @@
 use Rattle.wkb_bounds.proofs.scan.bounds.Goals as goal
 
-pub returns-then-put_plain_bounds : goal.returns-then-put_plain_bounds
-returns-then-put_plain_bounds c =
-    let found = c.put_plain_bounds.ensures in
-    let here = c.if-put_plain_bounds.true in
+pub returns-then-plain_bounds_into : goal.returns-then-plain_bounds_into
+returns-then-plain_bounds_into c =
+    let found = c.plain_bounds_into.ensures in
+    let here = c.if-plain_bounds_into.true in
     record { front = found.front here; one_front = found.one_front here; refused = tt }

@@ -7,7 +7,7 @@ use Rattle.wkb_check.proofs.Following.{all_given}
 use Rattle.wkb_bounds.proofs.Words.{widened_push, all_widened, none_counted, leaf_words, leaf_end, no_words}
 use Rattle.wkb_check.proofs.Leaves.{wide}
 use Rattle.wkb_bounds.proofs.Widening.{counts_more}
-use Rattle.wkb_bounds.proofs.scan.put_bounds_of_front.Goals as goal
+use Rattle.wkb_bounds.proofs.scan.front_bounds_into.Goals as goal
 
 pub loop-piece-init-derived : goal.loop-piece-init-derived
 loop-piece-init-derived c = (

@@ -3,7 +3,7 @@ use Rattle.wkb_bounds.specs.Bounded.{on, nothing, bounds_by}
 use Rattle.wkb_bounds.specs.Ordinates.{Axis, words_of_each}
 use Rattle.wkb_bounds.specs.Ranges.{widened}
 use Rattle.wkb_bounds.proofs.Words.{piece_words}
-use Rattle.wkb_bounds.proofs.scan.put_bounds_of_front.Given as goal
+use Rattle.wkb_bounds.proofs.scan.front_bounds_into.Given as goal
 
 abbrev pub invariant-loop-piece : goal.invariant-loop-piece
 invariant-loop-piece l = record {

@@ -5,8 +5,8 @@ use Rattle.wkb_bounds.specs.Ordinates.{words_in, words_on}
 use Rattle.wkb_bounds.specs.Ranges.{no_numbers, widened, range_of}
 use Rattle.wkb_check.proofs.Placing.{geometry_inside}
 use Rattle.wkb_bounds.proofs.Words.{one_words, on_nothing, leaf_end}
-use Rattle.wkb_bounds.proofs.scan.put_bounds_of_piece.Goals as goal
-use Rattle.wkb_bounds.proofs.scan.put_bounds_of_piece.Goals.{After-rest_from-bytes}
+use Rattle.wkb_bounds.proofs.scan.piece_bounds_into.Goals as goal
+use Rattle.wkb_bounds.proofs.scan.piece_bounds_into.Goals.{After-rest_from-bytes}
 
 pub rest_from-bytes-requires : goal.rest_from-bytes-requires
 rest_from-bytes-requires c =
@@ -48,23 +48,23 @@ returns-then-only-eq1 c = λ g a.
     ≡ range_of (words_on a g.value)) c.if-only-eq1.true
     (one_words a buf g p (c.requires.only g) c.requires.low))
 
-pub put_bounds_of_xy-requires : goal.put_bounds_of_xy-requires
-put_bounds_of_xy-requires c =
+pub xy_bounds_into-requires : goal.xy_bounds_into-requires
+xy_bounds_into-requires c =
     let p = c.args.only.now in
     omega (
       arith,
-      whole (goal.at.put_bounds_of_xy-requires c).After-rest_from-bytes,
+      whole (goal.at.xy_bounds_into-requires c).After-rest_from-bytes,
       ap (λ d. 8 * width d * p.count) c.in-Xy.is,
     )
 
-pub put_bounds_of_any-requires : goal.put_bounds_of_any-requires
-put_bounds_of_any-requires c = whole (goal.at.put_bounds_of_any-requires c).After-rest_from-bytes
+pub coordinates_bounds_into-requires : goal.coordinates_bounds_into-requires
+coordinates_bounds_into-requires c = whole (goal.at.coordinates_bounds_into-requires c).After-rest_from-bytes
 
 pub returns-in-Xy : goal.returns-in-Xy
 returns-in-Xy c = λ g a.
     let p = c.args.only.now in
     let buf = c.args.buf.now in
-    rw (c.put_bounds_of_xy.ensures a, on_nothing a, c.rest_from-bytes.ensures)
+    rw (c.xy_bounds_into.ensures a, on_nothing a, c.rest_from-bytes.ensures)
     (subst
     (λ d. widened no_numbers (words_in a d (coordinates p.order d p.count (drop p.offset buf)))
     ≡ range_of (words_on a g.value)) c.in-Xy.is
@@ -72,5 +72,5 @@ returns-in-Xy c = λ g a.
 
 pub returns-in_default : goal.returns-in_default
 returns-in_default c = λ g a.
-    rw (c.put_bounds_of_any.ensures a, on_nothing a, c.rest_from-bytes.ensures)
+    rw (c.coordinates_bounds_into.ensures a, on_nothing a, c.rest_from-bytes.ensures)
     (one_words a c.args.buf.now g c.args.only.now (c.requires.only g) c.requires.low)

@@ -6,7 +6,7 @@ use Rattle.wkb_check.proofs.Ahead.{piece_by}
 use Rattle.wkb_check.proofs.Following.{ring_of, rings_after}
 use Rattle.wkb_bounds.proofs.Words.{first_of_numbers, ring_of_numbers, all_of_numbers, ring_words, leaf_end}
 use Rattle.wkb_bounds.proofs.Words.{none_counted}
-use Rattle.wkb_bounds.proofs.scan.put_bounds_of_rings_in.Goals as goal
+use Rattle.wkb_bounds.proofs.scan.rings_bounds_of_order_into.Goals as goal
 
 pub loop-ring-init : goal.loop-ring-init
 loop-ring-init c =

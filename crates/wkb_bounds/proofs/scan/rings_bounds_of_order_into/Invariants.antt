@@ -5,7 +5,7 @@ use Rattle.wkb_bounds.specs.Bounded.{on, bounds_by}
 use Rattle.wkb_bounds.specs.Ordinates.{Axis}
 use Rattle.wkb_check.specs.Pieces.{AreRings, bytes_left}
 use Rattle.wkb_bounds.proofs.Words.{NumbersSoFar}
-use Rattle.wkb_bounds.proofs.scan.put_bounds_of_rings_in.Given as goal
+use Rattle.wkb_bounds.proofs.scan.rings_bounds_of_order_into.Given as goal
 
 abbrev pub decreases-loop-ring : goal.decreases-loop-ring
 decreases-loop-ring l = bytes_left l.pieces

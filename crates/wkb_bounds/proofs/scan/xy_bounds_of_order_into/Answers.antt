@@ -1,6 +1,6 @@
 use Rattle.std.proofs.Common.{arith, refl}
 use Rattle.wkb_bounds.proofs.Words.{none_counted}
-use Rattle.wkb_bounds.proofs.scan.put_bounds_of_xy_in.Goals as goal
+use Rattle.wkb_bounds.proofs.scan.xy_bounds_of_order_into.Goals as goal
 
 pub widen_xy_by_numbers-requires-clause-room : goal.widen_xy_by_numbers-requires-clause-room
 widen_xy_by_numbers-requires-clause-room c = λ a. rw c.empty-ranks.ensures (omega (arith, none_counted a))

@@ -1,7 +1,7 @@
 use Rattle.wkb_abi.proofs.Common.{arith}
-use Rattle.wkb_c.proofs.Gathering.{requested_put, requested_size}
+use Rattle.wkb_c.proofs.Gathering.{requested_laid, requested_size}
 use Rattle.wkb_abi.proofs.OneRow.{never_refused}
-use Rattle.wkb_c.proofs.collect.put_row_member.Goals as goal
+use Rattle.wkb_c.proofs.collect.lay_row_member.Goals as goal
 
 pub unreachable-requires : goal.unreachable-requires
 unreachable-requires c = never_refused c.requires.here c.in-Err.ensures.refused
@@ -13,4 +13,4 @@ overflow_add-result c =
 
 pub returns : goal.returns
 returns c = λ a.
-    requested_put c.args.out.now c.args.at c.write_requested-status.ensures a (c.requires.room a)
+    requested_laid c.args.out.now c.args.at c.write_requested-status.ensures a (c.requires.room a)

@@ -1,13 +1,13 @@
 use Rattle.wkb_abi.proofs.Common.{arith}
 use Rattle.wkb_c.proofs.Gathering.{turn, never_without, none_left}
-use Rattle.wkb_c.proofs.collect.put_row_members.Goals as goal
+use Rattle.wkb_c.proofs.collect.lay_row_members.Goals as goal
 
 pub unreachable-requires : goal.unreachable-requires
 unreachable-requires c =
     never_without (c.loop-i.invariant.left c.requires.here) c.loop-i-test.true c.in-Err.ensures.none
 
-pub put_row_member-at-requires : goal.put_row_member-at-requires
-put_row_member-at-requires c =
+pub lay_row_member-at-requires : goal.lay_row_member-at-requires
+lay_row_member-at-requires c =
     let t =
     turn (c.loop-i.invariant.left c.requires.here) c.in-Ok.row.now c.inner-options.ensures c.loop-i-test.true
     c.in-Ok.ensures.row in
@@ -20,7 +20,7 @@ loop-i-preserved c = record {
   left = λ m.
       let t =
       turn (c.loop-i.invariant.left m) c.in-Ok.row.now c.inner-options.ensures c.loop-i-test.true c.in-Ok.ensures.row in
-      t.next c.put_row_member-at.result c.put_row_member-at.new.out c.put_row_member-at.ensures;
+      t.next c.lay_row_member-at.result c.lay_row_member-at.new.out c.lay_row_member-at.ensures;
 }
 
 pub returns : goal.returns

@@ -3,7 +3,7 @@ use lib.Seq.{sets}
 use Rattle.wkb_c.specs.Collections.{HaveMembers, part_of, inside_of}
 use Rattle.wkb_abi.specs.Columns.{Reach}
 use Rattle.wkb_c.proofs.Gathering.{MembersLeft}
-use Rattle.wkb_c.proofs.collect.put_row_members.Given as goal
+use Rattle.wkb_c.proofs.collect.lay_row_members.Given as goal
 
 abbrev pub invariant-loop-i : goal.invariant-loop-i
 invariant-loop-i l = record {

@@ -1,7 +1,7 @@
 use Rattle.wkb_abi.proofs.Common.{arith, ap, length, length-append, drop, refl, ◌++◌, ◌∙◌}
 use Rattle.std.proofs.Common.{length-drop}
 use Rattle.wkb_c.specs.Collections.{front_of, inside_of}
-use Rattle.wkb_c.proofs.Gathering.{one_list, whole_put}
+use Rattle.wkb_c.proofs.Gathering.{one_list, whole_laid}
 use Rattle.wkb_c.proofs.collect.write_collected.Goals as goal
 
 pub returns-then-out-wanted-clause-no_room : goal.returns-then-out-wanted-clause-no_room
@@ -18,8 +18,8 @@ returns-then-out-wanted-clause-no_room c = λ told.
       };
     }
 
-pub put_row_members-requires-clause-room : goal.put_row_members-requires-clause-room
-put_row_members-requires-clause-room c = λ m.
+pub lay_row_members-requires-clause-room : goal.lay_row_members-requires-clause-room
+lay_row_members-requires-clause-room c = λ m.
     omega (
       arith,
       ap (λ z. length (inside_of c.args.target.now z)) (one_list m c.requires.measured.have),
@@ -34,7 +34,7 @@ pub returns-clause-written : goal.returns-clause-written
 returns-clause-written c = λ told.
     let m = c.requires.measured in
     let target = c.args.target.now in
-    let laid = c.lay_front-start.ensures.bytes in
+    let begun = c.lay_front-start.ensures.bytes in
     record {
       items = front_of target c.args.rows ++ inside_of target m.have.values;
       is = record { have = m.have; encoding_is = refl };
@@ -43,13 +43,13 @@ returns-clause-written c = λ told.
             omega (
               arith,
               m.size_is,
-              laid.ends,
+              begun.ends,
               length-append (front_of target c.args.rows) (inside_of target m.have.values),
             );
         whole =
-            whole_put c.args.out.now c.copy_from_slice.new.self c.put_row_members.new.out (front_of target c.args.rows)
+            whole_laid c.args.out.now c.copy_from_slice.new.self c.lay_row_members.new.out (front_of target c.args.rows)
             (inside_of target m.have.values) c.lay_front-start.result
-            (omega (arith, laid.ends)) (omega (arith, m.size_is, c.if-out-wanted.false))
-            (c.copy_from_slice.ensures.after ∙ laid.is) (c.put_row_members.ensures m.have);
+            (omega (arith, begun.ends)) (omega (arith, m.size_is, c.if-out-wanted.false))
+            (c.copy_from_slice.ensures.after ∙ begun.is) (c.lay_row_members.ensures m.have);
       };
     }

@@ -3,11 +3,11 @@ use lib.Seq.{sets}
 use Rattle.std.proofs.Common.{set}
 use Rattle.wkb_check.specs.Subjects.{subjects}
 use Rattle.wkb_check.specs.Tables.{entries_from}
-use Rattle.wkb_c.proofs.Called.{fits_table, table_put, one_geometry, whole_put, parts_found}
+use Rattle.wkb_c.proofs.Called.{fits_table, table_laid, one_geometry, whole_laid, parts_found}
 use Rattle.wkb_c.proofs.parts.list_parts.Goals as goal
 
-pub put_geometries-requires : goal.put_geometries-requires
-put_geometries-requires c = record {
+pub lay_geometries-requires : goal.lay_geometries-requires
+lay_geometries-requires c = record {
   fit =
       fits_table c.args.buf.now c.args.found.now.parts c.args.parts.now (parts_found c.requires.accepted)
       (omega (arith, c.if-parts-found.false));
@@ -15,13 +15,13 @@ put_geometries-requires c = record {
 
 pub returns-then-found-eq1-clause-listed : goal.returns-then-found-eq1-clause-listed
 returns-then-found-eq1-clause-listed c = λ ok.
-    whole_put c.requires.accepted c.outermost.result c.outermost.ensures c.if-found-eq1.true
+    whole_laid c.requires.accepted c.outermost.result c.outermost.ensures c.if-found-eq1.true
     (omega (arith, c.if-parts-found.false)) (ap (set c.args.parts.now 0) c.of-entry.ensures)
 
 pub returns-clause-listed : goal.returns-clause-listed
 returns-clause-listed c = λ ok.
     let d = c.requires.accepted in
-    table_put c.args.buf.now c.args.found.now.parts c.args.parts.now c.put_geometries.new.parts (parts_found d)
+    table_laid c.args.buf.now c.args.found.now.parts c.args.parts.now c.lay_geometries.new.parts (parts_found d)
     (omega (arith, c.if-parts-found.false))
-    ((c.put_geometries.ensures d.rest (one_geometry c.args.buf.now d.spelled d.value d.rest d.front)).put
+    ((c.lay_geometries.ensures d.rest (one_geometry c.args.buf.now d.spelled d.value d.rest d.front)).laid
     ∙ ap (λ xs. sets c.args.parts.now 0 (entries_from 0 0 xs)) (append-nil (subjects d.spelled d.value)))

@@ -11,8 +11,8 @@ returns-then-out-wanted c =
     (lacks_room _ c.requires.here options.ensures (λ i. (c.type_inv.buf i).fits)
     (wanted.ensures.size options.result.endianness (here c.requires.here)) (omega (arith, c.if-out-wanted.true)))
 
-pub put_one_piece-requires-clause-room : goal.put_one_piece-requires-clause-room
-put_one_piece-requires-clause-room c = λ g.
+pub lay_one_piece-requires-clause-room : goal.lay_one_piece-requires-clause-room
+lay_one_piece-requires-clause-room c = λ g.
     omega (
       arith,
       c.size_with_own_srid-wanted.ensures.size c.options_for-options.result.endianness g,
@@ -27,4 +27,4 @@ returns c =
     meant c.in-Some.ensures
     (writes _ c.requires.here options.ensures (λ i. (c.type_inv.buf i).fits)
     (wanted.ensures.size options.result.endianness there) (omega (arith, c.if-out-wanted.false))
-    (c.put_one_piece.ensures.put there))
+    (c.lay_one_piece.ensures.laid there))

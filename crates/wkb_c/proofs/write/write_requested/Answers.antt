@@ -15,7 +15,7 @@ returns-then-out-wanted c =
     (wanted.ensures.size options.result.endianness (here c.requires))
     (omega (arith, c.if-out-wanted.true))
 
--- there is room for the encoding where it is put
+-- there is room for the encoding where it is laid
 fits : (c : Joined-out-buf) → (g : HasGeometry c.args.buf.now)
     → length (encoding c.options_for-options.result.endianness c.options_for-options.result.form (geometry_of g.value))
     ≤ length c.args.out.now
@@ -31,12 +31,12 @@ fits c g =
       )
     ]
 
-pub put_encoding-requires-clause-room : goal.put_encoding-requires-clause-room
-put_encoding-requires-clause-room c = fits (goal.at.put_encoding-requires-clause-room c).Joined-out-buf
+pub lay_encoding-requires-clause-room : goal.lay_encoding-requires-clause-room
+lay_encoding-requires-clause-room c = fits (goal.at.lay_encoding-requires-clause-room c).Joined-out-buf
 
 pub returns : goal.returns
 returns c =
     let there = here c.requires in
-    let size_is = c.put_encoding.ensures.size there in
+    let size_is = c.lay_encoding.ensures.size there in
     writes c.args.request c.requires c.options_for-options.ensures (λ i. (c.type_inv.buf i).fits) size_is
-    (omega (arith, size_is, fits (goal.at.returns c).Joined-out-buf there)) (c.put_encoding.ensures.put there)
+    (omega (arith, size_is, fits (goal.at.returns c).Joined-out-buf there)) (c.lay_encoding.ensures.laid there)

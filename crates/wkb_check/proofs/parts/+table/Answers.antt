@@ -9,7 +9,7 @@ use Rattle.wkb_check.specs.declared.parts.Part.{Part}
 use Rattle.wkb_check.specs.declared.parts.PartPlace.{PartPlace}
 use Rattle.wkb_check.proofs.Filling.{left_first, left_next, here}
 use Rattle.wkb_check.proofs.Placing.{geometry_inside, onward, leaf_inside, rings_inside, members_inside, rings_alone}
-use Rattle.wkb_check.proofs.Placing.{item_put, none_of, inside_many, inner_end}
+use Rattle.wkb_check.proofs.Placing.{item_laid, none_of, inside_many, inner_end}
 use Rattle.wkb_check.proofs.parts.+table.Goals as goal
 use Rattle.wkb_check.proofs.parts.+table.Goals.{then-has_coordinates, else-has_coordinates+then-piece-eq-POLYGON}
 use Rattle.wkb_check.proofs.parts.+table.Goals.{else-has_coordinates+else-piece-eq-POLYGON}
@@ -36,14 +36,14 @@ end-requires t c =
           (c.of_geometry-piece.ensures h.geometry) refl).inside,
     )
 
-pub put_rings-requires-clause-whole : goal.put_rings-requires-clause-whole
-put_rings-requires-clause-whole t c =
+pub lay_rings-requires-clause-whole : goal.lay_rings-requires-clause-whole
+lay_rings-requires-clause-whole t c =
     let h = here (c.loop.invariant _ c.requires.fit.all) (omega (arith, c.loop-test.true)) c.requires.fit.fit in
     (rings_inside c.args.buf.now c.loop.at.byte h.geometry c.of_geometry-piece.result
     (c.of_geometry-piece.ensures h.geometry) c.end.result c.end.ensures c.if-piece-eq-POLYGON.true).whole
 
-pub put_rings-requires-clause-room : goal.put_rings-requires-clause-room
-put_rings-requires-clause-room t c =
+pub lay_rings-requires-clause-room : goal.lay_rings-requires-clause-room
+lay_rings-requires-clause-room t c =
     let h = here (c.loop.invariant _ c.requires.fit.all) (omega (arith, c.loop-test.true)) c.requires.fit.fit in
     omega (
       arith,
@@ -52,8 +52,8 @@ put_rings-requires-clause-room t c =
           (c.of_geometry-piece.ensures h.geometry) c.end.result c.end.ensures c.if-piece-eq-POLYGON.true),
     )
 
-pub put_geometries-requires : goal.put_geometries-requires
-put_geometries-requires t c =
+pub lay_geometries-requires : goal.lay_geometries-requires
+lay_geometries-requires t c =
     let l = c.loop.invariant _ c.requires.fit.all in
     let h = here l (omega (arith, c.loop-test.true)) c.requires.fit.fit in
     let is = c.of_geometry-piece.ensures h.geometry in
@@ -85,32 +85,32 @@ loop-preserved t c = λ more all.
     let at = c.loop.at in
     let p = c.of_geometry-piece.result in
     let is = c.of_geometry-piece.ensures g in
-    let put : List Subject → List Part =
+    let laid : List Subject → List Part =
     λ xs. sets c.loop.parts (at.index + 1) (entries_from (at.index + 1) c.end.result xs) in
     let ends = inner_end buf at.byte g p is c.end.result c.end.ensures in
     elim c.if-has_coordinates.branch [
       | then-has_coordinates w ↦
           let r = rings_alone (leaf_inside buf at.byte g p is c.end.result c.end.ensures
           (sym c.has_coordinates.ensures ∙ w.if-has_coordinates.true) BigEndian Xy) in
-          item_put at.index at.byte _ _ p is c.loop.parts _ c.end.result _ _ c.of.result c.end.ensures
-          (w.parts-is ∙ ap put r.0)
+          item_laid at.index at.byte _ _ p is c.loop.parts _ c.end.result _ _ c.of.result c.end.ensures
+          (w.parts-is ∙ ap laid r.0)
           (omega (arith, ap (λ (p : PartPlace). p.index) w.next-is, r.1))
           (ap (λ (p : PartPlace). p.byte) w.next-is ∙ ap (last_end c.end.result) r.0 ∙ ends) c.of.ensures
       | else-has_coordinates+then-piece-eq-POLYGON w ↦
           let r = rings_alone (rings_inside buf at.byte g p is _ c.end.ensures w.if-piece-eq-POLYGON.true) in
-          let puts = w.put_rings.ensures in
-          item_put at.index at.byte _ _ p is c.loop.parts _ c.end.result _ _ c.of.result c.end.ensures
-          (w.parts-is ∙ puts.put ∙ ap put r.0)
-          (omega (arith, ap (λ (p : PartPlace). p.index) w.next-is, puts.index, r.1))
-          (ap (λ (p : PartPlace). p.byte) w.next-is ∙ puts.byte ∙ ap (last_end c.end.result) r.0 ∙ ends) c.of.ensures
+          let lays = w.lay_rings.ensures in
+          item_laid at.index at.byte _ _ p is c.loop.parts _ c.end.result _ _ c.of.result c.end.ensures
+          (w.parts-is ∙ lays.laid ∙ ap laid r.0)
+          (omega (arith, ap (λ (p : PartPlace). p.index) w.next-is, lays.index, r.1))
+          (ap (λ (p : PartPlace). p.byte) w.next-is ∙ lays.byte ∙ ap (last_end c.end.result) r.0 ∙ ends) c.of.ensures
       | else-has_coordinates+else-piece-eq-POLYGON w ↦
           let i = members_inside buf at.byte g p is _ c.end.ensures
           (sym c.has_coordinates.ensures ∙ w.if-has_coordinates.false) w.if-piece-eq-POLYGON.false BigEndian Xy in
-          let puts = w.put_geometries.ensures g.rest i.all in
-          item_put at.index at.byte _ _ p is c.loop.parts _ c.end.result _ _ c.of.result c.end.ensures
-          (w.parts-is ∙ puts.put ∙ ap put (sym i.are))
-          (omega (arith, ap (λ (p : PartPlace). p.index) w.next-is, puts.index, inside_many i))
-          (ap (λ (p : PartPlace). p.byte) w.next-is ∙ puts.byte ∙ ap (last_end c.end.result) (sym i.are) ∙ ends)
+          let lays = w.lay_geometries.ensures g.rest i.all in
+          item_laid at.index at.byte _ _ p is c.loop.parts _ c.end.result _ _ c.of.result c.end.ensures
+          (w.parts-is ∙ lays.laid ∙ ap laid (sym i.are))
+          (omega (arith, ap (λ (p : PartPlace). p.index) w.next-is, lays.index, inside_many i))
+          (ap (λ (p : PartPlace). p.byte) w.next-is ∙ lays.byte ∙ ap (last_end c.end.result) (sym i.are) ∙ ends)
           c.of.ensures
     ])
 
@@ -120,10 +120,10 @@ returns t c = λ more all.
     let left = l.to_come.spelled in
     let none = none_of l.to_come.values (omega (arith, l.to_come.counted, c.loop-test.false)) in
     record {
-      put =
+      laid =
           ap (λ ts. sets c.loop.parts c.loop.at.index
           (entries_from c.loop.at.index c.loop.at.byte (subjects_of_each left ts)))
-          (sym none) ∙ l.put;
+          (sym none) ∙ l.laid;
       index = omega (arith, l.indices, ap (λ ts. length (subjects_of_each left ts)) none);
       byte = ap (λ ts. last_end c.loop.at.byte (subjects_of_each left ts)) (sym none) ∙ l.bytes;
     }

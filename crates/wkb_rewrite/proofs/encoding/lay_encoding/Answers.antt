@@ -1,19 +1,19 @@
 use Rattle.std.proofs.Common.{arith, ap, sym, length, ◌∙◌}
-use Rattle.wkb_rewrite.proofs.Encoded.{alone_fits, alone_put}
+use Rattle.wkb_rewrite.proofs.Encoded.{alone_fits, alone_laid}
 use Rattle.wkb_rewrite.proofs.Measured.{here}
-use Rattle.wkb_rewrite.proofs.encoding.put_encoding.Goals as goal
+use Rattle.wkb_rewrite.proofs.encoding.lay_encoding.Goals as goal
 
-pub put_piece-requires : goal.put_piece-requires
-put_piece-requires c =
+pub lay_piece-requires : goal.lay_piece-requires
+lay_piece-requires c =
     alone_fits c.requires.here c.outermost-first.ensures (sym c.has_coordinates.ensures ∙ c.if-has_coordinates.true)
     c.args.options _ c.requires.room
 
 pub returns-then-has_coordinates : goal.returns-then-has_coordinates
 returns-then-has_coordinates c =
-    alone_put c.requires.here c.outermost-first.ensures (sym c.has_coordinates.ensures ∙ c.if-has_coordinates.true)
-    c.args.options c.put_piece.ensures
+    alone_laid c.requires.here c.outermost-first.ensures (sym c.has_coordinates.ensures ∙ c.if-has_coordinates.true)
+    c.args.options c.lay_piece.ensures
 
-pub put-requires : goal.put-requires
-put-requires c =
+pub lay-requires : goal.lay-requires
+lay-requires c =
     let g = here c.requires.here in
     omega (arith, ap length (c.in-Some.ensures g), c.requires.room g)

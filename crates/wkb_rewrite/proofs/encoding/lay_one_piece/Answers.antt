@@ -1,21 +1,21 @@
 use Rattle.std.proofs.Common.{◌≡◌, arith, lt-ltb, nat_lt, true}
-use Rattle.wkb_rewrite.proofs.Encoded.{alone_fits, alone_put}
+use Rattle.wkb_rewrite.proofs.Encoded.{alone_fits, alone_laid}
 use Rattle.wkb_rewrite.proofs.Measured.{here, kind_of}
-use Rattle.wkb_rewrite.proofs.encoding.put_one_piece.Goals as goal
-use Rattle.wkb_rewrite.proofs.encoding.put_one_piece.Goals.{After-outermost-first}
+use Rattle.wkb_rewrite.proofs.encoding.lay_one_piece.Goals as goal
+use Rattle.wkb_rewrite.proofs.encoding.lay_one_piece.Goals.{After-outermost-first}
 
 low : (c : After-outermost-first) → nat_lt c.outermost-first.result.kind 3 ≡ true
 low c =
     let g = here c.requires.here in
     lt-ltb _ 3 (omega (arith, c.requires.kind, kind_of c.requires.here g _ (c.outermost-first.ensures g)))
 
-pub put_piece_of-requires : goal.put_piece_of-requires
-put_piece_of-requires c =
+pub lay_piece_of-requires : goal.lay_piece_of-requires
+lay_piece_of-requires c =
     alone_fits c.requires.here c.outermost-first.ensures
-    (low (goal.at.put_piece_of-requires c).After-outermost-first) c.args.options _ c.requires.room
+    (low (goal.at.lay_piece_of-requires c).After-outermost-first) c.args.options _ c.requires.room
 
 pub returns : goal.returns
 returns c = record {
-  put = (alone_put c.requires.here c.outermost-first.ensures (low (goal.at.returns c).After-outermost-first)
-      c.args.options c.put_piece_of.ensures).put;
+  laid = (alone_laid c.requires.here c.outermost-first.ensures (low (goal.at.returns c).After-outermost-first)
+      c.args.options c.lay_piece_of.ensures).laid;
 }

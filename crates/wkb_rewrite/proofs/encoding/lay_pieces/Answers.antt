@@ -3,7 +3,7 @@ use lib.Seq.{sets}
 use Rattle.wkb_rewrite.proofs.Encodings.{shares_encoded}
 use Rattle.wkb_rewrite.proofs.Walks.{all_to_come, next_taken, none_taken, some_ahead}
 use Rattle.wkb_rewrite.proofs.Encoded.{left_room, left_next, left_none}
-use Rattle.wkb_rewrite.proofs.encoding.put_pieces.Goals as goal
+use Rattle.wkb_rewrite.proofs.encoding.lay_pieces.Goals as goal
 
 pub loop-piece-init : goal.loop-piece-init
 loop-piece-init c = λ g.
@@ -13,15 +13,15 @@ loop-piece-init c = λ g.
       shares = _;
       rest = all_to_come g (c.of-pieces.ensures.ahead g) c.of-pieces.ensures.same;
       size = omega (arith, ap length all);
-      put = ap (sets c.args.out.now 0) all;
+      laid = ap (sets c.args.out.now 0) all;
       long = refl;
     }
 
 pub next-requires : goal.next-requires
 next-requires c = some_ahead (c.loop-piece.invariant c.requires.here).rest
 
-pub put_piece-at-requires : goal.put_piece-at-requires
-put_piece-at-requires c =
+pub lay_piece-at-requires : goal.lay_piece-at-requires
+lay_piece-at-requires c =
     let l = c.loop-piece.invariant c.requires.here in
     let next = next_taken l.rest c.in-Some.ensures.steps in
     record { inside = next.own; room = left_room l next (c.requires.room c.requires.here) }
@@ -29,15 +29,15 @@ put_piece-at-requires c =
 pub loop-piece-preserved : goal.loop-piece-preserved
 loop-piece-preserved c = λ g.
     let l = c.loop-piece.invariant g in
-    rw c.inner-form.ensures (left_next l (next_taken l.rest c.in-Some.ensures.steps) c.put_piece-at.ensures)
+    rw c.inner-form.ensures (left_next l (next_taken l.rest c.in-Some.ensures.steps) c.lay_piece-at.ensures)
 
 pub returns-clause-size : goal.returns-clause-size
 returns-clause-size c = λ g.
     let l = c.loop-piece.invariant g in
     (left_none l (none_taken l.rest c.in_default.is c.next.ensures.steps)).0
 
-pub returns-clause-put : goal.returns-clause-put
-returns-clause-put c = λ g.
+pub returns-clause-laid : goal.returns-clause-laid
+returns-clause-laid c = λ g.
     let l = c.loop-piece.invariant g in
     (left_none l (none_taken l.rest c.in_default.is c.next.ensures.steps)).1
 

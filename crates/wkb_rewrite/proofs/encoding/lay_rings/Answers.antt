@@ -3,13 +3,13 @@ use Rattle.wkb_laws.specs.Prelude.{inner}
 use Rattle.wkb_rewrite.proofs.Encodings.{inner_twice}
 use Rattle.wkb_rewrite.proofs.Walks.{next_taken, none_taken, some_ahead}
 use Rattle.wkb_rewrite.proofs.Encoded.{left_room, left_next, left_none, first_room, first_left}
-use Rattle.wkb_rewrite.proofs.encoding.put_rings.Goals as goal
+use Rattle.wkb_rewrite.proofs.encoding.lay_rings.Goals as goal
 
 pub behind-pieces-requires : goal.behind-pieces-requires
 behind-pieces-requires c = record { here = c.requires.here; first = c.requires.first }
 
-pub put_piece-at-requires : goal.put_piece-at-requires
-put_piece-at-requires c =
+pub lay_piece-at-requires : goal.lay_piece-at-requires
+lay_piece-at-requires c =
     let here = c.requires.here in
     let behind = c.behind-pieces.ensures in
     record {
@@ -26,7 +26,7 @@ loop-ring-init c =
       left = λ g.
           rw c.inner.ensures
           (first_left c.args.options.endianness c.args.options.form g (behind.steps g) behind.same
-          c.put_piece-at.ensures);
+          c.lay_piece-at.ensures);
       alone = (behind.rings c.requires.polygon).alone;
     }
 
@@ -35,8 +35,8 @@ next_if_ring-requires c =
     let l = c.loop-ring.invariant in
     record { ahead = some_ahead (l.left c.requires.here).rest; alone = l.alone }
 
-pub put_piece-at-requires-in-Some : goal.put_piece-at-requires-in-Some
-put_piece-at-requires-in-Some c =
+pub lay_piece-at-requires-in-Some : goal.lay_piece-at-requires-in-Some
+lay_piece-at-requires-in-Some c =
     let l = c.loop-ring.invariant.left c.requires.here in
     let next = next_taken l.rest c.in-Some.ensures.steps in
     record { inside = next.own; room = left_room l next (c.requires.room c.requires.here) }
@@ -47,13 +47,13 @@ loop-ring-preserved c = record {
       let l = c.loop-ring.invariant.left g in
       let again : inner c.inner.result ≡ c.inner.result =
       ap inner c.inner.ensures ∙ inner_twice c.args.options.form ∙ sym c.inner.ensures in
-      rw again at (left_next l (next_taken l.rest c.in-Some.ensures.steps) c.put_piece-at-in-Some.ensures);
+      rw again at (left_next l (next_taken l.rest c.in-Some.ensures.steps) c.lay_piece-at-in-Some.ensures);
   alone = c.next_if_ring.ensures.rings.alone;
 }
 
 pub returns : goal.returns
 returns c = record {
-  put = λ g.
+  laid = λ g.
       let l = c.loop-ring.invariant.left g in
       (left_none l (none_taken l.rest c.in_default.is c.next_if_ring.ensures.steps)).1;
 }

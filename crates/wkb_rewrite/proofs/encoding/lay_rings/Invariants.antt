@@ -3,7 +3,7 @@ use Rattle.wkb_laws.specs.Prelude.{geometry_of, encoding}
 use Rattle.wkb_check.specs.Known.{HasGeometry}
 use Rattle.wkb_check.specs.Pieces.{bytes_left}
 use Rattle.wkb_rewrite.proofs.Encoded.{Left}
-use Rattle.wkb_rewrite.proofs.encoding.put_rings.Given as goal
+use Rattle.wkb_rewrite.proofs.encoding.lay_rings.Given as goal
 
 abbrev pub decreases-loop-ring : goal.decreases-loop-ring
 decreases-loop-ring l = bytes_left l.pieces
