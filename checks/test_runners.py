@@ -306,16 +306,18 @@ class Edits(Copy):
     # The goal of the function that a stored answer proves.
     answered = ""
 
-    def write_edits(self, wrong="false by values", right="proved", more="", must_fail="", shows="it"):
-        """Two edits of one function, or three."""
+    def write_edits(self, wrong="false by values", right="proved", more="", must_fail="", shows="it", twin=""):
+        """Two edits of one function, or three; and a twin of the first."""
         for folder in "edits", "crates":
             shutil.rmtree(self.top / folder, ignore_errors=True)
         self.write("crates/it/src/it.rt", "one\n")
         self.write("crates/it/proofs/f/Answers.antt", f"pub {self.answered} : goal.it\n" if self.answered else "")
         change = "file: src/it.rt\nold: one\n"
         for path, new in ("edits/it/wrong", "wrong"), ("edits/it/more", more), ("crates/it/must-fail/it", must_fail):
+            beside = f"right: {twin}\n" if twin and new == "wrong" else ""
             if new:
-                self.write(f"{path}.edit", f"shows: {shows}\nrefused: f\nexpected: {wrong}\n{change}new: {new}\n")
+                text = f"shows: {shows}\nrefused: f\nexpected: {wrong}\n{change}new: {new}\n{beside}"
+                self.write(f"{path}.edit", text)
         if right is not None:
             self.write("edits/equivalent/it/right.edit", f"rewritten: f\nexpected: {right}\n{change}new: right\n")
 
@@ -336,7 +338,7 @@ class Edits(Copy):
             begin=lambda: None, crate=lambda _: crate, prove=prove, sum_of=lambda _: "sum", processors=lambda: 1,
             prove_below=lambda _: True, is_unread=lambda *_: False,
             copy_sources=lambda of, to: shutil.copytree(of.folder, to),
-            edited=lambda text, at: ({"src/it.rt": text.rpartition("new: ")[2]}, None),
+            edited=lambda text, at: ({"src/it.rt": text.rpartition("new: ")[2].partition("\n")[0]}, None),
         )
 
     def run_edits(self, says, words=(), own={}, **edits):
@@ -361,6 +363,15 @@ class Edits(Copy):
         says = {"wrong": self.FALSE, "right": self.PROVED}
         self.assertEqual(self.run_edits(says)[0], 0)
         self.assertEqual(self.run_edits({})[1].count("(kept)"), 2, "the verdicts of the first run")
+
+    def test_a_twin(self):
+        says = {"wrong": self.OPEN.format(""), "right": self.PROVED, "twin": self.PROVED}
+        for twin, words in ("", "; 0 shown"), ("twin", "1 right twins, of 1 mutants not false by values; 1 shown"):
+            status, printed = self.run_edits(says, wrong="no proof found", twin=twin)
+            self.assertEqual(status, 0, printed)
+            self.assertIn(words, printed)
+        says["twin"] = self.OPEN.format("")
+        self.assertEqual(self.run_edits(says, ["--anew"], wrong="no proof found", twin="twin")[0], 1)
 
     def test_which_verdicts_are_kept(self):
         good = {"wrong": self.FALSE, "right": self.PROVED}
