@@ -10,7 +10,7 @@ use Rattle.wkb_laws.proofs.Parts.{take_front}
 use Rattle.wkb_laws.specs.Prelude.{Endianness, Dimension, Form, order_byte, form_srid, type_of}
 use Rattle.wkb_geom.specs.Encodings.{type_code}
 unfoldable use Rattle.wkb_laws.specs.Prelude.{number_bytes, header_encoding, srid_encoding}
-use borrow.Rule.Slice.PartMut.{laid_mid}
+use borrow.Rule.Slice.PartMut.{put_mid}
 use Rattle.wkb_check.proofs.Placing.{sets_after}
 use Rattle.wkb_sink.proofs.Lengths.{length-number, length-header}
 use Rattle.wkb_geom.specs.Refusals.{srid_size}
@@ -19,10 +19,10 @@ use Rattle.wkb_rewrite.specs.Shares.{IsLaid, type_header, header_part}
 
 -- a part of a slice that was borrowed
 pub part_laid : (all part bytes : List ℕ) (at k end : ℕ) → at + length bytes ≤ length all → length bytes ≡ k
-    → end ≡ at + k → part ≡ bytes → IsLaid all (laid_mid at k all part) at end bytes
+    → end ≡ at + k → part ≡ bytes → IsLaid all (put_mid at k all part) at end bytes
 part_laid all part bytes at k end room long ends is = record {
   end_is = omega (arith, ends, long);
-  laid = ap (laid_mid at k all) is
+  laid = ap (put_mid at k all) is
       ∙ ap (λ z. take at all ++ (bytes ++ z)) (drop-drop k at all ∙ ap (λ n. drop n all) (omega (arith, long)))
       ∙ sym (append_assoc (take at all) bytes (drop (at + length bytes) all))
       ∙ sym (sets-eq bytes all at room);
