@@ -7,7 +7,7 @@ use Rattle.wkb_write.proofs.items.CountedWritable.put.Goals as goal
 pub returns-in_err-put_head : goal.returns-in_err-put_head
 returns-in_err-put_head g c =
     exits _ _ c.from_residual.ensures.1
-    (head_cut _ _ _ _ (c.kind.ensures c.args.options.now) c.count-count.ensures c.in_err-put_head.ensures)
+    (head_cut _ _ _ _ (c.wkb_type.ensures c.args.options.now) c.count-count.ensures c.in_err-put_head.ensures)
 
 pub loop-i-preserved : goal.loop-i-preserved
 loop-i-preserved g c =
