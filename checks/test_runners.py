@@ -48,7 +48,8 @@ class Copy(unittest.TestCase):
     def setUp(self):
         around = tempfile.TemporaryDirectory()
         self.addCleanup(around.cleanup)
-        self.top = pathlib.Path(around.name)
+        self.top = pathlib.Path(around.name, "top")
+        self.own = {"XDG_CACHE_HOME": f"{around.name}/cache", "ANEW": ""}
 
     def copy(self, *paths):
         for path in paths:
@@ -63,6 +64,7 @@ class Copy(unittest.TestCase):
     def ran(self, *command):
         """The status and the output of a command."""
         how = {"stdout": subprocess.PIPE, "stderr": subprocess.STDOUT, "text": True, "cwd": self.top}
+        how["env"] = {**os.environ, **self.own}
         ran = subprocess.run([self.top / command[0], *command[1:]], **how)
         return ran.returncode, ran.stdout
 
@@ -84,7 +86,7 @@ class Faults(Copy):
     def setUp(self):
         super().setUp()
         need("make", "bash")
-        self.copy("checks/faults/run", "tools/pages.py")
+        self.copy("checks/faults/run", "checks/kept.py", "tools/pages.py")
         self.write("c/Makefile", "all:\n\t@true\n")
         self.write("c/it", "one\n")
 
@@ -109,6 +111,24 @@ class Faults(Copy):
         ended, printed = self.ran("checks/faults/run")
         self.assertEqual((ended, printed.count(": found by ")), (0, len(names)), printed)
 
+    def test_which_verdicts_are_kept(self):
+        script = "#!/bin/sh\ngrep one c/it || echo it is gone\ngrep one c/it\n"
+        self.write("python/run", script, 0o755)
+        self.write_fault("seen", "red: python/run", *self.CASES[0][2:4])
+        for file, text, said in [
+            ("docs/it", "first", r"run, \d+ s\n"),
+            ("docs/it", "which it doesn't read", "[(]kept[)]"),
+            ("python/it", "which it may read", r"run, \d+ s\n"),
+            ("checks/faults/seen.fault", "another: fault\n", r"run, \d+ s\n"),
+            ("python/run", "test -e docs/it\n", "fails without a fault"),
+            ("docs/it", "red isn't kept", "fails without a fault"),
+        ]:
+            with self.subTest(text):
+                (self.top / file).parent.mkdir(exist_ok=True)
+                with open(self.top / file, "a", encoding="utf-8") as it:
+                    it.write(text)
+                self.assertRegex(self.ran("checks/faults/run")[1], said)
+
     def test_what_is_no_fault(self):
         command, says, new = self.CASES[0][1:4]
         for why, name, *given in [
@@ -129,42 +149,60 @@ class Library(Copy):
     """checks/library/run, with the scripts that it starts, over stubs of the others and of the programs."""
 
     STUB = """#!/bin/sh
-it=$(echo "{name}${{*:+ $*}}" | sed "s|$TOP/||g")
+it=$(echo "{name}${{*:+ $*}}" | sed "s|$TOP/||g; s|/[^ ]*/porchsorrel/||g")
+echo "tried: $it"
 echo "$it" >>"$TOP/said"
 [ "$it" != "$FAILS" ] || exit 101
 """
-    REAL = "checks/library/run", "checks/library/link", "checks/library/try"
+    REAL = "checks/library/run", "checks/library/try", "checks/kept.py", "tools/pages.py"
+    # What runs in place.
+    HERE = {
+        "tools/sums compare", "make -s -C c", "c/proved/prove c/out/proved", "tools/sums same c/out/proved",
+        "checks/systems/second_compiler", "checks/faults/proved_test",
+    }
     CALLS = [
-        "tools/sums compare", "c/proved/prove c/out/proved", "tools/sums same c/out/proved",
-        "checks/faults/proved_test", "checks/library/lasting", "checks/library/lasting others",
+        *HERE, "checks/library/lasting", "checks/library/lasting others",
         "make -s -B -C c CC=cc WARNINGS=-Wextra -Wpedantic -Wconversion -Wmissing-prototypes -Werror all check-symbols",
         *(f"{TRY} {goal}" for goal in ("check-c", "check-dump", "check-c++")), "c/out/ogr_test 100000",
-        "checks/faults/weaken 4", "checks/systems/second_compiler", "checks/systems/cross_test",
-        "checks/systems/pads_test", "checks/systems/windows_test", "checks/systems/unrun_test",
-        "checks/systems/cmake_test", "checks/systems/install_test", "checks/systems/dist_test",
-        "checks/pages/pages_test", "checks/systems/wheels_test", "checks/hosts/cost", "checks/hosts/sanitize",
-        "checks/hosts/fuzz", "python/run", "sqlite/run", "postgres/run",
+        *(f"checks/systems/{it}_test" for it in "cross pads windows unrun cmake install dist wheels".split()),
+        "checks/faults/weaken 4", "checks/pages/pages_test", "checks/hosts/cost", "checks/hosts/sanitize",
+        "checks/hosts/fuzz", "python/run", "rust/run", "sqlite/run", "postgres/run",
     ]
 
-    def status(self, fails="none"):
-        """The status if one call fails, and the calls."""
+    def status(self, fails="none", anew="1"):
+        """The status if one call fails, the calls, and what is printed."""
         (self.top / "said").write_text("")
-        own = {"PATH": f"{self.top}/bin:{os.environ['PATH']}", "TOP": str(self.top), "FAILS": fails}
-        env = {key: it for key, it in os.environ.items() if key not in ("CC", "CXX", "CALL")}
-        ran = subprocess.run([self.top / self.REAL[0]], env={**env, **own}, capture_output=True)
-        return ran.returncode, sorted((self.top / "said").read_text().splitlines())
+        own = {"PATH": f"{self.top}/bin:{os.environ['PATH']}", "TOP": str(self.top), "FAILS": fails, "ANEW": anew}
+        self.own |= {**own, "CC": "cc", "CXX": "c++", "CALL": ""}
+        status, printed = self.ran(self.REAL[0])
+        return status, {*(self.top / "said").read_text().splitlines()}, printed
 
     def setUp(self):
         super().setUp()
         need("bash")
         self.copy(*self.REAL)
-        for name in "rt", "cc", "c++", "gdal-config":
+        for name in "rt", "cc", "gdal-config", "cargo", "rustc":
             self.write(f"bin/{name}", "#!/bin/sh\n", 0o755)
         for name in {it.split()[0] for it in self.CALLS}:
             self.write(f"bin/{name}" if name == "make" else name, self.STUB.format(name=name), 0o755)
+        made = 'for it; do :; done; mkdir -p "${it%/*}"; cp "$TOP/c/out/ogr_test" "$it"'
+        self.write("bin/c++", f"#!/bin/sh\n{made}\n", 0o755)
 
     def test_it_starts_each(self):
-        self.assertEqual(self.status(), (0, sorted(self.CALLS)))
+        self.assertEqual(self.status()[:2], (0, {*self.CALLS}))
+
+    def test_which_parts_are_kept(self):
+        self.status("python/run")
+        status, calls, printed = self.status(anew="")
+        self.assertEqual((status, calls), (0, self.HERE | {"python/run"}))
+        self.assertIn("kept: sqlite/run\ntried: sqlite/run\n", printed)
+        self.write("docs/it", "no part reads it")
+        self.assertEqual(self.status(anew="")[1], self.HERE)
+        self.write("rust/it", "some read it")
+        some = {"rust/run", "checks/hosts/cost", "checks/pages/pages_test"}
+        self.assertEqual(self.status(anew="")[1], self.HERE | some)
+        self.write("sqlite/run", "#!/bin/sh\necho left out: it\n", 0o755)
+        self.assertEqual([self.status(anew="")[2].count("kept: sqlite/run") for _ in range(2)], [0, 0])
 
     def test_it_fails_with_each(self):
         for call in self.CALLS:
@@ -341,11 +379,11 @@ class Edits(Copy):
             edited=lambda text, at: ({"src/it.rt": text.rpartition("new: ")[2].partition("\n")[0]}, None),
         )
 
-    def run_edits(self, says, words=(), own={}, **edits):
+    def run_edits(self, says, words=(), own={}, anew="", **edits):
         """The status over edits, of which the prover says what `says` has, and what is printed."""
         self.write_edits(**edits)
         kit, folder, printed = types.SimpleNamespace(**{**self.kit(says), **own}), self.top / "edits", io.StringIO()
-        path, home = [str(ROOT / "checks/edits"), *sys.path], {"XDG_CACHE_HOME": str(self.top / "cache")}
+        path, home = [str(ROOT / "checks"), *sys.path], {"XDG_CACHE_HOME": str(self.top / "cache"), "ANEW": anew}
         with contextlib.ExitStack() as stack:
             stack.enter_context(mock.patch.dict(sys.modules, kit=kit))
             stack.enter_context(mock.patch.dict(os.environ, home))
@@ -383,7 +421,7 @@ class Edits(Copy):
             ("of other sources", {"own": {"sum_of": lambda _: "another"}}),
             ("of another script", {"own": {"__file__": str(ROOT / "tools/crates")}}),
             ("of another edit", {"shows": "another"}),
-            ("anew", {"words": ["--anew"]}),
+            ("anew", {"anew": "1"}),
         ]:
             with self.subTest(name):
                 self.assertEqual(self.run_edits(bad, **how)[0], 1)
