@@ -409,7 +409,7 @@ class Edits(Copy):
             self.assertEqual(status, 0, printed)
             self.assertIn(words, printed)
         says["twin"] = self.OPEN.format("")
-        self.assertEqual(self.run_edits(says, ["--anew"], wrong="no proof found", twin="twin")[0], 1)
+        self.assertEqual(self.run_edits(says, anew="1", wrong="no proof found", twin="twin")[0], 1)
 
     def test_which_verdicts_are_kept(self):
         good = {"wrong": self.FALSE, "right": self.PROVED}
