@@ -1,31 +1,17 @@
-/* A target for libFuzzer: each call of one input, and the dump, beside plain C. The assembly of the proved calls
- * reports no coverage, so plain C, wkb.c and wkb_dump.c steer the search. checks/hosts/fuzz builds and runs it. */
-#include <stdlib.h>
-
-#include "plain_geometry.h"
+/* A target for libFuzzer: each call of one input, and the dump, beside plain C. */
+#include "fuzz.h"
 #include "wkb_dump.h"
 
-#define EXPECT(holds) ((holds) ? (void)0 : __builtin_trap())
+enum { MOST_TRIED = 16 };
 
-enum { MORE = 4, MOST_TRIED = 16, UNTOUCHED = 0x5a };
-
-/* A block of its own for each buffer, so that the sanitizer sees what is read or written around it. */
-static uint8_t *block(size_t size) {
-  uint8_t *bytes = malloc(size > 0 ? size : 1);
-  EXPECT(bytes != NULL);
-  return bytes;
-}
-
-static int is_range(const wkb_range *a, const wkb_range *b) {
-  return a->count == b->count && (a->count == 0 || (a->least == b->least && a->greatest == b->greatest));
-}
-
-static void try_bounds(const uint8_t *data, size_t len, wkb_status status) {
+/* Bounds are those of the words; plain C's, which takes -0 for 0, are the same numbers. */
+static void try_bounds(const uint8_t *data, size_t len, const wkb_part *parts, size_t count) {
+  const wkb_box own = box_of(data, parts, count);
   wkb_box box, plain;
-  EXPECT(wkb_bounds(data, len, &box, NULL) == status && plain_bounds(data, len, &plain) == (status == WKB_STATUS_OK));
-  if (status != WKB_STATUS_OK) return;
-  EXPECT(is_range(&box.x, &plain.x) && is_range(&box.y, &plain.y));
-  EXPECT(is_range(&box.z, &plain.z) && is_range(&box.m, &plain.m));
+  EXPECT(wkb_bounds(data, len, &box, NULL) == WKB_STATUS_OK && memcmp(&box, &own, sizeof box) == 0);
+  EXPECT(plain_bounds(data, len, &plain));
+  for (const wkb_range *a = &box.x, *b = &plain.x; a <= &box.m; a++, b++)
+    EXPECT(a->count == b->count && a->least == b->least && a->greatest == b->greatest);
 }
 
 /* The encoding under each option, into a room that is large, that is just enough and that is not. Under ISO it is that
@@ -34,6 +20,7 @@ static void try_write(const uint8_t *data, size_t len, const wkb_options *option
   const wkb_options iso = {options->order, WKB_FORM_ISO, 0};
   size_t length = 0, again = 0;
   wkb_found found;
+  const size_t before = used_blocks;
   uint8_t *large = block(len + MORE), *back = block(len + MORE);
   EXPECT(wkb_write(data, len, options, large, len + MORE, &length, NULL) == WKB_STATUS_OK && length <= len + MORE);
   if (options->form == WKB_FORM_ISO) EXPECT(length == size && memcmp(large, plain, size) == 0);
@@ -41,13 +28,12 @@ static void try_write(const uint8_t *data, size_t len, const wkb_options *option
   EXPECT(options->form != WKB_FORM_EWKB_WITH_SRID || (found.has_srid == 1 && found.srid == options->srid));
   EXPECT(wkb_write(large, length, &iso, back, len + MORE, &again, NULL) == WKB_STATUS_OK);
   EXPECT(again == size && memcmp(back, plain, size) == 0);
-  uint8_t *enough = block(length), *few = block(length - 1);
+  uint8_t *enough = block(length), *few = untouched(length - 1);
   EXPECT(wkb_write(data, len, options, enough, length, &again, NULL) == WKB_STATUS_OK && again == length);
   EXPECT(memcmp(enough, large, length) == 0);
-  memset(few, UNTOUCHED, length - 1);
   EXPECT(wkb_write(data, len, options, few, length - 1, &again, NULL) == WKB_STATUS_NO_ROOM && again == length);
-  for (size_t i = 0; i + 1 < length; i++) EXPECT(few[i] == UNTOUCHED);
-  free(large), free(back), free(enough), free(few);
+  EXPECT(is_untouched(few, length - 1));
+  used_blocks = before;
 }
 
 /* Beside its own encoding, and beside itself with a changed byte, whose plain encoding says whether it is another
@@ -65,7 +51,6 @@ static void try_same(const uint8_t *data, size_t len, const uint8_t *plain, size
   } else {
     EXPECT(wkb_status_is_refusal(status) && which == 2);
   }
-  free(changed), free(other);
 }
 
 static uint64_t word_at(const uint8_t *bytes, uint32_t order) {
@@ -77,18 +62,18 @@ static uint64_t word_at(const uint8_t *bytes, uint32_t order) {
 /* The words of a part that has coordinates, by both calls. */
 static void try_words(const uint8_t *data, const wkb_part *part) {
   size_t count = (size_t)part->count * part->width;
-  uint64_t *words = (uint64_t *)block(8 * count);
+  uint64_t *words = block(8 * count);
   wkb_words(data, part, 0, part->count, (double *)words);
   for (size_t i = 0; i < count; i++) {
     double one = wkb_word(data, part, i / part->width, (unsigned)(i % part->width));
     EXPECT(words[i] == word_at(data + part->offset + 8 * i, part->order) && memcmp(&one, words + i, 8) == 0);
   }
-  free(words);
+  used_blocks--;
 }
 
 /* The table, whose entries follow and hold one another, and of which the first geometries are checked by themselves. */
 static void try_parts(const uint8_t *data, size_t len, const wkb_found *found) {
-  wkb_part *parts = (wkb_part *)block(found->parts * sizeof *parts), whole = wkb_whole(found);
+  wkb_part *parts = block(found->parts * sizeof *parts), whole = wkb_whole(found);
   size_t count = 0;
   EXPECT(wkb_parts(data, len, parts, found->parts - 1, &count, NULL) == WKB_STATUS_NO_ROOM && count == found->parts);
   EXPECT(wkb_parts(data, len, parts, found->parts, &count, NULL) == WKB_STATUS_OK && count == found->parts);
@@ -105,7 +90,7 @@ static void try_parts(const uint8_t *data, size_t len, const wkb_found *found) {
     EXPECT(its.size == part->end - part->begin && its.parts == part->next - i && its.kind == part->kind);
   }
   EXPECT(coordinates == found->coordinates);
-  free(parts);
+  try_bounds(data, len, parts, count);
 }
 
 static int count_line(void *lines, const char *line, size_t length) {
@@ -131,16 +116,16 @@ static void try_dump(const uint8_t *data, size_t len, wkb_status status, const w
   }
 }
 
-int LLVMFuzzerTestOneInput(const uint8_t *data, size_t len);
-int LLVMFuzzerTestOneInput(const uint8_t *data, size_t len) {
+static void try_input(const uint8_t *data, size_t len) {
   wkb_found found;
   wkb_fault fault;
   char text[WKB_FAULT_TEXT_ROOM];
   wkb_status status = wkb_check(data, len, &found, &fault);
-  try_bounds(data, len, status);
   try_dump(data, len, status, &found, &fault);
   if (status != WKB_STATUS_OK) {
+    wkb_box box;
     EXPECT(wkb_status_is_refusal(status) && fault.status == status && fault.offset <= len);
+    EXPECT(wkb_bounds(data, len, &box, NULL) == status && !plain_bounds(data, len, &box));
     EXPECT(wkb_fault_text(&fault, text, sizeof text) < sizeof text);
   }
   for (uint32_t order = WKB_ORDER_BIG; order <= WKB_ORDER_LITTLE; order++) {
@@ -156,8 +141,7 @@ int LLVMFuzzerTestOneInput(const uint8_t *data, size_t len) {
       }
     }
     if (status == WKB_STATUS_OK && order == WKB_ORDER_LITTLE) try_same(data, len, plain, size);
-    free(plain);
+    used_blocks--;
   }
   if (status == WKB_STATUS_OK) try_parts(data, len, &found);
-  return 0;
 }
