@@ -1,12 +1,11 @@
 // speed ROUNDS: nanoseconds of a call over random geometries of one shape after another, and by the row of a call for a
-// column of them, beside the readers of GEOS and OGR where they are, and beside plain C, which is compared with the
-// library before. All calls of a shape are timed in each round, and the shortest of the rounds counts. It prints
+// column of them, beside the readers of GEOS and OGR where they are, and beside plain C, which checks/hosts/fuzz compares
+// with the library. All calls of a shape are timed in each round, and the shortest of the rounds counts. It prints
 // tables in Markdown.
 // speed --count: calls each once over all geometries of a shape, between two looks at the clock, and prints a line for
 // it: the shape, the call and the geometries, with tabs between them. bench/instructions counts what lies between.
 #include "plain_columns.h"
 #include "plain_geometry.h"
-#include "speed_compare.hpp"
 #include "speed_shapes.hpp"
 
 #include <cstdio>
@@ -362,7 +361,6 @@ int main(int argc, char **argv) {
     rounds = passes = 1;
   else if (argc == 2)
     rounds = std::atoi(argv[1]);
-  if (!counts) compare_with_plain();
   const std::vector<shape_times> shapes = time_shapes(), long_lines = time_words();
   if (counts) return 0;
   print_calls("ns a row", shapes,

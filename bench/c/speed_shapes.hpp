@@ -172,15 +172,6 @@ constexpr shape SHAPES[] = {
     {"line of 10, z and m NaN", line_without_z_and_m},
 };
 
-// What isn't timed: all shapes, and an empty point, inside one collection.
-inline row collection() {
-  std::vector<row> members(1);
-  put_header(members[0], WKB_KIND_POINT);
-  for (int i = 0; i < 4; i++) put(members[0], 0xfff12345);
-  for (const shape &it : SHAPES) members.push_back(it.make());
-  return collection_of(members);
-}
-
 inline std::vector<row> rows_of(const shape &of) {
   std::vector<row> rows(ROWS);
   std::generate(rows.begin(), rows.end(), of.make);

@@ -129,6 +129,7 @@ static void try_input(const uint8_t *data, size_t len) {
     EXPECT(wkb_fault_text(&fault, text, sizeof text) < sizeof text);
   }
   for (uint32_t order = WKB_ORDER_BIG; order <= WKB_ORDER_LITTLE; order++) {
+    const size_t before = used_blocks;
     uint8_t *plain = block(len + MORE);
     size_t size = 0;
     EXPECT(plain_write(data, len, order, plain, len + MORE, &size) == (status == WKB_STATUS_OK));
@@ -141,7 +142,8 @@ static void try_input(const uint8_t *data, size_t len) {
       }
     }
     if (status == WKB_STATUS_OK && order == WKB_ORDER_LITTLE) try_same(data, len, plain, size);
-    used_blocks--;
+    if (status == WKB_STATUS_OK) EXPECT(!plain_write(data, len, order, block(size - 1), size - 1, &size));
+    used_blocks = before;
   }
   if (status == WKB_STATUS_OK) try_parts(data, len, &found);
 }
