@@ -29,7 +29,7 @@ QUERIES = f"docs/START_SQL.md checks/hosts/hostile.py {PYTHON}"
 READS = {
     "make c/test/alone/header_test checks/hosts/sanitize": "",
     "checks/library/try checks/library/lasting checks/faults/weaken": "checks/library/* bench/peers_src/*",
-    "checks/hosts/fuzz": "checks/hosts/fuzz.c bench/c/*",
+    "checks/hosts/fuzz": "checks/hosts/fuzz_src/* bench/c/*",
     "checks/hosts/cost": f"checks/hosts/* sqlite/* {PYTHON} {RUST}",
     " ".join(f"checks/systems/{it}_test" for it in "windows install cmake unrun pads".split()): SYSTEMS,
     "checks/systems/cross_test": "docs/RECIPES.md",
