@@ -1,8 +1,7 @@
 -- What the reader promises, and what its views show.
 pub use Rattle.wkb_geom.specs.Reading.{Item, spellings, values, point_of, line_string_of, polygon_of, coordinate}
 pub use Rattle.wkb_geom.specs.Reading.{coordinates, ring_in}
-unfoldable pub use Rattle.wkb_geom.specs.Reading.{geometry_told}
-pub use Rattle.wkb_geom.specs.Reading.{geometry_at}
+unfoldable pub use Rattle.wkb_geom.specs.Reading.{geometry_at}
 pub use Rattle.wkb_geom.specs.Stored.{Listed, whole_of, value_code, rings_code, polygons_code, item_code, listed_code}
 pub use Rattle.wkb_geom.specs.Fronts.{HasNoFront}
 pub use Rattle.wkb_read.specs.Reads.{IsFront, IsOnlyFront, IsRefusal, TellsEach, IfRefused, IfMemory, CountsValue}
@@ -43,7 +42,7 @@ pub use Rattle.wkb_view.specs.declared.point.Point.{Point}
 pub use Rattle.wkb_geom.specs.declared.geom.GeometryType.{GeometryType}
 pub use Rattle.wkb_geom.specs.declared.geom.GeometryType.TheVariants as handed
 pub use Rattle.wkb_geom.specs.declared.header.Layout.{Layout}
-pub use Rattle.wkb_geom.specs.Reading.{Reading, Cost}
+pub use Rattle.wkb_geom.specs.Reading.{Reading, Cost, rejection}
 pub use Rattle.wkb_read.specs.Memory.{IsNotMemory}
 pub use Rattle.wkb_read.specs.NoSrids.{tells_size}
 pub use Rattle.wkb_read.specs.Types.{geometry_type_of, IsListed}

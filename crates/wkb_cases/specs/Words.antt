@@ -89,9 +89,9 @@ pub use Rattle.wkb.specs.Encodings.{coordinates_encoding, point_words, point_enc
 pub use Rattle.wkb.specs.Encodings.{polygon_encoding, members_encoding, or_else, dimensions_fault, count_fault}
 pub use Rattle.wkb.specs.Encodings.{first_fault, size_fault, encoding_of, refusal_of}
 pub use Rattle.wkb.specs.Reads.{Item, spellings, values, point_of, line_string_of, polygon_of, coordinate, coordinates}
-pub use Rattle.wkb.specs.Reads.{ring_in, geometry_told, geometry_at, Listed, whole_of, value_code, rings_code}
-pub use Rattle.wkb.specs.Reads.{polygons_code, item_code, listed_code, HasNoFront, IsFront, IsOnlyFront, IsRefusal}
-pub use Rattle.wkb.specs.Reads.{TellsEach, IfRefused, IfMemory, CountsValue, CountsRefusal, CountsAtMost, CanBeWritten}
+pub use Rattle.wkb.specs.Reads.{ring_in, geometry_at, Listed, whole_of, value_code, rings_code, polygons_code}
+pub use Rattle.wkb.specs.Reads.{item_code, listed_code, HasNoFront, IsFront, IsOnlyFront, IsRefusal, TellsEach}
+pub use Rattle.wkb.specs.Reads.{IfRefused, IfMemory, CountsValue, CountsRefusal, CountsAtMost, CanBeWritten}
 pub use Rattle.wkb.specs.Reads.{AsksForNone, BeginsNone, KindTakesNone, TakesNoMemory, IsRead, Lends, Reads, Costs}
 pub use Rattle.wkb.specs.Reads.{geometry_seen, members_seen, geometry_lawful, members_lawful, one_dimension_seen}
 pub use Rattle.wkb.specs.Reads.{IsCollectionOf, IsViewOf, collection_seen, joined_encodings, HoldsMembers}
@@ -112,9 +112,9 @@ pub use Rattle.wkb.specs.Reads.{fitted_geometries, fitted_parts, fitted_polygon,
 pub use Rattle.wkb.specs.Reads.{point_value, fitted_geometry-same, Wkb, Coord as Coord-Reads, Counts}
 pub use Rattle.wkb.specs.Reads.{LineString as LineString-Reads, LinearRing, MultiPoint as MultiPoint-Reads}
 pub use Rattle.wkb.specs.Reads.handed as handed
-pub use Rattle.wkb.specs.Reads.{Point as Point-Reads, GeometryType, Layout, Reading, Cost, IsNotMemory, tells_size}
+pub use Rattle.wkb.specs.Reads.{Point as Point-Reads, GeometryType, Layout, Reading, Cost, rejection, IsNotMemory}
 pub use Rattle.wkb.specs.Reads.kinds as kinds
-pub use Rattle.wkb.specs.Reads.{geometry_type_of, IsListed, GeometryKind}
+pub use Rattle.wkb.specs.Reads.{tells_size, geometry_type_of, IsListed, GeometryKind}
 pub use Rattle.wkb.specs.Writes.{IsSizeOf, IsRefusedAs, IsWrittenAs, IsSpelled, IsSpelledAs, IsFailedAs, Writes}
 pub use Rattle.wkb.specs.Writes.{WritesTo, WritesToVec, IsVecError, WritesToSlice, IsInFront, IsSliceError}
 pub use Rattle.wkb.specs.Writes.{OutgrowsSlice, Reports, FailsBy, TellsFailure, IsOutOfMemory, IsIOError, IsOwnError}

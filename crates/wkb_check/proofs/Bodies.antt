@@ -1,11 +1,8 @@
 -- What stands at the start of the bytes of a geometry, and behind its header.
 use Rattle.std.proofs.Common.{◌≡◌, ℕ, ◌+◌, ◌≤◌, List, [], ◌∷◌, ◌++◌, length}
 use Rattle.std.proofs.Common.{Err, refl, sym, ap, ◌∙◌, arith, length-append}
-use Rattle.wkb_geom.specs.Reading.{cause_alone}
-use Rattle.wkb_laws.specs.Prelude.{Cause, Endianness, Dimension, number, IsEach, Coordinate, Value}
-use Rattle.wkb_laws.specs.Prelude.{Values}
-use Rattle.wkb_laws.specs.Prelude.{no_members, member, kind, dimension, Spelling, node, Spellings, no_spellings}
-use Rattle.wkb_laws.specs.Prelude.{spelling}
+use Rattle.wkb_laws.specs.Prelude.{Cause, Endianness, Dimension, number, IsEach, Coordinate, Value, Values, no_members}
+use Rattle.wkb_laws.specs.Prelude.{member, kind, dimension, Spelling, node, Spellings, no_spellings, spelling}
 use Rattle.wkb_laws.specs.Prelude.{SpellsCoordinates, Spells, SpellsEach, Wanted, any, ring_end}
 unfoldable use Rattle.wkb_laws.specs.Prelude.{head_at}
 use Rattle.wkb_laws.proofs.Parts.{then_length, then_append, drop_front, header_length}
@@ -55,7 +52,7 @@ pub rings_first : (order : Endianness) (d : Dimension) (rings : List (List Coord
 rings_first order d [] x rest h = record { whole = tt; are = refl }
 rings_first order d (ring ∷ rings) x rest h =
     let body = h.front ++ (h.rest ++ rest) in
-    let read = ring_read cause_alone order d ring h.front (h.rest ++ rest) h.first in
+    let read = ring_read order d ring h.front (h.rest ++ rest) h.first in
     let end : ring_end d (number order 4 body) ≡ length h.front =
     ap (ring_end d) read.many ∙ sym (coordinates_length order d ring h.front h.first) in
     let behind = drop_front (ring_end d (number order 4 body)) h.front (h.rest ++ rest) (sym end) in

@@ -6,31 +6,30 @@ use Rattle.std.proofs.lemmas.List.Sums.{sum_by-cons}
 use Rattle.wkb_geom.specs.declared.error.Cause.{Cause}
 use Rattle.wkb_geom.specs.declared.header.Layout.{Layout}
 use Rattle.wkb_geom.specs.Refusals.{slots_asked, multi_point_end}
-use Rattle.wkb_geom.specs.Reading.{ReadingOf, Item, and_then, costs, done, slots_of, consumed, body_start, parts_start}
-use Rattle.wkb_geom.specs.Reading.{count_in, HasNoCount, with_count_told, list_told, parts_body, polygon_item, ring_in}
-use Rattle.wkb_geom.specs.Reading.{ring_part_told, member_told, refused, points_counted, point_of, line_string_of}
-use Rattle.wkb_geom.specs.Reading.{polygon_of}
-unfoldable use Rattle.wkb_geom.specs.Reading.{repeated, polygon_told, multi_point_told, multi_line_string_told}
-unfoldable use Rattle.wkb_geom.specs.Reading.{multi_polygon_told}
+use Rattle.wkb_geom.specs.Reading.{Reading, Item, and_then, costs, done, slots_of, consumed, body_start, parts_start}
+use Rattle.wkb_geom.specs.Reading.{count_in, HasNoCount, with_count, list_at, parts_body, polygon_item, ring_in}
+use Rattle.wkb_geom.specs.Reading.{ring_part, member_at, refused, points_counted, point_of, line_string_of, polygon_of}
+unfoldable use Rattle.wkb_geom.specs.Reading.{repeated, polygon_at, multi_point_at, multi_line_string_at}
+unfoldable use Rattle.wkb_geom.specs.Reading.{multi_polygon_at}
 use Rattle.wkb_geom.specs.Reading.{list_item, multi_point_with, multi_line_string_with, multi_polygon_with}
 use Rattle.wkb_check.specs.declared.walk.Walk.{Walk}
 use Rattle.wkb_check.specs.Passes.{Passes, tally}
 use Rattle.wkb_check.proofs.Leaves.{cond_image, refused_walked}
-use Rattle.wkb_check.specs.Walked.{Tally, Walked, walked, with_left, ring_coordinates, coordinates_by, number_of_member}
+use Rattle.wkb_check.specs.Walked.{Tally, Walked, walked, ring_coordinates, coordinates_by, number_of_member}
 use Rattle.wkb_check.specs.Walked.{item_coordinates, rings_walked, polygon_walked, members_walked, multi_point_walked}
 use Rattle.wkb_check.specs.Walked.{multi_walked}
-unfoldable use Rattle.wkb_check.specs.Walked.{multi_told}
+unfoldable use Rattle.wkb_check.specs.Walked.{multi_at}
 use Rattle.wkb_check.specs.declared.skip.MemberKind.{MemberKind}
 use Rattle.wkb_check.specs.declared.skip.MemberKind.TheVariants as kinds
 
 -- the input ends before the count does
 pub no_count : {A : Type 0} (many : A → ℕ) (l : Layout) (bytes : List ℕ) (turns passed : ℕ)
-    (behind : ℕ → ReadingOf (Cause × ℕ) A) (c : Cause) → HasNoCount l bytes c
-    → walked many (with_count_told with_left l bytes behind) (turns, passed) ≡ Err (turns, (c, length bytes))
+    (behind : ℕ → Reading A) (c : Cause) → HasNoCount l bytes c
+    → walked many (with_count l bytes behind) (turns, passed) ≡ Err (turns, (c, length bytes))
 no_count many l bytes turns passed behind c none =
     ap (λ r. walked many r (turns, passed))
     (cond-true (nat_lt (length bytes) (body_start l.has_srid + 4)) _ _ (lt-ltb _ _ none.1)
-    ∙ ap (λ c. refused (c, length bytes)) (sym none.0)) ∙ refused_walked many (c, length bytes) (turns, passed)
+    ∙ ap (refused bytes) (sym none.0)) ∙ refused_walked many bytes c (turns, passed)
 
 -- a reading that is walked over as another one
 as_walked : (walk other : Tally → Walked) (r : Result (Bor (List ℕ)) Cause) (old new : Walk)
@@ -41,16 +40,16 @@ as_walked walk other (Err c) old new same h = same ∙ h
 module _ {A : Type 0} (many : A → ℕ) (whole : List A → List ℕ → Item) (total : Item → ℕ)
     (sum : (parts : List A) (encoding : List ℕ) → total (whole parts encoding) ≡ sum_by many parts) where
   -- parts, and the whole that they make
-  whole_walked : (n : ℕ) (bytes : List ℕ) (r : ReadingOf (Cause × ℕ) (List A)) (t : Tally)
+  whole_walked : (n : ℕ) (bytes : List ℕ) (r : Reading (List A)) (t : Tally)
       → walked total (costs (slots_of n) (and_then r (λ parts rest. done (whole parts (consumed bytes rest)) rest))) t
       ≡ walked (sum_by many) r t
   whole_walked n bytes (c, Ok x) t = simp (add-zero, zero-add, sum)
   whole_walked n bytes (c, Err e) t = simp zero-add
 
-  pub list_walked : (part : List ℕ → ReadingOf (Cause × ℕ) A) (k : ℕ) (l : Layout) (bytes start : List ℕ) (n : ℕ)
+  pub list_walked : (part : List ℕ → Reading A) (k : ℕ) (l : Layout) (bytes start : List ℕ) (n : ℕ)
       → n ≡ count_in l bytes → body_start l.has_srid + 4 ≤ length bytes → start ≡ parts_start l.has_srid bytes
       → (t : Tally)
-      → walked total (list_told with_left k l part whole bytes) t ≡ walked (sum_by many) (repeated n part start) t
+      → walked total (list_at k l part whole bytes) t ≡ walked (sum_by many) (repeated n part start) t
   list_walked part k l bytes start n counts long at t =
       rw (counts, at) (ap (λ r. walked total r t)
       (cond-false (nat_lt (length bytes) (body_start l.has_srid + 4)) _ _ (le-ltb _ _ long))
@@ -72,11 +71,11 @@ mapped_ones g (a ∷ l) = omega (arith, mapped_ones g l, sum_by-cons (λ a. 1) a
 pub polygon_passes : (l : Layout) (bytes start : List ℕ) (n : ℕ) (r : Result (Bor (List ℕ)) Cause) (old new : Walk)
     → n ≡ count_in l bytes → body_start l.has_srid + 4 ≤ length bytes → start ≡ parts_start l.has_srid bytes
     → Passes r (rings_walked l n start) old new → Passes r (polygon_walked l bytes) old new
-unfolding polygon_told
+unfolding polygon_at
 polygon_passes l bytes start n r old new counts long at h =
     as_walked (polygon_walked l bytes) (rings_walked l n start) r old new
     (list_walked (ring_coordinates l) (polygon_item l) (coordinates_by 3)
-    (λ rings encoding. mapped_sum length (ring_in l.order l.dimension) rings) (ring_part_told with_left l) 3 l bytes
+    (λ rings encoding. mapped_sum length (ring_in l.order l.dimension) rings) (ring_part l) 3 l bytes
     start n counts long at (tally old)) h
 
 abbrev multi_with : MemberKind → Layout → List Item → List ℕ → Item
@@ -92,19 +91,19 @@ multi_sum kinds.LineString l parts encoding = mapped_sum length (λ i. line_stri
 multi_sum kinds.Polygon l parts encoding = mapped_sum (λ rings. sum_by length rings) (λ i. polygon_of i.value) parts
 
 multi_is : (kind : MemberKind) (l : Layout) (bytes : List ℕ)
-    → multi_told kind l bytes
-    ≡ list_told with_left (3 + number_of_member kind) l (member_told with_left (number_of_member kind) l.dimension)
+    → multi_at kind l bytes
+    ≡ list_at (3 + number_of_member kind) l (member_at (number_of_member kind) l.dimension)
     (multi_with kind l) bytes
-unfolding multi_told multi_line_string_told multi_polygon_told
+unfolding multi_at multi_line_string_at multi_polygon_at
 multi_is kinds.Point l bytes = refl
 multi_is _ l bytes = refl
 
 module _ (kind : MemberKind) (l : Layout) (bytes : List ℕ) where
-  abbrev member_part : List ℕ → ReadingOf (Cause × ℕ) Item
-  member_part = member_told with_left (number_of_member kind) l.dimension
+  abbrev member_part : List ℕ → Reading Item
+  member_part = member_at (number_of_member kind) l.dimension
 
   pub multi_cut : (turns passed : ℕ) (c : Cause) → HasNoCount l bytes c
-      → walked item_coordinates (multi_told kind l bytes) (turns, passed) ≡ Err (turns, (c, length bytes))
+      → walked item_coordinates (multi_at kind l bytes) (turns, passed) ≡ Err (turns, (c, length bytes))
   multi_cut turns passed c none =
       rw (multi_is kind l bytes) (no_count item_coordinates l bytes turns passed
       (parts_body (3 + number_of_member kind) l member_part (multi_with kind l) bytes) c none)
@@ -121,28 +120,28 @@ module _ (kind : MemberKind) (l : Layout) (bytes : List ℕ) where
 -- ---- multi points
 
 module _ (l : Layout) (bytes : List ℕ) where
-  abbrev points_behind : Result ℕ Cause → ReadingOf (Cause × ℕ) Item
-  points_behind (Ok n) = parts_body 4 l (member_told with_left 1 l.dimension) (multi_with kinds.Point l) bytes n
-  points_behind (Err c) = refused (c, length bytes)
+  abbrev points_behind : Result ℕ Cause → Reading Item
+  points_behind (Ok n) = parts_body 4 l (member_at 1 l.dimension) (multi_with kinds.Point l) bytes n
+  points_behind (Err c) = refused bytes c
 
-  points_are : multi_point_told with_left l bytes ≡ points_behind (points_counted l bytes)
-  unfolding multi_point_told
+  points_are : multi_point_at l bytes ≡ points_behind (points_counted l bytes)
+  unfolding multi_point_at
   points_are =
       let end = multi_point_end l.dimension l.has_srid (count_in l bytes) in
       cond_image points_behind (nat_lt (length bytes) (body_start l.has_srid + 4)) _ _ _ _ refl
       (cond_image points_behind (nat_lt (length bytes) end) _ _ _ _ refl refl)
 
   pub points_stop : (turns passed : ℕ) (c : Cause) → points_counted l bytes ≡ Err c
-      → walked item_coordinates (multi_point_told with_left l bytes) (turns, passed) ≡ Err (turns, (c, length bytes))
+      → walked item_coordinates (multi_point_at l bytes) (turns, passed) ≡ Err (turns, (c, length bytes))
   points_stop turns passed c e =
-      rw (points_are, e) (refused_walked item_coordinates (c, length bytes) (turns, passed))
+      rw (points_are, e) (refused_walked item_coordinates bytes c (turns, passed))
 
   pub points_pass : (start : List ℕ) (n : ℕ) (r : Result (Bor (List ℕ)) Cause) (old new : Walk)
       → points_counted l bytes ≡ Ok n → start ≡ parts_start l.has_srid bytes
       → Passes r (members_walked kinds.Point l.dimension n start) old new
       → Passes r (multi_point_walked l bytes) old new
   points_pass start n r old new counts at h =
-      let part = member_told with_left 1 l.dimension in
+      let part = member_at 1 l.dimension in
       as_walked (multi_point_walked l bytes) (members_walked kinds.Point l.dimension n start) r old new
       (rw (points_are, counts, at) (whole_walked (coordinates_by 1) (multi_with kinds.Point l) item_coordinates
       (multi_sum kinds.Point l) (slots_asked 4 n (length (parts_start l.has_srid bytes))) bytes

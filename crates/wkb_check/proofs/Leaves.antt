@@ -1,6 +1,6 @@
--- Points, line strings and rings: what is told of them, and how many coordinates they have.
+-- Points, line strings and rings: how they are passed, and how many coordinates they have.
 use Rattle.std.proofs.Common.{◌≡◌, ℕ, ◌+◌, ◌*◌, ◌≤◌, List, length, drop, take, Ok, Err, Bool, true, false}
-use Rattle.std.proofs.Common.{refl, sym, ap, ◌∙◌, ◌-◌, arith, nat_lt, if◌then◌else◌, length-drop, length-take-le}
+use Rattle.std.proofs.Common.{refl, sym, ◌∙◌, ◌-◌, arith, if◌then◌else◌, length-drop, length-take-le}
 use Rattle.std.proofs.Common.{take-append-drop, add-zero}
 use Rattle.std.proofs.lemmas.List.{take_all}
 use Rattle.wkb_geom.specs.declared.common.Dimension.{Dimension}
@@ -11,18 +11,12 @@ use Rattle.wkb_geom.specs.declared.header.Layout.{Layout}
 use Rattle.wkb_geom.specs.Dimensions.{width}
 use Rattle.wkb_geom.specs.Items.{length-items}
 use Rattle.wkb_geom.specs.Numbers.{number}
-use Rattle.wkb_geom.specs.Refusals.{point_end, line_string_end, ring_end}
-use Rattle.wkb_geom.specs.Reading.{OutcomeOf, Outcome, at_no_cost, body_start, count_in, ring_in, coordinate, point_at}
-use Rattle.wkb_geom.specs.Reading.{line_string_at, ring_at, ring_part_told}
-use Rattle.wkb_geom.specs.Reading.{line_string_item, point_item, refused, Reading, ReadingOf, Item}
-unfoldable use Rattle.wkb_geom.specs.Reading.{point_told, line_string_told, ring_told}
+use Rattle.wkb_geom.specs.Refusals.{line_string_end, ring_end}
+use Rattle.wkb_geom.specs.Reading.{Outcome, at_no_cost, body_start, count_in, ring_in, coordinate, point_at, ring_at}
+use Rattle.wkb_geom.specs.Reading.{line_string_at, ring_part, line_string_item, point_item, refused}
+use Rattle.wkb_laws.proofs.GeometryAt.{line_string_free}
 use Rattle.wkb_laws.proofs.Heads.{number_in}
-use Rattle.wkb_check.specs.Walked.{Tally, with_left, walked, ring_coordinates, coordinates_by}
-
--- what is told of a fault, where its cause is known
-abbrev tells : {A : Type 0} → List ℕ → Outcome A → OutcomeOf (Cause × ℕ) A
-tells bytes (Ok x) = Ok x
-tells bytes (Err c) = Err (c, length bytes)
+use Rattle.wkb_check.specs.Walked.{Tally, walked, ring_coordinates, coordinates_by}
 
 -- if both are images, then so is the one that is chosen
 pub cond_image : {A B : Type 0} (f : A → B) (b : Bool) (p q : A) (s t : B) → s ≡ f p → t ≡ f q
@@ -30,31 +24,10 @@ pub cond_image : {A B : Type 0} (f : A → B) (b : Bool) (p q : A) (s t : B) →
 cond_image f true p q s t first second = first
 cond_image f false p q s t first second = second
 
-pub point_tells : (l : Layout) (bytes : List ℕ) → point_told with_left l bytes ≡ tells bytes (point_at l bytes)
-unfolding point_told
-point_tells l bytes =
-    cond_image (tells bytes) (nat_lt (length bytes) (point_end l.dimension l.has_srid)) _ _ _ _ refl refl
-
-pub ring_tells : (order : Endianness) (d : Dimension) (bytes : List ℕ)
-    → ring_told with_left order d bytes ≡ tells bytes (ring_at order d bytes)
-unfolding ring_told
-ring_tells order d bytes =
-    cond_image (tells bytes) (nat_lt (length bytes) 4) _ _ _ _ refl
-    (cond_image (tells bytes) (nat_lt (length bytes) (ring_end d (number order 4 bytes))) _ _ _ _ refl refl)
-
-pub line_string_tells : (l : Layout) (bytes : List ℕ)
-    → line_string_told with_left l bytes ≡ at_no_cost (tells bytes (line_string_at l bytes).1)
-unfolding line_string_told
-line_string_tells l bytes =
-    let told : Reading Item → ReadingOf (Cause × ℕ) Item = λ r. at_no_cost (tells bytes r.1) in
-    let end = line_string_end l.dimension l.has_srid (count_in l bytes) in
-    cond_image told (nat_lt (length bytes) (body_start l.has_srid + 4)) _ _ _ _ refl
-    (ap at_no_cost (cond_image (tells bytes) (nat_lt (length bytes) end) _ _ _ _ refl refl))
-
 -- what is rejected itself
-pub refused_walked : {A : Type 0} (many : A → ℕ) (e : Cause × ℕ) (t : Tally)
-    → walked many (refused e) t ≡ Err (t.0, e)
-refused_walked many e t = simp add-zero
+pub refused_walked : {A : Type 0} (many : A → ℕ) (bytes : List ℕ) (c : Cause) (t : Tally)
+    → walked many (refused bytes c) t ≡ Err (t.0, (c, length bytes))
+refused_walked many bytes c t = simp add-zero
 
 -- how many coordinates a ring has that begins here, in an encoding that ends there
 coordinates_there : (order : Endianness) (d : Dimension) (start end : ℕ) (bytes : List ℕ) → start + 4 ≤ end
@@ -74,7 +47,7 @@ wide _ n = omega arith
 
 -- what is counted of a part that is passed, by where it ends
 leaf_passes : {A : Type 0} (many : A → ℕ) (x : A) (bytes : List ℕ) (n end turns passed : ℕ)
-    (read : OutcomeOf (Cause × ℕ) A)
+    (read : Outcome A)
     → read ≡ Ok (x, drop end bytes) → many x ≡ n
     → walked many (at_no_cost read) (turns, passed)
     ≡ Ok ((turns, passed + n), take (length bytes - end) (drop end bytes))
@@ -86,31 +59,28 @@ module _ (l : Layout) (bytes : List ℕ) where
   pub ring_passes : (n end turns passed : ℕ) → n ≡ number l.order 4 bytes → end ≡ ring_end l.dimension n
       → end ≤ length bytes
       → ring_at l.order l.dimension bytes ≡ Ok (take end bytes, drop end bytes)
-      → walked (ring_coordinates l) (ring_part_told with_left l bytes) (turns, passed)
+      → walked (ring_coordinates l) (ring_part l bytes) (turns, passed)
       ≡ Ok ((turns, passed + n), take (length bytes - end) (drop end bytes))
   ring_passes n end turns passed n-is end-is whole read =
-      leaf_passes (ring_coordinates l) (take end bytes) bytes n end turns passed _
-      (ring_tells l.order l.dimension bytes ∙ ap (tells bytes) read)
+      leaf_passes (ring_coordinates l) (take end bytes) bytes n end turns passed _ read
       (coordinates_there l.order l.dimension 0 end bytes (omega (arith, end-is)) whole ∙ sym n-is)
 
   pub line_string_passes : (n end turns passed : ℕ) → n ≡ count_in l bytes
       → end ≡ line_string_end l.dimension l.has_srid n → end ≤ length bytes
       → (line_string_at l bytes).1 ≡ Ok (line_string_item l (take end bytes), drop end bytes)
-      → walked (coordinates_by 2) (line_string_told with_left l bytes) (turns, passed)
+      → walked (coordinates_by 2) (line_string_at l bytes) (turns, passed)
       ≡ Ok ((turns, passed + n), take (length bytes - end) (drop end bytes))
   line_string_passes n end turns passed n-is end-is whole read =
       let many =
       coordinates_there l.order l.dimension (body_start l.has_srid) end bytes (omega (arith, end-is)) whole in
-      rw (line_string_tells l bytes) (leaf_passes (coordinates_by 2) (line_string_item l (take end bytes)) bytes n end
-      turns passed _ (ap (tells bytes) read) (many ∙ sym n-is))
+      rw (line_string_free l bytes) (leaf_passes (coordinates_by 2) (line_string_item l (take end bytes)) bytes n end
+      turns passed _ read (many ∙ sym n-is))
 
   pub point_passes : (end turns passed : ℕ) → end ≤ length bytes
       → point_at l bytes ≡ Ok (point_item l (take end bytes), drop end bytes)
-      → walked (coordinates_by 1) (at_no_cost (point_told with_left l bytes)) (turns, passed)
+      → walked (coordinates_by 1) (at_no_cost (point_at l bytes)) (turns, passed)
       ≡ Ok ((turns, passed + 1), take (length bytes - end) (drop end bytes))
   point_passes end turns passed whole read =
-      leaf_passes (coordinates_by 1) (point_item l (take end bytes)) bytes 1 end turns passed _
-      (point_tells l bytes ∙ ap (tells bytes) read) refl
+      leaf_passes (coordinates_by 1) (point_item l (take end bytes)) bytes 1 end turns passed _ read refl
 
-pub ruleset leaf_laws =
-    (wide, point_tells, point_passes, line_string_tells, line_string_passes, ring_tells, ring_passes)
+pub ruleset leaf_laws = (wide, refused_walked, point_passes, line_string_free, line_string_passes, ring_passes)

@@ -11,25 +11,21 @@ use Rattle.wkb_geom.specs.declared.header.Head.{Head}
 use Rattle.wkb_geom.specs.declared.header.Layout.{Layout}
 use Rattle.wkb_geom.specs.Fronts.{max_nesting}
 use Rattle.wkb_geom.specs.Reading.{Item, values, list_item, collection_with, layout_of, body_start, parts_start}
-use Rattle.wkb_geom.specs.Reading.{count_in}
-use Rattle.wkb_geom.specs.Reading.{HasNoCount, list_told, parts_body, type_kind, ReadingOf, done, point_item_of}
-use Rattle.wkb_geom.specs.Reading.{costs, slots_of}
-use Rattle.wkb_geom.specs.Reading.{and_then, polygon_item, consumed, kind_told, at_no_cost, point_words_in}
-use Rattle.wkb_geom.specs.Reading.{then_body_told, collection_within_told}
-unfoldable use Rattle.wkb_geom.specs.Reading.{geometry_told, by_type_told, point_told, line_string_told}
-unfoldable use Rattle.wkb_geom.specs.Reading.{polygon_told, head_at}
+use Rattle.wkb_geom.specs.Reading.{count_in, HasNoCount, list_at, parts_body, type_kind, Reading, done, point_item_of}
+use Rattle.wkb_geom.specs.Reading.{costs, slots_of, and_then, polygon_item, consumed, body_at, at_no_cost}
+use Rattle.wkb_geom.specs.Reading.{point_words_in, then_body, collection_within}
+unfoldable use Rattle.wkb_geom.specs.Reading.{geometry_at, by_type, point_at, line_string_at, polygon_at, head_at}
 use Rattle.wkb_geom.specs.Refusals.{point_end, line_string_end, slots_asked}
 use Rattle.wkb_geom.specs.Numbers.{all_nan}
 use Rattle.std.proofs.lemmas.Bool.{cond_both}
 use Rattle.std.proofs.Common.{Bool, true, false, nat_lt}
-unfoldable use Rattle.wkb_geom.specs.Reading.{repeated, collection_told}
+unfoldable use Rattle.wkb_geom.specs.Reading.{repeated, collection_at}
 use Rattle.wkb_geom.specs.Counted.{coordinate_count_each}
 use Rattle.wkb_check.specs.declared.nested.OpenCounts.{OpenCounts}
 use Rattle.wkb_check.specs.declared.walk.Walk.{Walk}
 use Rattle.wkb_check.specs.Passes.{tally, open_counts, counts_of, IsFollowed, Passes, PassesOrOpens}
-use Rattle.wkb_check.specs.Walked.{type_walked, body_walked, inside_walked}
-use Rattle.wkb_check.specs.Walked.{Tally, Walked, walked, with_left, onward, item_coordinates, coordinates_by}
-use Rattle.wkb_check.specs.Walked.{inside_told, body_told, ahead_of}
+use Rattle.wkb_check.specs.Walked.{type_walked, body_walked, inside_walked, Tally, Walked, walked, onward}
+use Rattle.wkb_check.specs.Walked.{item_coordinates, coordinates_by, geometry_inside, body_within, ahead_of}
 use Rattle.wkb_check.proofs.Counting.{no_count, list_walked}
 use Rattle.wkb_check.proofs.Closing.{top_set, top_is, none_left}
 use Rattle.wkb_check.proofs.Leaves.{refused_walked}
@@ -41,7 +37,7 @@ values_sum (i ∷ l) = simp (sum_by-cons, values_sum l)
 -- ---- a geometry with its header
 
 module _ (u : Tally) (l : Layout) (bytes : List ℕ) where
-  abbrev IsSame : ℕ → ReadingOf (Cause × ℕ) Item → Type 0
+  abbrev IsSame : ℕ → Reading Item → Type 0
   IsSame k r = walked item_coordinates r u ≡ walked (coordinates_by k) r u
 
   point_same : (encoding words : List ℕ) (empty : Bool) (rest : List ℕ)
@@ -49,16 +45,16 @@ module _ (u : Tally) (l : Layout) (bytes : List ℕ) where
   point_same encoding words true rest = refl
   point_same encoding words false rest = refl
 
-  rings_same : (n : ℕ) (r : ReadingOf (Cause × ℕ) (List (List ℕ)))
+  rings_same : (n : ℕ) (r : Reading (List (List ℕ)))
       → IsSame 3
       (costs (slots_of n) (and_then r (λ rings rest. done (polygon_item l rings (consumed bytes rest)) rest)))
   rings_same n (c, Ok x) = refl
   rings_same n (c, Err e) = refl
 
   -- the coordinates of a geometry are those of one of its kind
-  kind_same : (collection : Layout → List ℕ → ReadingOf (Cause × ℕ) Item) (t : WkbType)
-      → IsSame (type_kind t) (kind_told with_left collection t l bytes)
-  unfolding point_told line_string_told polygon_told
+  kind_same : (collection : Layout → List ℕ → Reading Item) (t : WkbType)
+      → IsSame (type_kind t) (body_at collection t l bytes)
+  unfolding point_at line_string_at polygon_at
   kind_same collection (kinds.Point d) =
       cond_both (nat_lt (length bytes) (point_end l.dimension l.has_srid)) _ _ (λ p. IsSame 1 (at_no_cost p))
       (λ e. refl)
@@ -73,9 +69,9 @@ module _ (u : Tally) (l : Layout) (bytes : List ℕ) where
   kind_same collection _ = refl
 
 by_header : (room : ℕ) (bytes : List ℕ) (read : Result Head Cause) → head_at bytes ≡ read
-    → geometry_told with_left room bytes
-    ≡ then_body_told (with_left bytes) read (λ h. body_told room h.wkb_type (layout_of h) bytes)
-unfolding geometry_told by_type_told
+    → geometry_at room bytes
+    ≡ then_body bytes read (λ h. body_within room h.wkb_type (layout_of h) bytes)
+unfolding geometry_at by_type
 by_header zero bytes read e = rw e
 by_header (suc room) bytes read e = rw e
 
@@ -83,12 +79,12 @@ pub with_header : (around : ℕ) (bytes : List ℕ) (h : Head) (t : Tally) → h
     → inside_walked around bytes t ≡ body_walked around h bytes t
 with_header around bytes h t e =
     rw (by_header (max_nesting - around) bytes (Ok h) e)
-    (kind_same t (layout_of h) bytes (collection_within_told with_left (max_nesting - around)) h.wkb_type)
+    (kind_same t (layout_of h) bytes (collection_within (max_nesting - around)) h.wkb_type)
 
 pub without_header : (around : ℕ) (bytes : List ℕ) (c : Cause) (t : Tally) → head_at bytes ≡ Err c
     → inside_walked around bytes t ≡ Err (t.0, (c, length bytes))
 without_header around bytes c t e =
-    rw (by_header (max_nesting - around) bytes (Err c) e) (refused_walked item_coordinates (c, length bytes) t)
+    rw (by_header (max_nesting - around) bytes (Err c) e) (refused_walked item_coordinates bytes c t)
 
 -- ---- the open collections
 
@@ -101,9 +97,9 @@ module _ (depth : ℕ) (h : Head) (d : Dimension) (l : Layout) (bytes : List ℕ
   -- what follows the header of a collection
   behind : (t : Tally)
       → body_walked depth h bytes t
-      ≡ walked item_coordinates (list_told with_left 7 l (inside_told (suc depth)) (list_item l collection_with) bytes)
+      ≡ walked item_coordinates (list_at 7 l (geometry_inside (suc depth)) (list_item l collection_with) bytes)
       t
-  unfolding collection_told
+  unfolding collection_at
   behind t =
       let k : max_nesting - depth ≡ suc (max_nesting - suc depth) = omega arith in
       rw (l-is, is, k) refl
@@ -119,7 +115,7 @@ module _ (depth : ℕ) (h : Head) (d : Dimension) (l : Layout) (bytes : List ℕ
         more,
         behind (turns, passed),
         list_walked item_coordinates (list_item l collection_with) item_coordinates (λ parts encoding. values_sum parts)
-            (inside_told (suc depth)) 7 l bytes start n counts long at (turns, passed),
+            (geometry_inside (suc depth)) 7 l bytes start n counts long at (turns, passed),
         as_many left depth len (omega (arith, shallow)),
       )
 
@@ -127,7 +123,7 @@ module _ (depth : ℕ) (h : Head) (d : Dimension) (l : Layout) (bytes : List ℕ
       → body_walked depth h bytes (turns, passed) ≡ Err (turns, (c, length bytes))
   opens_none turns passed c none =
       behind (turns, passed) ∙ no_count item_coordinates l bytes turns passed
-      (parts_body 7 l (inside_told (suc depth)) (list_item l collection_with) bytes) c none
+      (parts_body 7 l (geometry_inside (suc depth)) (list_item l collection_with) bytes) c none
 
 -- a geometry that is no collection is passed, and opens nothing
 pub passes_plain : (r : Result (Bor (List ℕ)) Cause) (h : Head) (l : Layout) (bytes : List ℕ) (o : OpenCounts)

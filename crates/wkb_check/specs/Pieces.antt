@@ -15,7 +15,7 @@ use Rattle.wkb_geom.specs.Refusals.{srid_size}
 use Rattle.wkb_geom.specs.Spellings.{Header, header, Spelling, node}
 use Rattle.wkb_geom.specs.Values.{Value, point, line_string, polygon, multi_point}
 use Rattle.wkb_geom.specs.Values.{multi_line_string, multi_polygon, collection, kind, dimension}
-use Rattle.wkb_geom.specs.Values.{members, count}
+use Rattle.wkb_geom.specs.Values.{count}
 use Rattle.wkb_check.specs.Known.{HasGeometry, HasGeometries, AreWhole, decoded_rings}
 use Rattle.wkb_check.specs.Subjects.{Subject, whole, ring, subjects, subjects_of_rings, subjects_of_each}
 use Rattle.wkb_check.specs.declared.pieces.Piece.{Piece}

@@ -8,12 +8,11 @@ use Rattle.wkb_geom.specs.declared.header.Layout.{Layout}
 use Rattle.wkb_check.specs.declared.skip.MemberKind.{MemberKind}
 use Rattle.wkb_check.specs.declared.skip.MemberKind.TheVariants as members
 use Rattle.wkb_geom.specs.Fronts.{max_nesting}
-use Rattle.wkb_geom.specs.Reading.{ReadingOf, Item, ring_in, line_string_of, polygon_of, list_item, list_told}
-use Rattle.wkb_geom.specs.Reading.{multi_point_with, member_told, multi_line_string_told, multi_polygon_told}
-use Rattle.wkb_geom.specs.Reading.{kind_told, collection_within_told, at_no_cost, ring_part_told, member_body_told}
-use Rattle.wkb_geom.specs.Reading.{type_kind, layout_of}
-unfoldable use Rattle.wkb_geom.specs.Reading.{repeated, geometry_told, point_told, line_string_told, polygon_told}
-unfoldable use Rattle.wkb_geom.specs.Reading.{multi_point_told}
+use Rattle.wkb_geom.specs.Reading.{Reading, Item, ring_in, line_string_of, polygon_of, list_item, list_at}
+use Rattle.wkb_geom.specs.Reading.{multi_point_with, member_at, multi_line_string_at, multi_polygon_at, body_at}
+use Rattle.wkb_geom.specs.Reading.{collection_within, at_no_cost, ring_part, member_body, type_kind, layout_of}
+unfoldable use Rattle.wkb_geom.specs.Reading.{repeated, geometry_at, point_at, line_string_at, polygon_at}
+unfoldable use Rattle.wkb_geom.specs.Reading.{multi_point_at}
 use Rattle.wkb_geom.specs.Counted.{coordinate_count}
 
 -- parts that are begun, and coordinates that are passed
@@ -25,14 +24,10 @@ Tally = ℕ × ℕ
 abbrev pub Walked : Type 0
 Walked = Result (Tally × List ℕ) (ℕ × (Cause × ℕ))
 
--- of a fault its cause is told, and how many bytes are left
-abbrev pub with_left : List ℕ → Cause → Cause × ℕ
-with_left = λ bytes c. (c, length bytes)
-
 -- a reading without its values, after this tally
-abbrev pub walked : {A : Type 0} → (A → ℕ) → ReadingOf (Cause × ℕ) A → Tally → Walked
+abbrev pub walked : {A : Type 0} → (A → ℕ) → Reading A → Tally → Walked
 walked many (c, Ok x) t = Ok ((t.0 + c.turns, t.1 + many x.0), x.1)
-walked many (c, Err e) t = Err (t.0 + c.turns, e)
+walked many (c, Err r) t = Err (t.0 + c.turns, (r.cause, length r.left))
 
 -- one part, then what follows it
 abbrev pub onward : Walked → (Tally → List ℕ → Walked) → Walked
@@ -61,61 +56,61 @@ number_of_member members.LineString = 2
 number_of_member members.Polygon = 3
 
 -- the multi geometry of members of this kind, where the length of multi points is not tested before
-unfoldable pub multi_told : MemberKind → Layout → List ℕ → ReadingOf (Cause × ℕ) Item
-multi_told members.Point l bytes =
-    list_told with_left 4 l (member_told with_left 1 l.dimension) (list_item l multi_point_with) bytes
-multi_told members.LineString l bytes = multi_line_string_told with_left l bytes
-multi_told members.Polygon l bytes = multi_polygon_told with_left l bytes
+unfoldable pub multi_at : MemberKind → Layout → List ℕ → Reading Item
+multi_at members.Point l bytes =
+    list_at 4 l (member_at 1 l.dimension) (list_item l multi_point_with) bytes
+multi_at members.LineString l bytes = multi_line_string_at l bytes
+multi_at members.Polygon l bytes = multi_polygon_at l bytes
 
 -- ---- walks, by what is passed
 
 abbrev pub point_walked : Layout → List ℕ → Tally → Walked
-point_walked l bytes = walked (coordinates_by 1) (at_no_cost (point_told with_left l bytes))
+point_walked l bytes = walked (coordinates_by 1) (at_no_cost (point_at l bytes))
 
 abbrev pub line_string_walked : Layout → List ℕ → Tally → Walked
-line_string_walked l bytes = walked (coordinates_by 2) (line_string_told with_left l bytes)
+line_string_walked l bytes = walked (coordinates_by 2) (line_string_at l bytes)
 
 abbrev pub ring_walked : Layout → List ℕ → Tally → Walked
-ring_walked l bytes = walked (ring_coordinates l) (ring_part_told with_left l bytes)
+ring_walked l bytes = walked (ring_coordinates l) (ring_part l bytes)
 
 abbrev pub rings_walked : Layout → ℕ → List ℕ → Tally → Walked
-rings_walked l n bytes = walked (sum_by (ring_coordinates l)) (repeated n (ring_part_told with_left l) bytes)
+rings_walked l n bytes = walked (sum_by (ring_coordinates l)) (repeated n (ring_part l) bytes)
 
 abbrev pub polygon_walked : Layout → List ℕ → Tally → Walked
-polygon_walked l bytes = walked (coordinates_by 3) (polygon_told with_left l bytes)
+polygon_walked l bytes = walked (coordinates_by 3) (polygon_at l bytes)
 
 -- a member of this kind behind its header, one with its header, and n of them
 abbrev pub member_body_walked : MemberKind → Layout → List ℕ → Tally → Walked
 member_body_walked kind l bytes =
-    let k = number_of_member kind in walked (coordinates_by k) (member_body_told with_left k l bytes)
+    let k = number_of_member kind in walked (coordinates_by k) (member_body k l bytes)
 
 abbrev pub member_walked : MemberKind → Dimension → List ℕ → Tally → Walked
 member_walked kind d bytes =
-    let k = number_of_member kind in walked (coordinates_by k) (member_told with_left k d bytes)
+    let k = number_of_member kind in walked (coordinates_by k) (member_at k d bytes)
 
 abbrev pub members_walked : MemberKind → Dimension → ℕ → List ℕ → Tally → Walked
 members_walked kind d n bytes =
-    let k = number_of_member kind in walked (sum_by (coordinates_by k)) (repeated n (member_told with_left k d) bytes)
+    let k = number_of_member kind in walked (sum_by (coordinates_by k)) (repeated n (member_at k d) bytes)
 
 abbrev pub multi_point_walked : Layout → List ℕ → Tally → Walked
-multi_point_walked l bytes = walked item_coordinates (multi_point_told with_left l bytes)
+multi_point_walked l bytes = walked item_coordinates (multi_point_at l bytes)
 
 abbrev pub multi_walked : MemberKind → Layout → List ℕ → Tally → Walked
-multi_walked kind l bytes = walked item_coordinates (multi_told kind l bytes)
+multi_walked kind l bytes = walked item_coordinates (multi_at kind l bytes)
 
 -- ---- collections
 
 -- a geometry inside this many open collections
-abbrev pub inside_told : ℕ → List ℕ → ReadingOf (Cause × ℕ) Item
-inside_told around bytes = geometry_told with_left (max_nesting - around) bytes
+abbrev pub geometry_inside : ℕ → List ℕ → Reading Item
+geometry_inside around bytes = geometry_at (max_nesting - around) bytes
 
 -- a geometry of this type, with room for this many open collections
-abbrev pub body_told : ℕ → WkbType → Layout → List ℕ → ReadingOf (Cause × ℕ) Item
-body_told room t l bytes = kind_told with_left (collection_within_told with_left room) t l bytes
+abbrev pub body_within : ℕ → WkbType → Layout → List ℕ → Reading Item
+body_within room t l bytes = body_at (collection_within room) t l bytes
 
 -- a geometry of this type behind its header, with room for this many open collections
 abbrev pub type_walked : ℕ → WkbType → Layout → List ℕ → Tally → Walked
-type_walked room t l bytes = walked (coordinates_by (type_kind t)) (body_told room t l bytes)
+type_walked room t l bytes = walked (coordinates_by (type_kind t)) (body_within room t l bytes)
 
 -- a geometry behind its header, inside this many open collections
 abbrev pub body_walked : ℕ → Head → List ℕ → Tally → Walked
@@ -123,10 +118,10 @@ body_walked around h bytes = type_walked (max_nesting - around) h.wkb_type (layo
 
 -- a geometry from its header on, inside this many open collections
 abbrev pub inside_walked : ℕ → List ℕ → Tally → Walked
-inside_walked around bytes = walked item_coordinates (inside_told around bytes)
+inside_walked around bytes = walked item_coordinates (geometry_inside around bytes)
 
 -- what follows a finished part: the members that the open collections still have, the innermost first
 abbrev pub ahead_of : List ℕ → Tally → List ℕ → Walked
 ahead_of [] t rest = Ok (t, rest)
 ahead_of (n ∷ ns) t rest =
-    onward (walked (sum_by item_coordinates) (repeated n (inside_told (suc (length ns))) rest) t) (ahead_of ns)
+    onward (walked (sum_by item_coordinates) (repeated n (geometry_inside (suc (length ns))) rest) t) (ahead_of ns)

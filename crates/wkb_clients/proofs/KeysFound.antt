@@ -29,7 +29,7 @@ unfolding key_of value_in
 key_read input key bytes k =
     let r = rewriting_is_read LittleEndian Iso input k.spelled k.value k.rest [] tt bytes k.front in
     let f : Front key r.0 k.value [] = subst (λ b. Front b r.0 k.value []) (append-nil _ ∙ sym k.is) r.1 in
-    ap (λ (x : _). value_read x.1) (front_is_read key r.0 k.value [] f)
+    ap value_read (front_is_read key r.0 k.value [] f)
 
 -- so it is the key of that value
 pub is_its_own : (input key : List ℕ) → AreBytes input → (k : IsKey input key)

@@ -1,10 +1,9 @@
 -- Keys of geometries, and a store of them.
-use Rattle.std.proofs.Common.{◌≡◌, ℕ, List, [], ◌∷◌, ◌++◌, Bool, Result, Ok, Err, None}
+use Rattle.std.proofs.Common.{◌≡◌, ℕ, List, [], ◌∷◌, ◌++◌, Bool, Ok, Err, None}
 use Rattle.std.specs.Prelude.{◌↔◌, MatchBool, Contains}
 use Rattle.wkb_clients.specs.Common.{LittleEndian, Xy, Iso, AreBytes, Value, point, Spelling, Front}
-use Rattle.wkb_clients.specs.Common.{max_nesting, Item, geometry_at}
+use Rattle.wkb_clients.specs.Common.{max_nesting, Item, Reading, geometry_at}
 use Rattle.wkb.specs.Geometries.{geometry_of}
-use Rattle.wkb.specs.Prelude.{Cause}
 use Rattle.wkb.specs.Encodings.{encoding}
 
 -- the bytes that are written of a value, under one order and one form
@@ -34,9 +33,9 @@ pub record Inserts (old new : List Value) (input : List ℕ) (was : Bool) : Type
   pub kept : MatchBool was (new ≡ old) (new ≡ old ++ value ∷ [])
 
 -- the value that a key is read as
-abbrev pub value_read : Result (Item × List ℕ) Cause → Value
-value_read (Ok x) = x.0.value
-value_read (Err c) = point Xy None
+abbrev pub value_read : Reading Item → Value
+value_read (cost, Ok x) = x.0.value
+value_read (cost, Err r) = point Xy None
 
 unfoldable pub value_in : List ℕ → Value
-value_in key = value_read (geometry_at max_nesting key).1
+value_in key = value_read (geometry_at max_nesting key)

@@ -310,7 +310,7 @@ impl Layout {
     ghost use Rattle.wkb_geom.specs.Reading.{points_counted, HoldPoints};
 
     /// Where the point at the start of the bytes ends.
-    #[tactic(auto, unfolding(crate::specs::Reading::point_told))]
+    #[tactic(auto, unfolding(crate::specs::Reading::point_at))]
     #[inline(always)]
     pub fn end_of_point(self, bytes: &[u8]) -> Result<usize, Cause>
         ensures answer { EndsAt (point_item self) (point_at self) bytes.now result }
@@ -328,7 +328,7 @@ impl Layout {
     }
 
     /// How many coordinates the line string at the start of the bytes has, and where it ends.
-    #[tactic(auto, unfolding(crate::specs::Reading::line_string_told))]
+    #[tactic(auto, unfolding(crate::specs::Reading::line_string_at))]
     #[inline(always)]
     pub fn end_of_line_string(self, bytes: &[u8]) -> Result<(u32, usize), Cause>
         ensures answer { EndsWith (line_string_item self) (line_string_at self) bytes.now result }
@@ -350,7 +350,7 @@ impl Layout {
 
     /// How many coordinates the ring at the start of the bytes has, and where it ends. It is in a polygon of this
     /// layout.
-    #[tactic(auto, unfolding(crate::specs::Reading::ring_told))]
+    #[tactic(auto, unfolding(crate::specs::Reading::ring_at))]
     #[inline(always)]
     pub fn end_of_ring(self, bytes: &[u8]) -> Result<(u32, usize), Cause>
         ensures answer { EndsWith (λ ring. ring) (ring_part self) bytes.now result }
@@ -374,13 +374,13 @@ impl Layout {
 
     /// How many points the multi point at the start of the bytes has, if the bytes are as many as these take. The
     /// points aren't looked at.
-    #[tactic(auto, unfolding(crate::specs::Reading::multi_point_told))]
+    #[tactic(auto, unfolding(crate::specs::Reading::multi_point_at))]
     #[inline(always)]
     pub fn count_of_points(self, bytes: &[u8]) -> Result<u32, Cause>
         ensures answer { points_counted self bytes.now ≡ result }
         ensures counted { IfOk result (λ n. n ≡ count_in self bytes.now) }
         ensures whole { IfOk result (HoldPoints self bytes.now) }
-        ensures refused { IfErr result (λ cause. multi_point_at self bytes.now ≡ refused cause) }
+        ensures refused { IfErr result (λ cause. multi_point_at self bytes.now ≡ refused bytes.now cause) }
     {
         let count = self.count(bytes)?;
         let start = self.header_length() + COUNT_SIZE;

@@ -29,7 +29,7 @@ pub record ItemIs (room : ℕ) (w : Wanted) (input : List ℕ) (i : Item) (rest 
 
 abbrev pub IsRight : ℕ → Wanted → List ℕ → Reading Item → Type 0
 IsRight room w input (cost, Ok x) = ItemIs room w input x.0 x.1 cost
-IsRight room w input (cost, Err cause) = Refuses room w input cause cost.turns cost.slots
+IsRight room w input (cost, Err r) = Refuses room w input r.cause cost.turns cost.slots
 
 -- what was read is a front
 abbrev pub item_front : {room : ℕ} {w : Wanted} {input : List ℕ} {i : Item} {rest : List ℕ} {cost : Cost}

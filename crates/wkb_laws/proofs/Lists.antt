@@ -7,8 +7,7 @@ use Rattle.wkb_laws.specs.Prelude.{Values, no_members, member, Value, each, coun
 use Rattle.wkb_laws.specs.Prelude.{ShortMultiPoint, Wanted, any, part, multi_point_end, Item, collection_with}
 use Rattle.wkb_laws.specs.Prelude.{list_item, multi_line_string_with, multi_point_with, multi_polygon_with, parts_body}
 use Rattle.wkb_laws.specs.Prelude.{refused}
-use Rattle.wkb_geom.specs.Reading.{ReadingOf}
-use Rattle.wkb_geom.specs.declared.error.Cause.{Cause}
+use Rattle.wkb_geom.specs.Reading.{Reading}
 
 -- what follows for one follows for all
 pub all_imply : {A : Type 0} (P Q : A → Type 0) → ((a : A) → P a → Q a) → (l : List A) → AllByRecursion P l
@@ -55,9 +54,8 @@ whole_by k =
     else collection_with
 
 -- what comes after the count of a list of members
-abbrev pub list_behind_told : {F : Type 0} → (List ℕ → Cause → F) → ℕ → Layout → (List ℕ → ReadingOf F Item) → List ℕ
-    → ℕ → ReadingOf F Item
-list_behind_told told k l part_at input n =
+abbrev pub list_behind : ℕ → Layout → (List ℕ → Reading Item) → List ℕ → ℕ → Reading Item
+list_behind k l part_at input n =
     let end = multi_point_end l.dimension l.has_srid n in
-    if (k == 4) && nat_lt (length input) end then refused (told input (general (ShortMultiPoint end (length input))))
+    if (k == 4) && nat_lt (length input) end then refused input (general (ShortMultiPoint end (length input)))
     else parts_body k l part_at (list_item l (whole_by k)) input n

@@ -4,7 +4,6 @@ use Rattle.wkb_laws.specs.Prelude.{Value, nest, Spelling, Spells, any, Item, geo
 use Rattle.wkb_geom.specs.Reading as reading
 use Rattle.wkb_laws.specs.Laws.{HasOneFront}
 use Rattle.wkb_laws.proofs.Complete.{found, front_at}
-use Rattle.wkb_geom.specs.Reading.{cause_alone}
 
 -- two readings of a geometry are one
 pub record SameSpelling (s u : Spelling) (t v : Value) (x y r q : List ℕ) : Type 0 where
@@ -17,10 +16,10 @@ pub one_spelling : (s u : Spelling) (t v : Value) (x y r q : List ℕ) → Spell
     → SameSpelling s u t v x y r q
 one_spelling s u t v x y r q a b e =
     let room = max (nest t) (nest v) in
-    let both : found cause_alone s t x r ≡ found cause_alone u v y q =
-    sym (front_at cause_alone room any tt s t x r a (omega arith) tt) ∙ ap (geometry_at room) e
-    ∙ front_at cause_alone room any tt u v y q b (omega arith) tt in
-    let answers : ◌≡◌ {A = reading.Outcome Item} (found cause_alone s t x r).1 (found cause_alone u v y q).1 =
+    let both : found s t x r ≡ found u v y q =
+    sym (front_at room any tt s t x r a (omega arith) tt) ∙ ap (geometry_at room) e
+    ∙ front_at room any tt u v y q b (omega arith) tt in
+    let answers : ◌≡◌ {A = reading.Outcome Item} (found s t x r).1 (found u v y q).1 =
     ap (λ z. z.1) both in
     let item : ◌≡◌ {A = Item × List ℕ} (record { encoding = x; spelled = s; value = t }, r)
     (record { encoding = y; spelled = u; value = v }, q) = cc in

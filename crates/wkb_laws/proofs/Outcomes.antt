@@ -1,9 +1,9 @@
 -- Every input has a front or exactly one refusal, and never both.
-use Rattle.std.proofs.Common.{◌≡◌, ℕ, suc, ◌+◌, ◌≤◌, List, ◌++◌, refl, sym, ap, ◌∙◌, arith, inl, inr, Ok, Err}
+use Rattle.std.proofs.Common.{◌≡◌, ℕ, suc, ◌+◌, ◌≤◌, List, ◌++◌, refl, sym, ap, ◌∙◌, arith, inl, inr, None, Some}
 use Rattle.wkb_laws.specs.Prelude.{Values, no_members, member, count, nest_each, member_count_each, Spellings}
 use Rattle.wkb_laws.specs.Prelude.{no_spellings, spelling, Wanted, any, SpellsEach, Cause, room_inside, Refuses}
-use Rattle.wkb_laws.specs.Prelude.{bad_member, RefusesEach, this_member, later_member, Item, max_nesting}
-use Rattle.wkb_geom.specs.Reading as reading
+use Rattle.wkb_laws.specs.Prelude.{bad_member, RefusesEach, this_member, later_member, max_nesting}
+use Rattle.wkb_geom.specs.Reading.{cause_of}
 use Rattle.wkb_laws.specs.Laws.{ReadOrRefused, NeverBoth, OneRefusal, listed_inside, RefusedOutward}
 use Rattle.wkb_laws.proofs.Parts.{then_append}
 use Rattle.wkb_laws.proofs.Bodies.{refused_each}
@@ -20,14 +20,13 @@ read_or_refused_lem input = elim (any_has max_nesting input) [
 pub never_both_lem : NeverBoth
 never_both_lem input s t rest cause turns slots f r =
     let both = sym (front_is_read_lem input s t rest f) ∙ refusal_is_read_lem input cause turns slots r in
-    let answers : ◌≡◌ {A = reading.Outcome Item} (Ok (record { encoding = f.front; spelled = s; value = t }, rest))
-    (Err cause) = ap (λ z. z.1) both in
+    let causes : None ≡ Some cause = ap (λ z. cause_of z.1) both in
     cc
 
 pub one_refusal_lem : OneRefusal
 one_refusal_lem input cause other turns turns' slots slots' r q =
     let same = sym (refusal_is_read_lem input cause turns slots r) ∙ refusal_is_read_lem input other turns' slots' q in
-    let answers : ◌≡◌ {A = reading.Outcome Item} (Err cause) (Err other) = ap (λ z. z.1) same in
+    let causes : Some cause ≡ Some other = ap (λ z. cause_of z.1) same in
     (cc, ap (λ z. z.0.turns) same, ap (λ z. z.0.slots) same)
 
 -- a rejected member after some that are spelled

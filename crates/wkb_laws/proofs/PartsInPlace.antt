@@ -19,7 +19,6 @@ use Rattle.wkb_laws.proofs.Lengths.{each_length, coordinates_length}
 use Rattle.wkb_laws.proofs.Complete.{ring_read}
 use Rattle.wkb_laws.proofs.OneEncoding.{Fixed, coordinates_fixed, spells_fixed}
 use Rattle.wkb_laws.proofs.Spelled.{first_length}
-use Rattle.wkb_geom.specs.Reading.{cause_alone}
 
 -- a header and a count
 head_len : (g : Header) (k : ℕ) (d : Dimension) (header count : List ℕ) → IsHeader g k d header → length count ≡ 4
@@ -66,7 +65,7 @@ each_at P (b ∷ l) (suc j) a bytes h is =
 pub words_lem : WordsStand
 words_lem order d cs bytes rest i n w h is =
     let x = bytes ++ rest in
-    let read = ring_read cause_alone order d cs bytes rest h in
+    let read = ring_read order d cs bytes rest h in
     let size = 8 * width d in
     let coordinate_is =
     item_at size (coordinate order d) _ i (drop 4 x) is.coordinate

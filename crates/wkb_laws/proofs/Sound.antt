@@ -6,7 +6,6 @@ use Rattle.wkb_laws.specs.Prelude.{type_kind, layout_of, geometry_at, is_member}
 use Rattle.wkb_geom.specs.declared.code.WkbType.TheVariants as kinds
 use Rattle.wkb_laws.proofs.Heads.{IsRight, Opened, head_says, passes, is_passed, HasPart, item_front}
 use Rattle.wkb_laws.proofs.Complete.{front_read, refusal_read}
-use Rattle.wkb_geom.specs.Reading.{cause_alone}
 use Rattle.wkb_laws.proofs.Bodies.{point_has, line_string_has, polygon_has, list_has}
 
 -- a geometry of any kind is allowed, a collection where there is room
@@ -63,6 +62,6 @@ pub geometry_says : (room : ℕ) (input : List ℕ) → IsRight room any input (
 geometry_says room input = elim (any_has room input) [
   | inl h ↦
       subst (IsRight room any input)
-      (sym (front_read cause_alone room any tt input h.0.spelled h.0.value h.1 (item_front h.2) tt)) h.2
-  | inr r ↦ subst (IsRight room any input) (sym (refusal_read cause_alone r.3 tt)) r.3
+      (sym (front_read room any tt input h.0.spelled h.0.value h.1 (item_front h.2) tt)) h.2
+  | inr r ↦ subst (IsRight room any input) (sym (refusal_read r.3 tt)) r.3
 ]

@@ -14,12 +14,11 @@ use Rattle.wkb_laws.proofs.Lengths.{spelled_length}
 use Rattle.wkb_laws.proofs.Heads.{IsRight}
 use Rattle.wkb_laws.proofs.Sound.{geometry_says}
 use Rattle.wkb_laws.proofs.Complete.{found, front_at}
-use Rattle.wkb_geom.specs.Reading.{cause_alone}
 
 -- what is read of bytes that spell this value spells it in full
 full_by : (s : Spelling) (t : Value) (bytes : List ℕ) (r : Reading Item) → IsRight (nest t) any bytes r
     → ∥ Spells s t bytes ∥₁
-    → (Spells s t bytes → r ≡ found cause_alone s t bytes []) → Spells s t bytes
+    → (Spells s t bytes → r ≡ found s t bytes []) → Spells s t bytes
 full_by s t bytes (cost, Ok x) right spelled read =
     let item : Item = record { encoding = bytes; spelled = s; value = t } in
     let same : x.0 ≡ item = ∥∥₁_elim spelled (Coded-set item_code x.0 item) (λ h.
@@ -27,8 +26,8 @@ full_by s t bytes (cost, Ok x) right spelled read =
     let one : ◌≡◌ {A = Item × List ℕ} x (item, []) = cc in
     ap (λ z. z.0) one) in
     subst (λ (i : Item). Spells i.spelled i.value i.encoding) same right.spelled
-full_by s t bytes (cost, Err cause) right spelled read = absurd (∥∥₁_elim spelled (hlevel props) (λ h.
-    let answers : ◌≡◌ {A = reading.Outcome Item} (Err cause)
+full_by s t bytes (cost, Err e) right spelled read = absurd (∥∥₁_elim spelled (hlevel props) (λ h.
+    let answers : ◌≡◌ {A = reading.Outcome Item} (Err e)
     (Ok (record { encoding = bytes; spelled = s; value = t }, [])) = ap (λ z. z.1) (read h) in
     absurd cc))
 
@@ -36,7 +35,7 @@ pub in_full_lem : SpelledInFull
 in_full_lem s t bytes spelled =
     full_by s t bytes (geometry_at (nest t) bytes) (geometry_says (nest t) bytes) spelled (λ h.
     ap (geometry_at (nest t)) (sym (append-nil bytes))
-    ∙ front_at cause_alone (nest t) any tt s t bytes [] h (omega arith) tt)
+    ∙ front_at (nest t) any tt s t bytes [] h (omega arith) tt)
 
 -- ---- by how many bytes
 

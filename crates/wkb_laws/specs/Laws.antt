@@ -1,17 +1,14 @@
 -- The lemmas, as statements.
 use Rattle.std.proofs.Common.{Some, Ok, Err, ◌≡◌, ◌↔◌, ◌⊎◌, ℕ, suc, ◌+◌, ◌*◌, ◌-◌, ◌≤◌, ◌<◌, List, [], ◌++◌, length}
-use Rattle.std.proofs.Common.{None, Bool, ◌^◌, is_some, if◌then◌else◌}
-use Rattle.std.proofs.Common.{Option}
+use Rattle.std.proofs.Common.{None, Bool, ◌^◌, is_some, if◌then◌else◌, Option}
 use Rattle.wkb_laws.specs.Prelude.{Endianness, Dimension, Form, Iso, Ewkb, AreBytes, Value, Values, no_members, member}
-use Rattle.wkb_laws.specs.Prelude.{count, nest, nest_each, member_count}
-use Rattle.wkb_laws.specs.Prelude.{member_count_each, listed_count, Spelling, Spellings, Spells, SpellsEach, Wanted}
-use Rattle.wkb_laws.specs.Prelude.{any, srid_count, header, Front, max_nesting}
+use Rattle.wkb_laws.specs.Prelude.{count, nest, nest_each, member_count, member_count_each, listed_count, Spelling}
+use Rattle.wkb_laws.specs.Prelude.{Spellings, Spells, SpellsEach, Wanted, any, srid_count, header, Front, max_nesting}
 use Rattle.wkb_laws.specs.Prelude.{ShortPoint, ShortLineString, ShortLinearRing, ShortMultiPoint, Cause, end_of_input}
-use Rattle.wkb_laws.specs.Prelude.{general, slots_asked, OpensCounted, Refuses}
-use Rattle.wkb_laws.specs.Prelude.{named, as_dimensions, Geometry, IsGeometry, normal, geometry_of, byte_size, encoding}
-use Rattle.wkb_laws.specs.Prelude.{fault}
-use Rattle.wkb_laws.specs.Prelude.{size_fault, refusal, form_srid, IsForm}
-use Rattle.wkb_laws.specs.Prelude.{IsWritable, IsRewriting, IsRewritingWithSrid, Reading, Item, geometry_at}
+use Rattle.wkb_laws.specs.Prelude.{general, slots_asked, OpensCounted, Refuses, named, as_dimensions, Geometry}
+use Rattle.wkb_laws.specs.Prelude.{IsGeometry, normal, geometry_of, byte_size, encoding, fault, size_fault, refusal}
+use Rattle.wkb_laws.specs.Prelude.{form_srid, IsForm, IsWritable, IsRewriting, IsRewritingWithSrid, Reading, rejection}
+use Rattle.wkb_laws.specs.Prelude.{Item, geometry_at, left_in}
 use Rattle.wkb_laws.specs.Written.{HasOptions}
 
 -- The bytes, the spelling, the value and the rest of a front are settled by the input.
@@ -94,7 +91,7 @@ abbrev pub Agrees : List ℕ → Reading Item → Type 0
 Agrees input (cost, Ok x) =
     (f : Front input x.0.spelled x.0.value x.1) × (cost.turns ≡ member_count x.0.value)
     × (cost.slots ≡ listed_count x.0.value) × (f.front ≡ x.0.encoding)
-Agrees input (cost, Err cause) = Refuses max_nesting any input cause cost.turns cost.slots
+Agrees input (cost, Err r) = Refuses max_nesting any input r.cause cost.turns cost.slots
 
 -- What reading from left to right gives is so for every input.
 abbrev pub GeometryAgrees : Type 0
@@ -109,10 +106,10 @@ FrontIsRead = (input : List ℕ) (s : Spelling) (t : Value) (rest : List ℕ) �
       Ok (record { encoding = f.front; spelled = s; value = t }, rest),
     )
 
--- A refusal is what reading gives.
+-- A refusal is what reading gives, with the bytes from the rejected part on.
 abbrev pub RefusalIsRead : Type 0
-RefusalIsRead = (input : List ℕ) (cause : Cause) (turns slots : ℕ) → Refuses max_nesting any input cause turns slots
-    → geometry_at max_nesting input ≡ (record { turns = turns; slots = slots }, Err cause)
+RefusalIsRead = (input : List ℕ) (cause : Cause) (turns slots : ℕ) → (r : Refuses max_nesting any input cause turns slots)
+    → geometry_at max_nesting input ≡ (record { turns = turns; slots = slots }, Err (rejection (left_in r) cause))
 
 -- A front's members, and the entries of their lists, are bounded by the input's length.
 abbrev pub FrontIsBounded : Type 0

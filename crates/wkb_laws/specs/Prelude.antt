@@ -4,12 +4,10 @@ pub use Rattle.wkb_geom.specs.declared.common.{Endianness.TheVariants.LittleEndi
 pub use Rattle.wkb_geom.specs.declared.common.{Dimension.Dimension, Dimensions.Dimensions, Form.Form}
 pub use Rattle.wkb_geom.specs.declared.common.{Form.TheVariants.Iso, Form.TheVariants.Ewkb}
 pub use Rattle.wkb_geom.specs.declared.common.Dimension.TheVariants.{Xy, Xyz, Xym, Xyzm}
-pub use Rattle.wkb_geom.specs.declared.{code.WkbType.WkbType, header.Head.Head, header.Layout.Layout}
-pub use Rattle.wkb_geom.specs.declared.{error.Cause.Cause}
+pub use Rattle.wkb_geom.specs.declared.{code.WkbType.WkbType, header.Head.Head, header.Layout.Layout, error.Cause.Cause}
 pub use Rattle.wkb_geom.specs.declared.error.Cause.TheVariants.{EndOfInput as end_of_input, General as general}
 pub use Rattle.wkb_geom.specs.declared.error.Cause.TheVariants.{IncorrectType as incorrect_type}
-pub use Rattle.wkb_geom.specs.declared.error.General.TheVariants.{InvalidByteOrder, ShortPoint}
-pub use Rattle.wkb_geom.specs.declared.error.General.TheVariants.{ShortLineString}
+pub use Rattle.wkb_geom.specs.declared.error.General.TheVariants.{InvalidByteOrder, ShortPoint, ShortLineString}
 pub use Rattle.wkb_geom.specs.declared.error.General.TheVariants.{ShortLinearRing, ShortMultiPoint}
 pub use Rattle.wkb_geom.specs.Numbers.{AreBytes, IsNumber, IsWord, order_byte, all_nan, empty_word}
 unfoldable pub use Rattle.wkb_geom.specs.Numbers.{number, number_bytes}
@@ -17,9 +15,8 @@ pub use Rattle.wkb_geom.specs.Dimensions.{width, size, named, as_dimensions, wri
 pub use Rattle.wkb_geom.specs.Codes.{Code, thousands}
 pub use Rattle.wkb_geom.specs.Grammar.{Then, Begins, IsEach, IsCounted}
 pub use Rattle.wkb_geom.specs.Values.{Coordinate, Value, point, line_string, polygon, multi_point, multi_line_string}
-pub use Rattle.wkb_geom.specs.Values.{multi_polygon, collection, Values}
-pub use Rattle.wkb_geom.specs.Values.{no_members, member, kind, dimension, members, each, count, nest, nest_each}
-pub use Rattle.wkb_geom.specs.Values.{member_count, member_count_each, listed_count}
+pub use Rattle.wkb_geom.specs.Values.{multi_polygon, collection, Values, no_members, member, kind, dimension, members}
+pub use Rattle.wkb_geom.specs.Values.{each, count, nest, nest_each, member_count, member_count_each, listed_count}
 pub use Rattle.wkb_geom.specs.Values.{listed_count_each, IsValueCoordinate, IsValuePoint, AreValueCoordinates, IsValue}
 pub use Rattle.wkb_geom.specs.Values.{AreValues}
 pub use Rattle.wkb_geom.specs.Spellings.{Header, header, has_srid, Spelling, node, Spellings, no_spellings, spelling}
@@ -28,43 +25,34 @@ pub use Rattle.wkb_geom.specs.Spellings.{IsSrid, SpellsCoordinate, SpellsCoordin
 pub use Rattle.wkb_geom.specs.Spellings.{Wanted, any, part, member_part, IsPart}
 pub use Rattle.wkb_geom.specs.Fronts.{Front, FrontWithin, max_nesting}
 pub use Rattle.wkb_geom.specs.Refusals.{srid_size, point_end, line_string_end, multi_point_end, ring_end, slots_asked}
-pub use Rattle.wkb_geom.specs.Refusals.{room_inside, Opens, IsAllowed, OpensCounted}
-pub use Rattle.wkb_geom.specs.Refusals.{RefusesRings, no_ring_count, short_ring, later_ring, Refuses, no_order_byte}
-pub use Rattle.wkb_geom.specs.Refusals.{bad_order_byte, no_code, bad_code}
-pub use Rattle.wkb_geom.specs.Refusals.{wrong_part, too_deep, short_point, no_count, short_line_string}
-pub use Rattle.wkb_geom.specs.Refusals.{short_multi_point, bad_ring, bad_member, RefusesEach}
+pub use Rattle.wkb_geom.specs.Refusals.{room_inside, Opens, IsAllowed, OpensCounted, left_in, RefusesRings}
+pub use Rattle.wkb_geom.specs.Refusals.{no_ring_count, short_ring, later_ring, Refuses, no_order_byte, bad_order_byte}
+pub use Rattle.wkb_geom.specs.Refusals.{no_code, bad_code, wrong_part, too_deep, short_point, no_count}
+pub use Rattle.wkb_geom.specs.Refusals.{short_line_string, short_multi_point, bad_ring, bad_member, RefusesEach}
 pub use Rattle.wkb_geom.specs.Refusals.{this_member, later_member}
 pub use Rattle.wkb_geom.specs.Geometries.{Geometry, Geometries, no_geometries, geometry, IsGeometry, AreGeometries}
-pub use Rattle.wkb_geom.specs.Geometries.{normal, normal_each, normal_point}
-pub use Rattle.wkb_geom.specs.Geometries.{geometry_of, geometries_of, rectangle_ring, triangle_ring, line, rectangle}
-pub use Rattle.wkb_geom.specs.Geometries.{triangle}
+pub use Rattle.wkb_geom.specs.Geometries.{normal, normal_each, normal_point, geometry_of, geometries_of, rectangle_ring}
+pub use Rattle.wkb_geom.specs.Geometries.{triangle_ring, line, rectangle, triangle}
 pub use Rattle.wkb_geom.specs.Encodings.{encoding, encodings, form_srid, inner, count_geometries, IsForm, IsWritable}
-pub use Rattle.wkb_geom.specs.Encodings.{IsRewriting}
-pub use Rattle.wkb_geom.specs.Encodings.{IsRewritingWithSrid, fault}
-pub use Rattle.wkb_geom.specs.Encodings.{fault_each, coordinates_fault, rings_fault, refusal}
+pub use Rattle.wkb_geom.specs.Encodings.{IsRewriting, IsRewritingWithSrid, fault, fault_each, coordinates_fault}
+pub use Rattle.wkb_geom.specs.Encodings.{rings_fault, refusal}
 unfoldable pub use Rattle.wkb_geom.specs.Encodings.{code_of, or_else, dimensions_fault, count_fault, first_fault}
 unfoldable pub use Rattle.wkb_geom.specs.Encodings.{size_fault, point_words, srid_encoding, header_encoding}
 unfoldable pub use
     Rattle.wkb_geom.specs.Encodings.{words_encoding, coordinates_encoding, point_encoding, line_string_encoding}
 unfoldable pub use Rattle.wkb_geom.specs.Encodings.{polygon_encoding, members_encoding}
-pub use Rattle.wkb_geom.specs.Reading.{Cost, Reading, Item, type_kind, type_dimension, type_of, layout_of, laid, free}
-pub use Rattle.wkb_geom.specs.Reading.{body_start, parts_start, count_in, head_by_code}
-pub use Rattle.wkb_geom.specs.Reading.{ring_part, at_no_cost, list_item, polygon_item, spellings, values, and_then}
-pub use Rattle.wkb_geom.specs.Reading.{costs, done, line_string_of, one_turn}
-pub use Rattle.wkb_geom.specs.Reading.{point_of}
-pub use Rattle.wkb_geom.specs.Reading.{polygon_of, slots_of, spelled_in, consumed, with_count, ◌⊕◌, body_at}
-pub use Rattle.wkb_geom.specs.Reading.{collection_within, parts_body, coordinate}
-pub use Rattle.wkb_geom.specs.Reading.{coordinates, ring_in, items, line_string_body, line_string_item, point_item}
-pub use Rattle.wkb_geom.specs.Reading.{point_item_of, srid_in}
-pub use Rattle.wkb_geom.specs.Reading.{head_by_order, meaning, then_body, member_body, layout_wanted, is_member}
-pub use Rattle.wkb_geom.specs.Reading.{member_at, refused, collection_with}
-pub use Rattle.wkb_geom.specs.Reading.{multi_line_string_with, multi_point_with, multi_polygon_with}
-unfoldable pub use Rattle.wkb_geom.specs.Reading.{repeated, geometry_told, point_told, ring_told, collection_told}
-pub use Rattle.wkb_geom.specs.Reading.{geometry_at, point_at, ring_at, collection_at}
-unfoldable pub use Rattle.wkb_geom.specs.Reading.{line_string_told, multi_line_string_told, multi_point_told}
-pub use Rattle.wkb_geom.specs.Reading.{line_string_at, multi_line_string_at, multi_point_at}
-unfoldable pub use Rattle.wkb_geom.specs.Reading.{head_at, meaning_of, multi_polygon_told, polygon_told, by_type_told}
-pub use Rattle.wkb_geom.specs.Reading.{multi_polygon_at, polygon_at, by_type}
+pub use Rattle.wkb_geom.specs.Reading.{Cost, Reading, rejection, Item, type_kind, type_dimension, type_of, layout_of}
+pub use Rattle.wkb_geom.specs.Reading.{laid, free, body_start, parts_start, count_in, head_by_code, ring_part}
+pub use Rattle.wkb_geom.specs.Reading.{at_no_cost, list_item, polygon_item, spellings, values, and_then, costs, done}
+pub use Rattle.wkb_geom.specs.Reading.{line_string_of, one_turn, point_of, polygon_of, slots_of, spelled_in, consumed}
+pub use Rattle.wkb_geom.specs.Reading.{with_count, ◌⊕◌, body_at, collection_within, parts_body, coordinate, coordinates}
+pub use Rattle.wkb_geom.specs.Reading.{ring_in, items, line_string_body, line_string_item, point_item, point_item_of}
+pub use Rattle.wkb_geom.specs.Reading.{srid_in, head_by_order, meaning, then_body, member_body, layout_wanted}
+pub use Rattle.wkb_geom.specs.Reading.{is_member, member_at, refused, collection_with, multi_line_string_with}
+pub use Rattle.wkb_geom.specs.Reading.{multi_point_with, multi_polygon_with}
+unfoldable pub use Rattle.wkb_geom.specs.Reading.{repeated, geometry_at, point_at, ring_at, collection_at}
+unfoldable pub use Rattle.wkb_geom.specs.Reading.{line_string_at, multi_line_string_at, multi_point_at}
+unfoldable pub use Rattle.wkb_geom.specs.Reading.{head_at, meaning_of, multi_polygon_at, polygon_at, by_type}
 pub use Rattle.wkb_geom.specs.Sizes.{byte_size, byte_sizes}
 pub use Rattle.wkb_geom.specs.Items.{length-items}
 pub use Rattle.wkb_geom.specs.declared.error.Fault.{Fault}

@@ -1,19 +1,19 @@
 -- Geometries by their headers and kinds.
 use Rattle.wkb_read.specs.Prelude.refusals
-use Rattle.wkb_read.proofs.Prelude.{any, max_nesting, ◌≡◌, ◌-◌, ℕ, List, Result, Ok, Err, refl, sym, ap}
-use Rattle.wkb_read.proofs.Prelude.{◌∙◌, subst, arith, WkbType, Layout, layout_of, collection_within, then_body, Cause}
-use Rattle.wkb_read.proofs.Prelude.{Head, Item, Outcome, Reading, free, costs, done, at_no_cost}
-use Rattle.wkb_read.proofs.Prelude.{head_at, body_at, geometry_at, Counts, Spent, Stops}
+use Rattle.wkb_read.proofs.Prelude.{any, max_nesting, ◌≡◌, ◌-◌, ℕ, List, Result, Ok, Err, sym, ap, ◌∙◌, subst}
+use Rattle.wkb_read.proofs.Prelude.{arith, WkbType, Layout, layout_of, collection_within, then_body, Cause, Head, Item}
+use Rattle.wkb_read.proofs.Prelude.{Outcome, Reading, costs, done, at_no_cost, head_at, body_at, Counts, Stops}
 use Rattle.wkb_read.proofs.Prelude.{geometry_inside, cost_of, Refusal, BeginsAs}
 use Rattle.std.specs.Prelude.{IsErrAnd}
 use Rattle.wkb_read.specs.declared.read.stack.Begun.{Begun}
 use Rattle.wkb_laws.proofs.Heads.{OpensAs, head_says}
-unfoldable use Rattle.wkb_geom.specs.Reading.{by_type_told, geometry_told}
+use Rattle.wkb_view.proofs.Lists.{refused_stops}
+unfoldable use Rattle.wkb_geom.specs.Reading.{by_type, geometry_at}
 
 geometry_is : (levels : ℕ) (bytes : List ℕ)
     → geometry_at levels bytes
-    ≡ then_body (head_at bytes) (λ h. body_at (collection_within levels) h.wkb_type (layout_of h) bytes)
-unfolding geometry_told by_type_told
+    ≡ then_body bytes (head_at bytes) (λ h. body_at (collection_within levels) h.wkb_type (layout_of h) bytes)
+unfolding geometry_at by_type
 geometry_is levels bytes = grind arith
 
 -- the reading of what follows a header, inside this number of open collections
@@ -31,21 +31,11 @@ pub by_header : (depth : ℕ) (bytes : List ℕ) (h : Head) (t : WkbType) (l : L
     → geometry_inside depth bytes ≡ body_at (collection_within (max_nesting - depth)) t l bytes
 by_header depth bytes h t l e is laid = grind (arith, behind_header)
 
--- what fails at no cost stops there
-nothing_spent : (c : Counts) → Spent c c free
-nothing_spent c = record { turns = omega arith; slots = omega arith }
-
-pub stops_at_no_cost : {A : Type 0} (cause : Cause) (r : Outcome A) (c : Counts) → r ≡ Err cause
-    → Stops (refusals.Cause cause) (at_no_cost r) c c
-stops_at_no_cost cause r c h = (h, nothing_spent c)
-
 pub stops_without_header : (cause : Cause) (depth : ℕ) (bytes : List ℕ) (c : Counts) → head_at bytes ≡ Err cause
     → Stops (refusals.Cause cause) (geometry_inside depth bytes) c c
 stops_without_header cause depth bytes c h =
-    let none =
-    geometry_is (max_nesting - depth) bytes
-    ∙ ap (λ (r : Result Head Cause). then_body r (λ g. body_inside depth g bytes)) h in
-    subst (λ (r : Reading Item). Stops (refusals.Cause cause) r c c) (sym none) (refl, nothing_spent c)
+    refused_stops _ bytes cause c (geometry_is (max_nesting - depth) bytes
+    ∙ ap (λ (r : Result Head Cause). then_body bytes r (λ g. body_inside depth g bytes)) h)
 
 -- an error that `?` hands on, by the reading that stops
 pub hands_on : (depth : ℕ) (bytes : List ℕ) (r : Result Begun Refusal) (refusal : Refusal) (read : Reading Item)

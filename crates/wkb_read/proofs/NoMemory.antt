@@ -1,21 +1,20 @@
 -- Inputs that take no memory, by their headers.
-use Rattle.wkb_read.proofs.Prelude.{◌≡◌, ℕ, ◌+◌, Bool, false, ltb, List, length, drop, Ok, Err, refl}
-use Rattle.wkb_read.proofs.Prelude.{subst, arith, WkbType, Endianness, Layout, max_nesting, Item, Reading, and_then}
-use Rattle.wkb_read.proofs.Prelude.{head_at, type_kind, type_dimension, laid, body_start, count_in, parts_start}
-use Rattle.wkb_read.proofs.Prelude.{repeated, collection_at, geometry_at, Agrees, geometry_agrees_lem, HasNoMembers}
-use Rattle.wkb_read.proofs.Prelude.{TypeTakesNone, ReadsWithoutMemory, AsksForNone, BeginsNone, KindTakesNone}
-use Rattle.wkb_read.proofs.Prelude.{TakesNoMemory, closing}
+use Rattle.wkb_read.proofs.Prelude.{◌≡◌, ℕ, ◌+◌, Bool, false, ltb, List, length, drop, Ok, Err, refl, subst, arith}
+use Rattle.wkb_read.proofs.Prelude.{WkbType, Endianness, Layout, max_nesting, Item, Reading, and_then, head_at}
+use Rattle.wkb_read.proofs.Prelude.{type_kind, type_dimension, laid, body_start, count_in, parts_start, repeated}
+use Rattle.wkb_read.proofs.Prelude.{geometry_at, Agrees, geometry_agrees_lem, HasNoMembers, TypeTakesNone}
+use Rattle.wkb_read.proofs.Prelude.{ReadsWithoutMemory, AsksForNone, BeginsNone, KindTakesNone, TakesNoMemory, closing}
 use Rattle.std.proofs.lemmas.Bool.{le-ltb}
 use Rattle.wkb_view.specs.Entries.{entries_asked}
 use Rattle.wkb_geom.specs.declared.code.WkbType.TheVariants as kinds
 use Rattle.wkb_view.proofs.Algebra.{and_then-least}
 use Rattle.wkb_read.proofs.Bodies.{behind_header, head_opens}
-unfoldable use Rattle.wkb_geom.specs.Reading.{collection_told}
+unfoldable use Rattle.wkb_geom.specs.Reading.{collection_at}
 
 -- what asks for no entry costs none
 asked_by : (buf : List ℕ) (r : Reading Item) → AsksForNone buf → Agrees buf r → r.0.slots ≡ 0
 asked_by buf (c, Ok x) none h = omega (arith, h.2, none.front x.0.spelled x.0.value x.1 h.0)
-asked_by buf (c, Err f) none h = none.refusal f c.turns c.slots h
+asked_by buf (c, Err e) none h = none.refusal e.cause c.turns c.slots h
 
 asked : (buf : List ℕ) (r : Reading Item) → AsksForNone buf → geometry_at max_nesting buf ≡ r → r.0.slots ≡ 0
 asked buf r none e = asked_by buf r none (subst (Agrees buf) e (geometry_agrees_lem buf))
@@ -23,7 +22,7 @@ asked buf r none e = asked_by buf r none (subst (Agrees buf) e (geometry_agrees_
 -- what begins no part takes no turn
 takes_no_turn_by : (buf : List ℕ) (r : Reading Item) → BeginsNone buf → Agrees buf r → r.0.turns ≡ 0
 takes_no_turn_by buf (c, Ok x) none h = omega (arith, h.1, none.front x.0.spelled x.0.value x.1 h.0)
-takes_no_turn_by buf (c, Err f) none h = none.refusal f c.turns c.slots h
+takes_no_turn_by buf (c, Err e) none h = none.refusal e.cause c.turns c.slots h
 
 takes_no_turn : (buf : List ℕ) (r : Reading Item) → BeginsNone buf → geometry_at max_nesting buf ≡ r → r.0.turns ≡ 0
 takes_no_turn buf r none e = takes_no_turn_by buf r none (subst (Agrees buf) e (geometry_agrees_lem buf))
@@ -37,7 +36,7 @@ no_parts n part bytes end none = grind (arith, (and_then-least (repeated n part 
 -- a collection that takes no turn has no members
 no_members_in : (member : List ℕ → Reading Item) (l : Layout) (bytes : List ℕ)
     → (collection_at member l bytes).0.turns ≡ 0 → HasNoMembers l bytes
-unfolding collection_told
+unfolding collection_at
 no_members_in member l bytes none = λ whole.
     let long : ltb (length bytes) (body_start l.has_srid + 4) ≡ false = le-ltb _ _ whole in
     no_parts (count_in l bytes) member (parts_start l.has_srid bytes) (closing l bytes) (omega (arith, rw long at none))

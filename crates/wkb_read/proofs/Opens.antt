@@ -10,7 +10,7 @@ use Rattle.std.proofs.lemmas.Bool.{le-ltb}
 use Rattle.wkb_view.specs.Entries.{entries_asked}
 use Rattle.wkb_view.proofs.Lists.{parts_length}
 use Rattle.wkb_view.proofs.Algebra.{cost_is, costs-costs, repeated_more, repeated_none}
-unfoldable use Rattle.wkb_geom.specs.Reading.{collection_told}
+unfoldable use Rattle.wkb_geom.specs.Reading.{collection_at}
 
 -- more entries are asked for
 abbrev pub more_slots : Cost → ℕ → Cost
@@ -25,7 +25,7 @@ pub opens : (l : Layout) (bytes : List ℕ) (depth n : ℕ) (spent : Cost) (rest
     → n ≡ number l.order 4 (drop (body_start l.has_srid) bytes) → rest ≡ drop (body_start l.has_srid + 4) bytes
     → r ≡ and_then (repeated n (geometry_inside (suc depth)) rest) (closing l bytes)
     → costs (more_slots spent (entries_asked 9 l bytes)) r ≡ costs spent (collection_inside l depth bytes)
-unfolding collection_told
+unfolding collection_at
 opens l bytes depth n spent rest r shallow whole n-is rest-is r-is =
     let long : ltb (length bytes) (body_start l.has_srid + 4) ≡ false = le-ltb _ _ whole in
     let level : max_nesting - depth ≡ suc (max_nesting - suc depth) = omega arith in

@@ -12,7 +12,7 @@ pub use Rattle.std.proofs.lemmas.List.{drop-drop, length-reverse, reverse-append
 pub use Rattle.std.proofs.Math.Logic.{∥∥₁_elim}
 pub use Rattle.std.proofs.Props.{props}
 pub use Rattle.wkb_geom.specs.declared.common.Endianness.TheVariants.{LittleEndian}
-pub use Rattle.wkb_geom.specs.Reading.{◌⊕◌, slots_of, then_body}
+pub use Rattle.wkb_geom.specs.Reading.{◌⊕◌, slots_of, then_body, cause_of}
 pub use Rattle.wkb_read.specs.Prelude.{WkbType, Endianness, Cause, Refusal, WkbError, Head, Layout, max_nesting}
 pub use Rattle.wkb_read.specs.Prelude.{Geometry, Geometries, geometries, geometry_of, geometries_of, IsGeometry, number}
 pub use Rattle.wkb_read.specs.Prelude.{Item, Cost, free, one_turn, Outcome, Reading, costs, done, list_item}
@@ -21,8 +21,7 @@ pub use Rattle.wkb_read.specs.Prelude.{consumed, body_start, parts_start, type_k
 pub use Rattle.wkb_read.specs.Prelude.{values, spellings, Refuses, any, Listed, Tells, TellsRefusal, Coordinate, Value}
 pub use Rattle.wkb_read.specs.Prelude.{Values, collection, member_count, listed_count, Counts, HasHead, IsCause, Spent}
 pub use Rattle.wkb_read.specs.Prelude.{AtMost, CanCount, Stops, BytesSpell, count_in, cost_of, nest, nest_each}
-unfoldable pub use Rattle.wkb_read.specs.Prelude.{repeated, head_at, by_type_told, geometry_told, collection_told}
-pub use Rattle.wkb_read.specs.Prelude.{by_type, geometry_at, collection_at}
+unfoldable pub use Rattle.wkb_read.specs.Prelude.{repeated, head_at, by_type, geometry_at, collection_at}
 pub use Rattle.wkb_laws.specs.Laws.{Agrees}
 pub use Rattle.wkb_laws.proofs.GeometryAt.{geometry_agrees_lem}
 pub use Rattle.wkb_read.specs.declared.geometry.Wkb.{Wkb}
@@ -33,8 +32,7 @@ pub use Rattle.wkb_read.specs.Places.{joined_encodings, parts_in, closing, Holds
 pub use Rattle.wkb_read.specs.Places.{IsMemberAt}
 pub use Rattle.wkb_geom.specs.Fronts.{HasNoFront}
 pub use Rattle.wkb_read.specs.Reads.{IsFront, IsOnlyFront, IsRefusal, TellsEach, IfRefused, IfMemory, CountsValue}
-pub use Rattle.wkb_read.specs.Reads.{CountsRefusal, CountsAtMost, AsksForNone, BeginsNone, KindTakesNone}
-pub use Rattle.wkb_read.specs.Reads.{TakesNoMemory}
+pub use Rattle.wkb_read.specs.Reads.{CountsRefusal, CountsAtMost, AsksForNone, BeginsNone, KindTakesNone, TakesNoMemory}
 pub use Rattle.wkb_read.specs.Meanings.{geometry_seen, members_seen}
 pub use Rattle.wkb_read.specs.Lawful.{seen_as_it_is}
 pub use Rattle.wkb_read.specs.Stack.{geometry_inside, after_member, in_collection, outward, first_member}

@@ -1,11 +1,10 @@
 -- The result of reading, from what is read from left to right.
 use Rattle.wkb_read.specs.Prelude.refusals
 use Rattle.wkb_read.proofs.Prelude.{◌≡◌, ℕ, ◌+◌, ◌*◌, ◌≤◌, List, length, Result, Ok, Err, ap, ◌∙◌, subst, arith, Cause}
-use Rattle.wkb_read.proofs.Prelude.{Refusal, WkbError, max_nesting, Item, Cost, Reading, geometry_at}
+use Rattle.wkb_read.proofs.Prelude.{Some, cause_of, Refusal, WkbError, max_nesting, Item, Cost, Reading, geometry_at}
 use Rattle.wkb_read.proofs.Prelude.{Refuses, any, Tells, TellsRefusal, Agrees, geometry_agrees_lem, Counts, IsCause}
-use Rattle.wkb_read.proofs.Prelude.{Spent, AtMost, Stops, Wkb, IsNotMemory, IsFront, IsOnlyFront, HasNoFront}
-use Rattle.wkb_read.proofs.Prelude.{IsRefusal, TellsEach, IfRefused, IfMemory, CountsValue, CountsRefusal, CountsAtMost}
-use Rattle.wkb_read.proofs.Prelude.{ReadsAs}
+use Rattle.wkb_read.proofs.Prelude.{Spent, AtMost, Stops, Wkb, IsNotMemory, IsFront, IsOnlyFront, HasNoFront, IsRefusal}
+use Rattle.wkb_read.proofs.Prelude.{TellsEach, IfRefused, IfMemory, CountsValue, CountsRefusal, CountsAtMost, ReadsAs}
 use Rattle.wkb_read.specs.Reads.{TakesNoMemory, Reads, Costs}
 use Rattle.wkb_geom.specs.declared.error.WkbError.TheVariants as errors
 use Rattle.wkb_laws.proofs.GeometryAt.{front_is_read_lem, refusal_is_read_lem, reading_is_bounded_lem}
@@ -82,12 +81,13 @@ told buf e cause new refuses tells = record {
       one_refusal_lem buf cause other new.turns turns new.slots slots refuses q in (one.1, one.2);
 }
 
-refused_by : (buf : List ℕ) (r : Reading Item) → Agrees buf r → (cause : Cause) (new : Counts) → r.1 ≡ Err cause
+refused_by : (buf : List ℕ) (r : Reading Item) → Agrees buf r → (cause : Cause) (new : Counts)
+    → cause_of r.1 ≡ Some cause
     → Spent zero_counts new r.0
     → Refuses max_nesting any buf cause new.turns new.slots
 refused_by buf (c, Ok x) h cause new is spent = absurd cc
-refused_by buf (c, Err f) h cause new is spent =
-    let same : f ≡ cause = cc in
+refused_by buf (c, Err e) h cause new is spent =
+    let same : e.cause ≡ cause = cc in
     let turns : c.turns ≡ new.turns = omega (arith, spent.turns) in
     let slots : c.slots ≡ new.slots = omega (arith, spent.slots) in
     rw (← same, ← turns, ← slots) h

@@ -6,7 +6,7 @@ use Rattle.wkb_read.proofs.Prelude.{costs, done, and_then, consumed, Layout, Byt
 use Rattle.wkb_read.proofs.Prelude.{Counts, AtMost, Wkb, Open, Whole, Opened, IsCollectionIn}
 use Rattle.wkb_read.proofs.Prelude.{closing, list_item, collection_with, geometry_inside, after_member, in_collection}
 use Rattle.wkb_read.proofs.Prelude.{outward, first_member, cost_of, IsOpen, AreOpen, IsFinished, BeginsAs}
-use Rattle.wkb_read.proofs.Prelude.{ReadsAs, Result, ◌<◌, max_nesting, nest, nest_each, values}
+use Rattle.wkb_read.proofs.Prelude.{ReadsAs, cause_of, Result, ◌<◌, max_nesting, nest, nest_each, values}
 use Rattle.std.specs.Prelude.{max}
 use Rattle.wkb_view.specs.Outcome.{next_turn}
 use Rattle.wkb_view.proofs.Algebra.{and_then-costs, and_then-assoc, and_then-same}
@@ -85,7 +85,7 @@ pub reads_on : (result : Result Wkb Refusal) (r whole : Reading Item) (old mid n
 reads_on (Ok w) r whole old mid new e h =
     ((h.0.0, sym (ap (λ (s : Reading Item). s.1) e) ∙ h.0.1), spent_in_all r whole old mid new e h.1)
 reads_on (Err (refusals.Cause cause)) r whole old mid new e h =
-    (sym (ap (λ (s : Reading Item). s.1) e) ∙ h.0, spent_in_all r whole old mid new e h.1)
+    (sym (ap (λ (s : Reading Item). cause_of s.1) e) ∙ h.0, spent_in_all r whole old mid new e h.1)
 reads_on (Err refusals.Memory) r whole old mid new e h = at_most_in_all r whole old mid new e h
 
 -- ---- a part is finished

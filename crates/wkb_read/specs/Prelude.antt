@@ -16,14 +16,10 @@ pub use Rattle.wkb_geom.specs.Geometries.{IsGeometry, AreGeometries}
 pub use Rattle.wkb_geom.specs.Numbers.{number}
 pub use Rattle.wkb_geom.specs.Reading.{Item, Cost, Outcome, Reading, free, one_turn, costs, done, at_no_cost, and_then}
 pub use Rattle.wkb_geom.specs.Reading.{consumed, body_start, count_in, parts_start, type_kind, type_dimension}
-pub use Rattle.wkb_geom.specs.Reading.{layout_of, laid}
-pub use Rattle.wkb_geom.specs.Reading.{list_item, collection_with, collection_within, spelled_in, spellings, values}
-pub use Rattle.wkb_geom.specs.Reading.{too_deep, body_at}
-unfoldable pub use Rattle.wkb_geom.specs.Reading.{head_at, repeated, polygon_told, multi_line_string_told}
-unfoldable pub use Rattle.wkb_geom.specs.Reading.{multi_polygon_told}
-pub use Rattle.wkb_geom.specs.Reading.{polygon_at, multi_line_string_at, multi_polygon_at}
-unfoldable pub use Rattle.wkb_geom.specs.Reading.{collection_told, by_type_told, geometry_told}
-pub use Rattle.wkb_geom.specs.Reading.{collection_at, by_type, geometry_at}
+pub use Rattle.wkb_geom.specs.Reading.{layout_of, laid, list_item, collection_with, collection_within, spelled_in}
+pub use Rattle.wkb_geom.specs.Reading.{spellings, values, too_deep, body_at}
+unfoldable pub use Rattle.wkb_geom.specs.Reading.{head_at, repeated, polygon_at, multi_line_string_at}
+unfoldable pub use Rattle.wkb_geom.specs.Reading.{multi_polygon_at, collection_at, by_type, geometry_at}
 pub use Rattle.wkb_geom.specs.Refusals.{Refuses, Opens}
 pub use Rattle.wkb_geom.specs.Spellings.{Spelling, any}
 pub use Rattle.wkb_geom.specs.Stored.{Listed, whole_of, listed_code, values_code, item_code}

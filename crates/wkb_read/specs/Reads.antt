@@ -1,9 +1,8 @@
 -- What the result of reading says of the input.
-use Rattle.std.specs.Prelude.{◌≡◌, ℕ, ◌+◌, ◌*◌, ◌≤◌, ◌<◌, ◌^◌, List, length, Bool, Result, Ok, Err, IfOk, IfErr}
-use Rattle.wkb_geom.specs.Numbers.{AreBytes}
-use Rattle.wkb_read.specs.Prelude.{Endianness, Dimension, Iso, WkbError, Value, member_count, listed_count, Spelling}
+use Rattle.std.specs.Prelude.{◌≡◌, ℕ, ◌+◌, ◌*◌, ◌≤◌, List, length, Bool, Result, Ok, Err, IfOk, IfErr}
+use Rattle.wkb_read.specs.Prelude.{Endianness, Dimension, WkbError, Value, member_count, listed_count, Spelling}
 use Rattle.wkb_read.specs.Prelude.{any, Front, HasNoFront, max_nesting, Cause, Refuses, Opens, Tells, geometry_of}
-use Rattle.wkb_read.specs.Prelude.{IsWritable, Item, Counts, IsGeometry, normal}
+use Rattle.wkb_read.specs.Prelude.{Item, Counts, IsGeometry, normal}
 use Rattle.wkb_read.specs.Memory.{IsNotMemory}
 use Rattle.wkb_read.specs.Meanings.{geometry_seen}
 pub use Rattle.wkb_view.specs.Lends.{IsFront, CanBeWritten, IsRead, Lends}

@@ -2,7 +2,7 @@
 use Rattle.std.proofs.Common.{◌≡◌, ◌+◌, ◌≤◌, ℕ, suc, List, [], ◌∷◌, Ok, Err, refl, sym, ap, ◌∙◌, add_assoc, zero-add}
 use Rattle.std.proofs.Common.{arith}
 use Rattle.wkb_geom.specs.Reading.{◌⊕◌}
-use Rattle.wkb_view.specs.Prelude.{Cost, free, one_turn, Reading, costs, done, and_then, repeated, Refusal, Cause}
+use Rattle.wkb_view.specs.Prelude.{Cost, free, one_turn, Reading, costs, done, and_then, repeated, Refusal, cause_of}
 use Rattle.wkb_view.specs.Prelude.refusals
 use Rattle.wkb_view.specs.declared.counts.Counts.{Counts}
 use Rattle.wkb_view.specs.Outcome.{Spent, AtMost, CanCount, Stops, next_turn, cost_of}
@@ -110,11 +110,7 @@ pub part_stops : {A B : Type 0} (refusal : Refusal) (r : Reading A) (f : A → L
     → Stops refusal whole old new
 part_stops (refusals.Cause cause) (c, Ok x) f whole old mid new leads h = absurd cc
 part_stops (refusals.Cause cause) (c, Err e) f whole old mid new leads h =
-    let met = h.0 in
-    let same : e ≡ cause = cc in (
-      sym (ap (λ (s : Reading _). s.1) leads) ∙ ap (λ (k : Cause). Err k) same,
-      spent_in_all _ whole old mid new leads h.1,
-    )
+    (sym (ap (λ (s : Reading _). cause_of s.1) leads) ∙ h.0, spent_in_all _ whole old mid new leads h.1)
 part_stops refusals.Memory r f whole old mid new leads most =
     let part = part_within r f whole old mid leads in
     record { turns = omega (arith, most.turns, part.0); slots = omega (arith, most.slots, part.1) }

@@ -3,12 +3,11 @@ use Rattle.std.proofs.Common.{◌≡◌, ℕ, zero, suc, ◌-◌, ◌+◌, ◌�
 use Rattle.std.proofs.Common.{take, drop, Option, Some, None, Ok, refl, sym, ap, ◌∙◌, length-take, length-drop, arith}
 use Rattle.wkb_geom.specs.Reading.{order_of_byte, head_by_order}
 use Rattle.wkb_view.specs.Prelude.{Endianness, Dimension, Layout, number, number-take, ring_end, Item, Outcome, Reading}
-use Rattle.wkb_view.specs.Prelude.{at_no_cost, head_at, consumed, line_string_at, layout_wanted, member_layout}
+use Rattle.wkb_view.specs.Prelude.{head_at, consumed, layout_wanted, member_layout}
 use Rattle.wkb_view.specs.Prelude.{member_body, member_at, then_body}
 use Rattle.wkb_view.specs.Members.{item_of, IsEncoding, IsMemberOfKind, layout_said, member_item}
 use Rattle.wkb_view.specs.Pieces.{Passed, IsRing}
 use Rattle.wkb_view.proofs.Pieces.{drop-of-take}
-unfoldable use Rattle.wkb_geom.specs.Reading.{line_string_told}
 
 -- a number within the encoding that was taken
 pub number_within : (order : Endianness) (at end : ℕ) (bytes : List ℕ) → at + 4 ≤ end
@@ -28,11 +27,6 @@ unfolding head_at
 head-take zero bytes h le = absurd (omega arith)
 head-take (suc n) [] h le = absurd (omega arith)
 head-take (suc n) (b ∷ bytes) h le = by_order_same (order_of_byte b) n bytes (omega arith) (omega arith)
-
--- a line string costs nothing
-pub line_string_free : (l : Layout) (bytes : List ℕ) → line_string_at l bytes ≡ at_no_cost (line_string_at l bytes).1
-unfolding line_string_told
-line_string_free l bytes = grind arith
 
 -- ---- what was passed, by the encoding that was taken
 
@@ -67,7 +61,7 @@ ring_passed order d bytes rest n end n-is end-is le rest-is =
 pub member_gives : (k : ℕ) (d : Dimension) (bytes : List ℕ) (l : Layout) (r : Reading Item)
     → member_layout k d bytes ≡ Ok l → member_body k l bytes ≡ r
     → member_at k d bytes ≡ r
-member_gives k d bytes l r e is = ap (λ s. then_body s (λ m. member_body k m bytes)) e ∙ is
+member_gives k d bytes l r e is = ap (λ s. then_body bytes s (λ m. member_body k m bytes)) e ∙ is
 
 -- a member that was read, as it was passed
 pub member_passed : (k : ℕ) (d : Dimension) (bytes : List ℕ) (l : Layout) (x : Item) (rest : List ℕ)

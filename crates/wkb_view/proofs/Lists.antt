@@ -3,23 +3,27 @@ use Rattle.std.proofs.Common.{◌≡◌, ℕ, suc, ◌+◌, ◌-◌, ◌≤◌, 
 use Rattle.std.proofs.Common.{append_assoc, arith, Bool, true, false, cond, length, drop, ltb, length-drop}
 use Rattle.std.proofs.lemmas.List.{append-nil}
 use Rattle.std.proofs.lemmas.Bool.{le-ltb, lt-ltb}
-use Rattle.wkb_view.specs.Prelude.{refused, end_of_input, Refusal, Cost, free, one_turn, Outcome}
+use Rattle.wkb_view.specs.Prelude.{refused, end_of_input, Cause, Refusal, Cost, free, one_turn, Outcome}
 use Rattle.wkb_view.specs.Prelude.refusals
 use Rattle.wkb_view.specs.Prelude.{Reading, costs, done, count_in, and_then, repeated, Layout, Item, number}
 use Rattle.wkb_view.specs.Prelude.{multi_point_end, slots_asked, slots_of, consumed, body_start, parts_start, list_at}
 use Rattle.wkb_view.specs.Prelude.{list_item, member_at, parts_body, multi_point_with, multi_polygon_with}
-use Rattle.wkb_view.specs.Prelude.{multi_point_at, multi_polygon_at}
 use Rattle.wkb_view.specs.declared.counts.Counts.{Counts}
 use Rattle.wkb_view.specs.Outcome.{Spent, next_turn, cost_of, CanCount, Stops}
 use Rattle.wkb_view.specs.Members.{parts_behind}
 use Rattle.wkb_view.specs.Entries.{entries_asked, HasNoList}
 use Rattle.wkb_view.proofs.Algebra.{cost_is, costs-costs, then_done, repeated_more, repeated_none, turn_begins}
 use Rattle.wkb_view.proofs.Algebra.{all_read, part_within, part_counted, part_leads, part_stops}
-unfoldable use Rattle.wkb_geom.specs.Reading.{multi_point_told, multi_polygon_told}
+unfoldable use Rattle.wkb_geom.specs.Reading.{multi_point_at, multi_polygon_at}
 
 -- what costs nothing spends nothing
 pub freely : {A : Type 0} (r : Reading A) (p : Outcome A) (c : Counts) → r ≡ (free, p) → (r.1 ≡ p) × Spent c c r.0
 freely {A = A} r p c is = (ap (λ (q : Reading A). q.1) is, rw is (record { turns = omega arith; slots = omega arith }))
+
+-- what is rejected at no cost stops there
+pub refused_stops : {A : Type 0} (r : Reading A) (bytes : List ℕ) (cause : Cause) (c : Counts) → r ≡ refused bytes cause
+    → Stops (refusals.Cause cause) r c c
+refused_stops r bytes cause c is = rw is (refl, record { turns = omega arith; slots = omega arith })
 
 -- the parts so far, and those still to be read
 abbrev goes_on : {A : Type 0} → List A → Reading (List A) → Reading (List A)
@@ -127,7 +131,7 @@ module _ (l : Layout) (bytes : List ℕ) (n : ℕ) (old mid : Counts) (whole : b
 
   pub polygons_here : Asked 6
       → IsList l (member_at 3 l.dimension) (list_item l multi_polygon_with) bytes n old mid (multi_polygon_at l bytes)
-  unfolding multi_polygon_told
+  unfolding multi_polygon_at
   polygons_here = list_here 6 (member_at 3 l.dimension) (list_item l multi_polygon_with)
 
 -- A list whose count is cut short, or for whose entries an allocation fails: its reading, if the count is there, costs
@@ -138,7 +142,7 @@ module _ (least : ℕ) (l : Layout) (bytes : List ℕ) where
 
   module _ (long : Reading Item) (asked : entries_asked least l bytes ≤ long.0.slots) where
     abbrev list_or_cut : Reading Item
-    list_or_cut = cond has_no_count (refused end_of_input) long
+    list_or_cut = cond has_no_count (refused bytes end_of_input) long
 
     pub entries_within : entries_asked least l bytes ≤ list_or_cut.0.slots
     entries_within = grind (arith, asked)
@@ -153,12 +157,12 @@ module _ (least : ℕ) (l : Layout) (bytes : List ℕ) where
 
 module _ (l : Layout) (bytes : List ℕ) where
   pub polygons_within : entries_asked 9 l bytes ≤ (multi_polygon_at l bytes).0.slots
-  unfolding multi_polygon_told
+  unfolding multi_polygon_at
   polygons_within = entries_within 9 l bytes _ (omega (arith, parts_length l.has_srid bytes))
 
   pub polygons_refused : (refusal : Refusal) (old new : Counts) → HasNoList l bytes refusal → new.turns ≡ old.turns
       → new.slots ≡ old.slots + entries_asked 9 l bytes → Stops refusal (multi_polygon_at l bytes) old new
-  unfolding multi_polygon_told
+  unfolding multi_polygon_at
   polygons_refused = list_refused 9 l bytes _ (omega (arith, parts_length l.has_srid bytes))
 
 -- where its bytes are there, a multi point is a list that asks for no entry
@@ -166,7 +170,7 @@ pub points_here : (l : Layout) (bytes : List ℕ) (n : ℕ) (old : Counts)
     → n ≡ number l.order 4 (drop (body_start l.has_srid) bytes)
     → multi_point_end l.dimension l.has_srid n ≤ length bytes
     → IsList l (member_at 1 l.dimension) (list_item l multi_point_with) bytes n old old (multi_point_at l bytes)
-unfolding multi_point_told
+unfolding multi_point_at
 points_here l bytes n old counted enough =
     let there : ltb (length bytes) (body_start l.has_srid + 4) ≡ false = le-ltb _ _ (omega (arith, enough)) in
     let long : ltb (length bytes) (multi_point_end l.dimension l.has_srid n) ≡ false = le-ltb _ _ enough in

@@ -1,6 +1,5 @@
 -- What was read is spelled by its bytes.
-use Rattle.std.proofs.Common.{◌≡◌, ℕ, ◌≤◌, List, length, take, drop, Result, Ok, Err, ap}
-use Rattle.std.proofs.Common.{subst, length-take, arith}
+use Rattle.std.proofs.Common.{◌≡◌, ℕ, ◌≤◌, List, length, take, drop, Result, Ok, Err, ap, subst, length-take, arith}
 use Rattle.wkb_geom.specs.declared.code.WkbType.TheVariants as kinds
 use Rattle.wkb_geom.specs.Spellings.{Wanted, any}
 use Rattle.wkb_geom.specs.Reading.{body_at, too_deep, layout_of}
@@ -12,7 +11,7 @@ use Rattle.wkb_view.specs.Prelude.{point_at, line_string_at, point_item, line_st
 use Rattle.wkb_view.specs.Headers.{HasHead}
 use Rattle.wkb_view.specs.Members.{IsEncoding}
 use Rattle.wkb_view.proofs.Leaves.{number_within}
-unfoldable use Rattle.wkb_geom.specs.Reading.{by_type_told, geometry_told}
+unfoldable use Rattle.wkb_geom.specs.Reading.{by_type, geometry_at}
 
 says_spelled : (w : Wanted) (bytes : List ℕ) (r : Reading Item) → IsRight 0 w bytes r → (i : Item) (rest : List ℕ)
     → r.1 ≡ Ok (i, rest) → BytesSpell i
@@ -21,10 +20,10 @@ says_spelled w bytes (c, Err f) h i rest e = absurd cc
 
 says_body : (bytes : List ℕ) (h : Head) → head_at bytes ≡ Ok h
     → IsRight 0 any bytes (body_at too_deep h.wkb_type (layout_of h) bytes)
-unfolding geometry_told by_type_told
+unfolding geometry_at by_type
 says_body bytes h e =
     subst (λ (r : Result Head Cause). IsRight 0 any bytes
-    (then_body r (λ g. body_at too_deep g.wkb_type (layout_of g) bytes))) e (geometry_says 0 bytes)
+    (then_body bytes r (λ g. body_at too_deep g.wkb_type (layout_of g) bytes))) e (geometry_says 0 bytes)
 
 -- what is read after a header is spelled by the bytes that were taken
 pub body_spelled : (bytes : List ℕ) (h : Head) (i : Item) (rest : List ℕ) → head_at bytes ≡ Ok h

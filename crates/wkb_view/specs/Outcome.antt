@@ -1,7 +1,7 @@
 -- How the result of a read agrees with reading.
-use Rattle.std.specs.Prelude.{◌≡◌, ℕ, ◌+◌, ◌≤◌, ◌<◌, ◌^◌, List, length, Result, Ok, Err, IfErr}
+use Rattle.std.specs.Prelude.{◌≡◌, ℕ, ◌+◌, ◌≤◌, ◌<◌, ◌^◌, List, length, Result, Ok, Err, Some, IfErr}
 use Rattle.std.specs.Borrow.{Bor}
-use Rattle.wkb_view.specs.Prelude.{Cause, Refusal, Cost, Outcome, Reading, Item, consumed}
+use Rattle.wkb_view.specs.Prelude.{Cause, Refusal, Cost, Outcome, Reading, Item, consumed, rejection, cause_of}
 use Rattle.wkb_view.specs.Prelude.refusals
 use Rattle.wkb_view.specs.declared.counts.Counts.{Counts}
 
@@ -31,7 +31,7 @@ pub record CanCount (old : Counts) (cost : Cost) : Type 0 where
 -- the result is the outcome, by what it shows
 abbrev pub IsOutcome : {X Y : Type 0} → (X → Y × List ℕ) → Result X Cause → Outcome Y → Type 0
 IsOutcome shown (Ok x) outcome = outcome ≡ Ok (shown x)
-IsOutcome shown (Err cause) outcome = outcome ≡ Err cause
+IsOutcome shown (Err cause) outcome = cause_of outcome ≡ Some cause
 
 -- the result is the outcome of a reading, and its cost was counted
 abbrev pub CountsOutcome : {X Y : Type 0} → (X → Y × List ℕ) → Result X Cause → Reading Y → Counts → Counts → Type 0
@@ -41,9 +41,10 @@ CountsOutcome shown result reading old new = IsOutcome shown result reading.1 ×
 abbrev pub seen_with_rest : {X Y : Type 0} → (X → Y) → X × Bor (List ℕ) → Y × List ℕ
 seen_with_rest seen x = (seen x.0, x.1.now)
 
--- the view and the bytes after it are the outcome, or the bytes are rejected as it says
-abbrev pub IsRead : {X Y : Type 0} → (X → Y) → Result (X × Bor (List ℕ)) Cause → Outcome Y → Type 0
-IsRead seen result outcome = IsOutcome (seen_with_rest seen) result outcome
+-- the view and the bytes after it are the outcome, or these bytes are rejected
+abbrev pub IsRead : {X Y : Type 0} → (X → Y) → List ℕ → Result (X × Bor (List ℕ)) Cause → Outcome Y → Type 0
+IsRead seen bytes (Ok x) outcome = outcome ≡ Ok (seen_with_rest seen x)
+IsRead seen bytes (Err cause) outcome = outcome ≡ Err (rejection bytes cause)
 
 -- the view and the bytes after it are those of a reading, whose cost was counted
 abbrev pub IsReadCounted : {X Y : Type 0} → (X → Y) → Result (X × Bor (List ℕ)) Cause → Reading Y → Counts → Counts
@@ -52,7 +53,7 @@ IsReadCounted seen result reading old new = CountsOutcome (seen_with_rest seen) 
 
 -- a reading's cause, whose cost was counted; where an allocation failed, no more than that cost
 abbrev pub Stops : {A : Type 0} → Refusal → Reading A → Counts → Counts → Type 0
-Stops (refusals.Cause cause) reading old new = (reading.1 ≡ Err cause) × Spent old new reading.0
+Stops (refusals.Cause cause) reading old new = (cause_of reading.1 ≡ Some cause) × Spent old new reading.0
 Stops refusals.Memory reading old new = AtMost old new reading.0
 
 -- the result is the outcome of a reading, and its cost was counted, or the reader stopped

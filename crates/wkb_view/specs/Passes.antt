@@ -18,7 +18,7 @@ passed_as taken bytes rest = (taken (consumed bytes rest.now), rest.now)
 abbrev pub PassesPart : {A : Type 0} → (List ℕ → Reading A) → (List ℕ → A) → List ℕ → Result (Bor (List ℕ)) Cause
     → Type 0
 PassesPart reading seen bytes (Ok rest) = reading bytes ≡ done (seen (consumed bytes rest.now)) rest.now
-PassesPart reading seen bytes (Err cause) = reading bytes ≡ refused cause
+PassesPart reading seen bytes (Err cause) = reading bytes ≡ refused bytes cause
 
 -- a point without an SRID was passed, or is rejected
 abbrev pub PassesPoint : Dimension → List ℕ → Result (Bor (List ℕ)) Cause → Type 0

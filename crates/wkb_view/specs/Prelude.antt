@@ -21,16 +21,12 @@ pub use Rattle.wkb_geom.specs.Stored.{Listed, whole_of}
 pub use Rattle.wkb_geom.specs.Reading.{Cost, free, one_turn, slots_of, Outcome, Reading, at_no_cost, done, refused}
 pub use Rattle.wkb_geom.specs.Reading.{costs, and_then, then_body, items, coordinate, coordinates, ring_in, Item}
 pub use Rattle.wkb_geom.specs.Reading.{spellings, laid, body_start, count_in, parts_start, srid_in, spelled_in}
-pub use Rattle.wkb_geom.specs.Reading.{consumed}
-pub use Rattle.wkb_geom.specs.Reading.{point_item, point_item_of, line_string_item, polygon_item, list_item, point_of}
-pub use Rattle.wkb_geom.specs.Reading.{line_string_of, polygon_of, multi_point_with, multi_line_string_with}
-pub use Rattle.wkb_geom.specs.Reading.{multi_polygon_with, ring_part, parts_body, list_at, HasNoCount, layout_wanted}
-pub use Rattle.wkb_geom.specs.Reading.{member_layout, member_body, member_at}
-unfoldable pub use Rattle.wkb_geom.specs.Reading.{repeated, head_at, point_told, line_string_told, ring_told}
-unfoldable pub use Rattle.wkb_geom.specs.Reading.{polygon_told}
-pub use Rattle.wkb_geom.specs.Reading.{point_at, line_string_at, ring_at, polygon_at}
-unfoldable pub use Rattle.wkb_geom.specs.Reading.{multi_point_told, multi_line_string_told, multi_polygon_told}
-pub use Rattle.wkb_geom.specs.Reading.{multi_point_at, multi_line_string_at, multi_polygon_at}
+pub use Rattle.wkb_geom.specs.Reading.{consumed, rejection, cause_of, point_item, point_item_of, line_string_item}
+pub use Rattle.wkb_geom.specs.Reading.{polygon_item, list_item, point_of, line_string_of, polygon_of, multi_point_with}
+pub use Rattle.wkb_geom.specs.Reading.{multi_line_string_with, multi_polygon_with, ring_part, parts_body, list_at}
+pub use Rattle.wkb_geom.specs.Reading.{HasNoCount, layout_wanted, member_layout, member_body, member_at}
+unfoldable pub use Rattle.wkb_geom.specs.Reading.{repeated, head_at, point_at, line_string_at, ring_at, polygon_at}
+unfoldable pub use Rattle.wkb_geom.specs.Reading.{multi_point_at, multi_line_string_at, multi_polygon_at}
 pub use Rattle.wkb_view.specs.Parts.{list_of_values, IsCollection, points_of, members_spelled, list_of_spellings}
 pub use Rattle.wkb_view.specs.Parts.{spelling_at}
 pub use Rattle.wkb_view.specs.Spells.{BytesSpell, srid_of, order_of}

@@ -117,7 +117,7 @@ impl<'a> LineString<'a> {
     #[inline]
     pub fn read(layout: Layout, bytes: &'a [u8]) -> Result<(LineString<'a>, &'a [u8]), Cause>
         requires head { HasHead (λ d. kinds.LineString d) layout bytes.now }
-        ensures answer { IsRead line_string_seen result (line_string_at layout bytes.now).1 }
+        ensures answer { IsRead line_string_seen bytes.now result (line_string_at layout bytes.now).1 }
         ensures item { IfOk result (IsTakenAs line_string_seen (line_string_item layout) bytes.now) }
         ensures passed { IfOk result (λ x. PassedEncoding LINE_STRING layout bytes.now x.1.now) }
         ensures shorter { IfOk result (TakesAtLeast MIN_MEMBER_SIZE bytes.now) }

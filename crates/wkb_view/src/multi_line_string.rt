@@ -110,7 +110,7 @@ impl<'a> MultiLineString<'a> {
     }
 
     /// The multi line string after this header, and the bytes after it.
-    #[tactic(auto, unfolding(wkb_geom::specs::Reading::multi_line_string_told))]
+    #[tactic(auto, unfolding(wkb_geom::specs::Reading::multi_line_string_at))]
     #[inline(always)]
     pub fn read(
         alloc: Global,

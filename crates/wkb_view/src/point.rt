@@ -117,7 +117,7 @@ impl<'a> Point<'a> {
     #[inline]
     pub fn read(layout: Layout, bytes: &'a [u8]) -> Result<(Point<'a>, &'a [u8]), Cause>
         requires head { HasHead (λ d. kinds.Point d) layout bytes.now }
-        ensures answer { IsRead point_seen result (point_at layout bytes.now) }
+        ensures answer { IsRead point_seen bytes.now result (point_at layout bytes.now) }
         ensures item { IfOk result (IsTakenAs point_seen (point_item layout) bytes.now) }
         ensures passed { IfOk result (λ x. PassedEncoding POINT layout bytes.now x.1.now) }
         ensures shorter { IfOk result (TakesAtLeast MIN_MEMBER_SIZE bytes.now) }

@@ -118,7 +118,7 @@ impl<'a> Polygon<'a> {
     }
 
     /// The polygon after this header, and the bytes after it.
-    #[tactic(auto, unfolding(wkb_geom::specs::Reading::polygon_told))]
+    #[tactic(auto, unfolding(wkb_geom::specs::Reading::polygon_at))]
     #[inline(always)]
     pub fn read(
         alloc: Global,

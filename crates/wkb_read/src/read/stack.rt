@@ -36,7 +36,7 @@ pub(crate) enum Begun<'a> {
 }
 
 /// Reads the count of the collection with this layout, inside `depth` open collections.
-#[tactic(auto, unfolding(wkb_geom::specs::Reading::collection_told))]
+#[tactic(auto, unfolding(wkb_geom::specs::Reading::collection_at))]
 pub(crate) fn begin_collection<'a>(
     alloc: Global,
     depth: usize,

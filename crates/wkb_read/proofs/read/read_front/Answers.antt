@@ -1,8 +1,9 @@
 use Rattle.wkb_read.specs.Prelude.refusals
-use Rattle.wkb_read.proofs.Prelude.{◌≡◌, ◌-◌, ◌∙◌, refl, sym, subst, rules, Reading, Item, WkbType, CanCount}
+use Rattle.wkb_read.proofs.Prelude.{◌≡◌, ◌-◌, ◌∙◌, ap, at_no_cost, refl, sym, subst, rules, Reading, Item, WkbType, CanCount}
 use Rattle.wkb_read.proofs.Prelude.{BeginsAs, geometry_inside, body_at, collection_within, max_nesting}
-use Rattle.wkb_read.proofs.Bodies.{by_header, hands_on, stops_without_header, stops_at_no_cost, whole_at_no_cost}
-use Rattle.wkb_view.proofs.Leaves.{line_string_free}
+use Rattle.wkb_read.proofs.Bodies.{by_header, hands_on, stops_without_header, whole_at_no_cost}
+use Rattle.wkb_view.proofs.Lists.{refused_stops}
+use Rattle.wkb_laws.proofs.GeometryAt.{line_string_free}
 use Rattle.wkb_read.proofs.read.read_front.Goals as goal
 use Rattle.wkb_read.proofs.read.read_front.Goals.{After-layout-layout, in-Point+in_ok-point-in-Point}
 use Rattle.wkb_read.proofs.read.read_front.Goals.{in-LineString+in_ok-line_string-in-LineString}
@@ -37,7 +38,7 @@ returns-in_err-point-in-Point-clause-begins c =
     let p = (goal.at.returns-in_err-point-in-Point-clause-begins c).After-layout-layout in
     hands_on c.args.depth c.args.bytes.now _ (refusals.Cause c.in_err-point-in-Point.field-0.0) _ c.args.counts.now
     c.args.counts.now c.from_residual-in_err-point-in-Point.ensures.1 (by_type p _ c.in-Point.is)
-    (stops_at_no_cost _ _ c.args.counts.now c.in_err-point-in-Point.ensures.answer)
+    (refused_stops _ _ _ c.args.counts.now (ap at_no_cost c.in_err-point-in-Point.ensures.answer))
 
 pub returns-in_err-line_string-in-LineString-clause-begins :
     goal.returns-in_err-line_string-in-LineString-clause-begins
@@ -46,7 +47,7 @@ returns-in_err-line_string-in-LineString-clause-begins c =
     hands_on c.args.depth c.args.bytes.now _ (refusals.Cause c.in_err-line_string-in-LineString.field-0.0) _
     c.args.counts.now c.args.counts.now c.from_residual-in_err-line_string-in-LineString.ensures.1
     (by_type p _ c.in-LineString.is ∙ line_string_free c.layout-layout.result c.args.bytes.now)
-    (stops_at_no_cost _ _ c.args.counts.now c.in_err-line_string-in-LineString.ensures.answer)
+    (refused_stops _ _ _ c.args.counts.now (ap at_no_cost c.in_err-line_string-in-LineString.ensures.answer))
 
 pub read-requires-in-Polygon-clause-fits : goal.read-requires-in-Polygon-clause-fits
 read-requires-in-Polygon-clause-fits c =

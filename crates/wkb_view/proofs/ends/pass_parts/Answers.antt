@@ -3,7 +3,7 @@ use Rattle.std.proofs.lemmas.Result.{err_from_is_err_and}
 use Rattle.wkb_view.specs.Prelude.{body_start}
 use Rattle.wkb_view.specs.Prelude.refusals
 use Rattle.wkb_view.specs.Entries.{entries}
-use Rattle.wkb_view.proofs.Lists.{parts_length, freely, part_costs, loop_stops}
+use Rattle.wkb_view.proofs.Lists.{parts_length, freely, refused_stops, part_costs, loop_stops}
 use Rattle.wkb_view.proofs.Pieces.{pieces_begin, pieces_next, pieces_read, parts_fit}
 use Rattle.wkb_view.proofs.ends.pass_parts.Goals as goal
 
@@ -16,7 +16,7 @@ returns-in_err-rest-clause-answer g c =
     let p = err_from_is_err_and c.from_residual.result c.from_residual.ensures.1 in
     rw (p.1, p.2)
     (loop_stops c.loop-test.true c.loop.invariant.so_far.left (refusals.Cause c.in_err-rest.field-0.0) _
-    (freely _ _ _ c.in_err-rest.ensures.answer))
+    (refused_stops _ _ _ _ c.in_err-rest.ensures.answer))
 
 pub loop-preserved : goal.loop-preserved
 loop-preserved g c =

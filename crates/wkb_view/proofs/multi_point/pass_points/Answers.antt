@@ -1,7 +1,7 @@
 use Rattle.std.proofs.Common.{◌≡◌, arith}
 use Rattle.std.proofs.lemmas.Result.{err_from_is_err_and}
 use Rattle.wkb_view.specs.Prelude.refusals
-use Rattle.wkb_view.proofs.Lists.{freely, part_costs, loop_stops}
+use Rattle.wkb_view.proofs.Lists.{freely, refused_stops, part_costs, loop_stops}
 use Rattle.wkb_view.proofs.Pieces.{pieces_next, pieces_read}
 use Rattle.wkb_view.proofs.Members.{ends_next, points_end}
 use Rattle.wkb_view.proofs.multi_point.pass_points.Goals as goal
@@ -15,7 +15,7 @@ returns-in_err-rest-clause-points c =
     let p = err_from_is_err_and c.from_residual.result c.from_residual.ensures.1 in
     rw (p.1, p.2)
     (loop_stops c.loop-test.true c.loop.invariant.so_far.left (refusals.Cause c.in_err-rest.field-0.0) _
-    (freely _ _ _ c.in_err-rest.ensures.answer))
+    (refused_stops _ _ _ _ c.in_err-rest.ensures.answer))
 
 pub loop-preserved : goal.loop-preserved
 loop-preserved c =

@@ -1,6 +1,6 @@
 use Rattle.wkb_read.proofs.Prelude.{◌≡◌, ◌+◌, ◌-◌, ◌<◌, ◌≤◌, ℕ, suc, List, [], length, refl, sym, arith, ap, ◌∙◌}
 use Rattle.wkb_read.proofs.Prelude.{drop-drop, Item, Reading, Layout, Counts, Stops, max_nesting, body_start}
-use Rattle.wkb_read.proofs.Prelude.{collection_at, collection_inside, cost_of}
+use Rattle.wkb_read.proofs.Prelude.{collection_inside, cost_of}
 use Rattle.wkb_geom.specs.declared.error.Refusal.{Refusal}
 use Rattle.std.proofs.lemmas.Result.{err_from_is_err_and}
 use Rattle.wkb_view.proofs.Lists.{parts_length, entries_within, list_refused}
@@ -9,7 +9,7 @@ use Rattle.wkb_read.proofs.Places.{closed, front_taken}
 use Rattle.wkb_read.proofs.Opens.{opens, without_members, first_begins, too_many_around}
 use Rattle.wkb_read.proofs.NoMemory.{none_asked}
 use Rattle.wkb_read.proofs.read.stack.begin_collection.Goals as goal
-unfoldable use Rattle.wkb_geom.specs.Reading.{collection_told}
+unfoldable use Rattle.wkb_geom.specs.Reading.{collection_at}
 
 pub returns-then-count-eq0-clause-begins : goal.returns-then-count-eq0-clause-begins
 returns-then-count-eq0-clause-begins c =
@@ -81,13 +81,13 @@ returns-clause-no_memory c = λ none.
 
 module _ (l : Layout) (bytes : List ℕ) where
   within : (member : List ℕ → Reading Item) → entries_asked 9 l bytes ≤ (collection_at member l bytes).0.slots
-  unfolding collection_told
+  unfolding collection_at
   within member = entries_within 9 l bytes _ (omega (arith, parts_length l.has_srid bytes))
 
   refused : (member : List ℕ → Reading Item) (refusal : Refusal) (old new : Counts) → HasNoList l bytes refusal
       → new.turns ≡ old.turns
       → new.slots ≡ old.slots + entries_asked 9 l bytes → Stops refusal (collection_at member l bytes) old new
-  unfolding collection_told
+  unfolding collection_at
   refused member = list_refused 9 l bytes _ (omega (arith, parts_length l.has_srid bytes))
 
   module _ (depth : ℕ) (shallow : depth < max_nesting) where

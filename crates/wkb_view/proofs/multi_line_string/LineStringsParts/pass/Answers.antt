@@ -2,7 +2,8 @@ use Rattle.std.proofs.Common.{◌∙◌, ap}
 use Rattle.std.proofs.lemmas.Result.{err_from_is_err_and}
 use Rattle.wkb_view.specs.Prelude.{Outcome, Item, at_no_cost}
 use Rattle.wkb_view.proofs.Members.{member_laid}
-use Rattle.wkb_view.proofs.Leaves.{found, line_string_free, member_gives, member_passed}
+use Rattle.wkb_laws.proofs.GeometryAt.{line_string_free}
+use Rattle.wkb_view.proofs.Leaves.{found, member_gives, member_passed}
 use Rattle.wkb_view.proofs.multi_line_string.LineStringsParts.pass.Goals as goal
 
 pub returns-clause-answer : goal.returns-clause-answer

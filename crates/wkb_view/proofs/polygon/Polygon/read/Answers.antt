@@ -1,10 +1,10 @@
 use Rattle.std.proofs.Common.{◌-◌, length, length-take, map-id, arith}
 use Rattle.wkb_view.proofs.Spells.{body_spelled}
 use Rattle.wkb_view.proofs.polygon.Polygon.read.Goals as goal
-unfoldable use Rattle.wkb_geom.specs.Reading.{polygon_told}
+unfoldable use Rattle.wkb_geom.specs.Reading.{polygon_at}
 
 pub invariant_of-polygon : goal.invariant_of-polygon
-unfolding polygon_told
+unfolding polygon_at
 invariant_of-polygon c =
     let bytes = c.args.bytes.now in
     let e = c.in_ok-ends.ensures in (
@@ -14,5 +14,5 @@ invariant_of-polygon c =
     )
 
 pub returns-clause-answer : goal.returns-clause-answer
-unfolding polygon_told
+unfolding polygon_at
 returns-clause-answer c = rw map-id at c.in_ok-ends.ensures.answer
