@@ -1,4 +1,5 @@
 pub mod Ranking
+pub mod Runs
 pub mod Widening
 pub mod Words
 pub mod Scanning

@@ -1,14 +1,14 @@
 -- Words and their ranks, one for one.
-use Rattle.std.proofs.Common.{◌≡◌, ℕ, ◌+◌, ◌<◌, ◌≤◌, ◌^◌, refl, sym, ap, ◌∙◌, arith, false}
+use Rattle.std.proofs.Common.{◌≡◌, ℕ, ◌+◌, ◌<◌, ◌≤◌, ◌^◌, [], ◌∷◌, refl, sym, ap, ◌∙◌, arith, Bool, true, false}
 use Rattle.std.proofs.Common.{min, max, nat_lt, ◌%◌}
 use Rattle.std.proofs.lemmas.Nat.{and_mask}
 use Rattle.std.proofs.lemmas.Bool.Decides.{nat_tests}
-use Rattle.std.proofs.lemmas.Bool.{cond-false, ltb-false}
+use Rattle.std.proofs.lemmas.Bool.{cond-true, cond-false, ltb-false}
 use Rattle.wkb_geom.specs.Numbers.{is_nan}
 use Rattle.wkb_bounds.specs.declared.range.Range.{Range}
 use Rattle.wkb_bounds.specs.declared.ranks.Ranks.{Ranks}
 use Rattle.wkb_geom.specs.Ranks.{rank}
-use Rattle.wkb_bounds.specs.Ranges.{no_numbers, word_of, lower, higher, range_by, with_word, WidensNumbers}
+use Rattle.wkb_bounds.specs.Ranges.{no_numbers, word_of, lower, higher, range_by, with_word, WidensRanks}
 
 rank_back : (w : ℕ) → w < 2 ^ 64 → word_of (rank w) ≡ w
 rank_back w small = grind (arith, nat_tests)
@@ -73,14 +73,28 @@ below_infinity w fits low high = grind (arith, nat_tests)
 ranked_number : (w : ℕ) → w < 2 ^ 64 → 0x000fffffffffffff ≤ rank w → rank w ≤ 0xfff0000000000000 → is_nan w ≡ false
 ranked_number w fits low high = ap (nat_lt 0x7ff0000000000000) (and_mask w 63) ∙ below_infinity w fits low high
 
--- one more word, as if it were a number
-pub numbers_by : (k : Ranks) (w least greatest : ℕ) → k.least < 2 ^ 64 → k.greatest < 2 ^ 64 → w < 2 ^ 64
-    → least ≡ min k.least (rank w) → greatest ≡ max k.greatest (rank w)
-    → WidensNumbers k w (record { least = least; greatest = greatest; count = k.count + 1 })
-numbers_by k w least greatest small great fits l g = record {
+-- one more word, which is tested or taken for a number
+pub ranked_by : (tested : Bool) (k : Ranks) (w least greatest : ℕ) → k.least < 2 ^ 64 → k.greatest < 2 ^ 64
+    → w < 2 ^ 64 → least ≡ min k.least (rank w) → greatest ≡ max k.greatest (rank w)
+    → (tested ≡ true → is_nan w ≡ false)
+    → WidensRanks tested k (record { least = least; greatest = greatest; count = k.count + 1 }) (w ∷ [])
+ranked_by true k w least greatest small great fits l g number = record {
+  before = λ n. n;
+  range = λ n. widened_by k w least greatest small great fits (number refl) l g;
+  count = omega arith;
+}
+ranked_by false k w least greatest small great fits l g number = record {
   before = λ n. record { low = omega (arith, n.low, l); high = omega (arith, n.high, g) };
   range = λ n.
       widened_by k w least greatest small great fits
       (ranked_number w fits (omega (arith, n.low, l)) (omega (arith, n.high, g))) l g;
-  count = refl;
+  count = omega arith;
+}
+
+-- a word that isn't a number
+pub passed_by : (tested : Bool) (k : Ranks) (w : ℕ) → is_nan w ≡ true → WidensRanks tested k k (w ∷ [])
+passed_by tested k w nan = record {
+  before = λ n. n;
+  range = λ n. sym (cond-true (is_nan w) _ _ nan);
+  count = omega arith;
 }

@@ -1,24 +1,27 @@
 -- Ranges that are widened word by word, and bounds coordinate by coordinate.
-use Rattle.std.proofs.Common.{◌≡◌, ◌≢◌, ℕ, zero, suc, ◌+◌, ◌-◌, ◌*◌, ◌<◌, ◌≤◌, ◌^◌, List, [], ◌∷◌, ◌++◌, length}
+use Rattle.std.proofs.Common.{◌≡◌, ◌≢◌, ℕ, zero, suc, ◌+◌, ◌*◌, ◌/◌, ◌<◌, ◌≤◌, ◌^◌, List, [], ◌∷◌, ◌++◌, length}
 use Rattle.std.proofs.Common.{take, drop}
-use Rattle.std.proofs.Common.{Option, Some, None, IfSome, refl, sym, ap, ◌∙◌, subst, arith, drop-drop}
-use Rattle.std.proofs.Common.{length-drop, length-append, length-take}
+use Rattle.std.proofs.Common.{Option, Some, None, IfSome, Bool, true, false, refl, sym, ap, ◌∙◌, subst, arith, drop-drop}
+use Rattle.std.proofs.Common.{length-append, length-take}
 use Rattle.std.proofs.lemmas.Bool.{cond_both}
 use Rattle.wkb_geom.specs.declared.common.Dimension.{Dimension}
+use Rattle.wkb_geom.specs.declared.common.Dimension.TheVariants.{Xy}
 use Rattle.wkb_geom.specs.declared.common.Endianness.{Endianness}
 use Rattle.wkb_geom.specs.Dimensions.{width}
 use Rattle.wkb_geom.specs.Items.{length-items}
 use Rattle.wkb_geom.specs.Numbers.{number, is_nan}
-use Rattle.wkb_geom.specs.Reading.{items, coordinate, coordinates}
+use Rattle.wkb_geom.specs.Reading.{items, coordinates}
 use Rattle.wkb_geom.specs.Values.{Coordinate}
 use Rattle.wkb_bounds.specs.declared.range.Range.{Range}
 use Rattle.wkb_bounds.specs.declared.range.Bounds.{Bounds}
 use Rattle.wkb_bounds.specs.declared.ranks.Ranks.{Ranks}
-use Rattle.wkb_bounds.specs.Ranges.{with_word, widened, range_by, CanWiden, AreNumbers, WidensNumbers, FollowsNumbers}
-use Rattle.wkb_check.proofs.Leaves.{wide}
-use Rattle.wkb_bounds.specs.Ordinates.{Axis, axis_place, word_at, words_of_each}
-use Rattle.wkb_bounds.specs.Ordinates.{words_in, column_words}
-use Rattle.wkb_bounds.specs.Bounded.{on, Widens}
+use Rattle.wkb_bounds.specs.declared.run.Run.{Run}
+use Rattle.wkb_bounds.specs.declared.axes.AxisRanks.{AxisRanks}
+use Rattle.wkb_bounds.specs.Ranges.{with_word, widened, AreNumbers, WidensRanks}
+use Rattle.wkb_bounds.specs.Ordinates.{Axis, x_axis, y_axis, z_axis, m_axis, axis_place, word_at, words_of_each}
+use Rattle.wkb_bounds.specs.Ordinates.{words_at, words_in, place_words}
+use Rattle.wkb_bounds.specs.Bounded.{on, Widens, WidensBounds, WidensPlane, ArePlaneNumbers, bounds_by}
+use Rattle.wkb_bounds.specs.Runs.{coordinates_of, rows, first_word, IsRun, IsBehindFirst}
 
 -- ---- words
 
@@ -34,97 +37,23 @@ widened_count : (r : Range) (ws : List ℕ) → (widened r ws).count ≤ r.count
 widened_count r [] = omega arith
 widened_count r (w ∷ ws) = omega (arith, widened_count (with_word r w) ws, word_counts r w)
 
--- ---- columns
+-- ---- ranks
 
-more_of : (size count i : ℕ) → i < count → size * (count - i) ≡ size + size * (count - (i + 1))
-more_of size count i lt =
-    let k : count - i ≡ suc (count - (i + 1)) = omega arith in
-    let e : size * suc (count - (i + 1)) ≡ size + size * (count - (i + 1)) = omega arith in
-    ap (λ n. size * n) k ∙ e
+pub numbers_right : {old new : Ranks} {ws : List ℕ} → WidensRanks false old new ws → AreNumbers new
+    → WidensRanks true old new ws
+numbers_right w n = record { before = λ t. t; range = λ t. w.range n; count = w.count }
 
--- what is left of a column makes of the range what all of it makes of the first
-pub record ColumnLeft (order : Endianness) (size at count i : ℕ) (rest : List ℕ) (now : Ranks) (whole : Range)
-    : Type 0 where
-  pub goes : widened (range_by now) (column_words order size at (count - i) rest) ≡ whole
-  pub room : now.count + (count - i) < 2 ^ 64
-  pub long : size * (count - i) ≤ length rest
-
-pub column_first : (order : Endianness) (size at count : ℕ) (bytes : List ℕ) (first : Ranks)
-    → CanWiden first size at count bytes
-    → ColumnLeft order size at count 0 bytes first (widened (range_by first) (column_words order size at count bytes))
-column_first order size at count bytes first can =
-    let all : count - 0 ≡ count = omega arith in
-    record {
-      goes = λ i. widened (range_by first) (column_words order size at (all i) bytes);
-      room = omega (arith, can.room);
-      long = rw all can.whole;
-    }
-
-module _ {order : Endianness} {size at count i : ℕ} {rest : List ℕ} {now : Ranks} {whole : Range}
-    (l : ColumnLeft order size at count i rest now whole) (lt : i < count) where
-  -- an item is there
-  pub column_item : size ≤ length rest
-  column_item = omega (arith, l.long, more_of size count i lt)
-
-  pub column_next : (w : ℕ) {new : Ranks} {others : List ℕ} → w ≡ number order 8 (drop at rest)
-      → range_by new ≡ with_word (range_by now) w → others ≡ drop size rest
-      → ColumnLeft order size at count (i + 1) others new whole
-  column_next w {new} {others} w-is new-is others-is =
-      let k : count - i ≡ suc (count - (i + 1)) = omega arith in
-      record {
-        goes =
-            (λ j. widened ((new-is ∙ ap (with_word (range_by now)) w-is) j)
-            (column_words order size at (count - (i + 1)) (others-is j)))
-            ∙ ap (λ n. widened (range_by now) (column_words order size at n rest)) (sym k) ∙ l.goes;
-        room = omega (arith, l.room, ap (λ (r : Range). r.count) new-is, word_counts (range_by now) w);
-        long = omega (arith, l.long, more_of size count i lt, ap length others-is, length-drop size rest);
-      }
-
--- as ColumnLeft, if all words were numbers
-pub record NumbersLeft (order : Endianness) (size at count i : ℕ) (rest : List ℕ) (now : Ranks) (whole : Range)
-    : Type 0 where
-  pub goes : AreNumbers now → widened (range_by now) (column_words order size at (count - i) rest) ≡ whole
-  pub room : now.count + (count - i) < 2 ^ 64
-  pub long : size * (count - i) ≤ length rest
-
-pub numbers_first : (order : Endianness) (size at count : ℕ) (bytes : List ℕ) (first : Ranks)
-    → CanWiden first size at count bytes
-    → NumbersLeft order size at count 0 bytes first (widened (range_by first) (column_words order size at count bytes))
-numbers_first order size at count bytes first can =
-    let l = column_first order size at count bytes first can in
-    record { goes = λ n. l.goes; room = l.room; long = l.long }
-
-module _ {order : Endianness} {size at count i : ℕ} {rest : List ℕ} {now : Ranks} {whole : Range}
-    (l : NumbersLeft order size at count i rest now whole) (lt : i < count) where
-  -- an item is there
-  pub numbers_item : size ≤ length rest
-  numbers_item = omega (arith, l.long, more_of size count i lt)
-
-  pub numbers_next : (w : ℕ) {new : Ranks} {others : List ℕ} → w ≡ number order 8 (drop at rest)
-      → WidensNumbers now w new → others ≡ drop size rest
-      → NumbersLeft order size at count (i + 1) others new whole
-  numbers_next w {new} {others} w-is widens others-is =
-      let before : AreNumbers new → ColumnLeft order size at count i rest now whole =
-      λ n. record { goes = l.goes (widens.before n); room = l.room; long = l.long } in
-      let next : AreNumbers new → ColumnLeft order size at count (i + 1) others new whole =
-      λ n. column_next (before n) lt w w-is (widens.range n) others-is in
-      record {
-        goes = λ n. (next n).goes;
-        room = omega (arith, l.room, widens.count);
-        long = omega (arith, l.long, more_of size count i lt, ap length others-is, length-drop size rest);
-      }
-
-pub follows_first : (first : Ranks) → FollowsNumbers first 0 first
-follows_first first = record { before = λ n. n; count = omega arith }
-
-pub follows_next : {first now new : Ranks} {i w : ℕ} → FollowsNumbers first i now → WidensNumbers now w new
-    → FollowsNumbers first (i + 1) new
-follows_next f widens = record {
-  before = λ n. f.before (widens.before n);
-  count = omega (arith, f.count, widens.count);
+-- ranks widened by a word, and then by others
+widened_first : (tested : Bool) {old now new : Ranks} {w : ℕ} {ws : List ℕ} → WidensRanks tested old now (w ∷ [])
+    → WidensRanks tested now new ws → WidensRanks tested old new (w ∷ ws)
+widened_first tested {ws = ws} first others = record {
+  before = λ n. first.before (others.before n);
+  range = λ n. others.range n ∙ ap (λ r. widened r ws) (first.range (others.before n));
+  count = omega (arith, first.count, others.count);
 }
 
-pub ruleset column_laws = (column_first, column_item, numbers_first, numbers_item, follows_first)
+not_widened : (tested : Bool) (k : Ranks) → WidensRanks tested k k []
+not_widened tested k = record { before = λ n. n; range = λ n. refl; count = omega arith }
 
 -- ---- coordinates
 
@@ -136,13 +65,55 @@ item_there f (suc w) (suc k) bytes lt =
     let start : 8 * suc k ≡ 8 + 8 * k = omega arith in
     rw (start, ← drop-drop (8 * k) 8 bytes) (item_there f w k (drop 8 bytes) (omega arith))
 
-pub column_is : (order : Endianness) (d : Dimension) (k n : ℕ) (bytes : List ℕ) → k < width d
-    → words_of_each (word_at (Some k)) (coordinates order d n bytes) ≡ column_words order (8 * width d) (8 * k) n bytes
-column_is order d k zero bytes lt = refl
-column_is order d k (suc n) bytes lt =
-    let first = item_there (number order 8) (width d) k bytes lt in
-    let others = column_is order d k n (drop (8 * width d) bytes) lt in
-    λ i. first i ++ others i
+first_words : (r : Run) (k n : ℕ) → r.count ≡ suc n → k < r.size / 8
+    → words_at (Some k) (coordinates_of r)
+    ≡ first_word k r ∷ words_at (Some k) (rows r.order r.size n (drop r.size r.bytes.now))
+first_words r k n count there =
+    ap (λ n. words_at (Some k) (rows r.order r.size n r.bytes.now)) count
+    ∙ ap (λ ws. ws ++ words_at (Some k) (rows r.order r.size n (drop r.size r.bytes.now)))
+    (item_there (number r.order 8) (r.size / 8) k r.bytes.now there)
+
+-- the word of one coordinate
+pub one_word_at : (order : Endianness) (d : Dimension) (k : ℕ) (bytes : List ℕ) → k < width d
+    → number order 8 (drop (8 * k) bytes) ∷ [] ≡ place_words (Some k) order d 1 bytes
+one_word_at order d k bytes there =
+    sym (ap (λ ws. ws ++ []) (item_there (number order 8) (width d) k bytes there))
+
+-- what widens these ranks by the words of what is left of a run widens the first ones by those of all of it
+pub record RunLeft (tested : Bool) (k : ℕ) (now : Ranks) (left : Run) (first : Ranks) (run : Run) : Type 0 where
+  pub there : k < left.size / 8
+  pub room : now.count + left.count < 2 ^ 64
+  pub goes : (new : Ranks) → WidensRanks tested now new (words_at (Some k) (coordinates_of left))
+      → WidensRanks tested first new (words_at (Some k) (coordinates_of run))
+
+pub run_first : (tested : Bool) (k : ℕ) (first : Ranks) (run : Run) → k < run.size / 8
+    → first.count + run.count < 2 ^ 64 → RunLeft tested k first run first run
+run_first tested k first run there room = record { there = there; room = room; goes = λ new w. w }
+
+pub run_next : {tested : Bool} {k : ℕ} {now first : Ranks} {left run : Run} → RunLeft tested k now left first run
+    → {w : ℕ} {new : Ranks} {rest : Run} → w ≡ first_word k left → WidensRanks tested now new (w ∷ [])
+    → IsBehindFirst left rest
+    → RunLeft tested k new rest first run
+run_next {tested} {k} {now} {left = left} l {w} {rest = rest} w-is widens behind =
+    let words : (w ∷ words_at (Some k) (coordinates_of rest)) ≡ words_at (Some k) (coordinates_of left) =
+    (λ i. w-is i
+    ∷ words_at (Some k) (rows (behind.order_is i) (behind.size_is i) rest.count (behind.bytes_are i)))
+    ∙ sym (first_words left k rest.count (omega (arith, behind.count_is)) l.there) in
+    record {
+      there = omega (arith, behind.size_is, l.there);
+      room = omega (arith, l.room, widens.count, behind.count_is);
+      goes = λ last others.
+          l.goes last (subst (WidensRanks tested now last) words (widened_first tested widens others));
+    }
+
+pub run_done : {tested : Bool} {k : ℕ} {now first : Ranks} {left run : Run} → RunLeft tested k now left first run
+    → left.count ≡ 0 → WidensRanks tested first now (words_at (Some k) (coordinates_of run))
+run_done {tested} {k} {now} {left = left} l none =
+    l.goes now
+    (subst (λ n. WidensRanks tested now now (words_at (Some k) (rows left.order left.size n left.bytes.now)))
+    (sym none) (not_widened tested now))
+
+pub ruleset run_laws = (run_first, run_done, numbers_right)
 
 no_column : (cs : List Coordinate) → words_of_each (word_at None) cs ≡ []
 no_column [] = refl
@@ -153,26 +124,13 @@ pub no_ordinates : (p : Option ℕ) (r : Range) (cs : List Coordinate) → ((k :
 no_ordinates None r cs none = ap (widened r) (sym (no_column cs))
 no_ordinates (Some k) r cs none = absurd (none k refl)
 
-pub place_is : (d : Dimension) (p : Option ℕ) (k : ℕ) → p ≡ Some k → IfSome p (λ k. k < width d) → k < width d
-place_is d p k is within = subst (λ p. IfSome p (λ k. k < width d)) is within
+pub place_is : (width : ℕ) (p : Option ℕ) (k : ℕ) → p ≡ Some k → IfSome p (λ k. k < width) → k < width
+place_is width p k is within = subst (λ p. IfSome p (λ k. k < width)) is within
 
--- a range can be widened by the words at a place of the coordinates
-pub can_widen : {k : Ranks} {size n : ℕ} {bytes : List ℕ} (d : Dimension) (place : ℕ) → place < width d
-    → size ≡ 8 * width d → 8 * width d * n ≤ length bytes → k.count + length bytes < 2 ^ 64
-    → CanWiden k size (8 * place) n bytes
-can_widen {n = n} d place within size_is whole room = record {
-  inside = omega arith;
-  whole = rw size_is whole;
-  room = omega (arith, wide d n);
-}
-
--- the words at a place are a column of the bytes
-pub ordinates_are : (order : Endianness) (d : Dimension) (size : ℕ) (p : Option ℕ) (k n : ℕ) (bytes : List ℕ)
-    → p ≡ Some k
-    → IfSome p (λ k. k < width d) → size ≡ 8 * width d
-    → column_words order size (8 * k) n bytes ≡ words_of_each (word_at p) (coordinates order d n bytes)
-ordinates_are order d size p k n bytes is within size_is =
-    rw (size_is, is) (sym (column_is order d k n bytes (place_is d p k is within)))
+pub place_there : (p : Option ℕ) (width : ℕ) {size : ℕ} → size ≡ 8 * width → IfSome p (λ k. k < width)
+    → IfSome p (λ k. k < size / 8)
+place_there None width is there = tt
+place_there (Some k) width is there = omega (arith, is, there)
 
 one_word : (p : Option ℕ) (c : Coordinate) → length (word_at p c) ≤ 1
 one_word None c = omega arith
@@ -183,16 +141,50 @@ words_few p [] = omega arith
 words_few p (c ∷ cs) =
     omega (arith, length-append (word_at p c) (words_of_each (word_at p) cs), one_word p c, words_few p cs)
 
--- n coordinates add at most n to a count
-pub counts_more : (order : Endianness) (d : Dimension) (n : ℕ) (bytes : List ℕ) (old new : Bounds) (a : Axis)
-    → Widens old new (λ a. words_in a d (coordinates order d n bytes))
-    → (on a new).count ≤ (on a old).count + n
-counts_more order d n bytes old new a widens =
-    let cs = coordinates order d n bytes in
+pub run_long : (r : Run) → length (coordinates_of r) ≡ r.count
+run_long r = length-items r.size (items 8 (number r.order 8) (r.size / 8)) r.count r.bytes.now
+
+-- a run adds at most its coordinates to a count
+pub counts_more : (d : Dimension) (r : Run) (old new : Bounds) (a : Axis)
+    → Widens old new (λ a. words_in a d (coordinates_of r))
+    → (on a new).count ≤ (on a old).count + r.count
+counts_more d r old new a widens =
+    let cs = coordinates_of r in
     omega (
       arith,
       ap (λ (r : Range). r.count) (widens a),
       widened_count (on a old) (words_in a d cs),
       words_few (axis_place a d) cs,
-      length-items (8 * width d) (coordinate order d) n bytes,
+      run_long r,
     )
+
+-- coordinates are of the size that their dimension has
+rows_are : (order : Endianness) (d : Dimension) (size n : ℕ) (bytes : List ℕ) → size ≡ 8 * width d
+    → rows order size n bytes ≡ coordinates order d n bytes
+rows_are order Xy size n bytes is = ap (λ s. rows order s n bytes) is
+rows_are order _ size n bytes is = ap (λ s. rows order s n bytes) is
+
+pub run_widens : {order : Endianness} (d : Dimension) {size n : ℕ} {bytes : List ℕ} {r : Run} (old new : Bounds)
+    → IsRun order size n bytes r → size ≡ 8 * width d → Widens old new (λ a. words_in a d (coordinates_of r))
+    → Widens old new (λ a. words_in a d (coordinates order d n bytes))
+run_widens {order} d {size} {n} {bytes} old new is sized widens a =
+    widens a
+    ∙ ap (λ cs. widened (on a old) (words_in a d cs)) (is.coordinates_are ∙ rows_are order d size n bytes sized)
+
+-- ---- x and y
+
+module _ {old new : AxisRanks} {cs : List Coordinate} (w : WidensPlane false old new cs) where
+  pub plane_before : ArePlaneNumbers new → ArePlaneNumbers old
+  plane_before n = record { x = w.x.before n.x; y = w.y.before n.y }
+
+  pub plane_widens : ArePlaneNumbers new → WidensBounds old new Xy cs
+  plane_widens n x_axis = w.x.range n.x
+  plane_widens n y_axis = w.y.range n.y
+  plane_widens n z_axis = w.z ∙ no_ordinates None old.z cs (λ k e. absurd cc)
+  plane_widens n m_axis = w.m ∙ no_ordinates None old.m cs (λ k e. absurd cc)
+
+  pub plane_few : (a : Axis) → (on a (bounds_by new)).count ≤ (on a (bounds_by old)).count + length cs
+  plane_few x_axis = omega (arith, w.x.count, words_few (Some 0) cs)
+  plane_few y_axis = omega (arith, w.y.count, words_few (Some 1) cs)
+  plane_few z_axis = omega (arith, ap (λ (r : Range). r.count) w.z)
+  plane_few m_axis = omega (arith, ap (λ (r : Range). r.count) w.m)

@@ -1,6 +1,5 @@
 -- What the bounds of a geometry say of it, and how they are found.
-use Rattle.std.specs.Prelude.{◌≡◌, ℕ, ◌+◌, ◌<◌, ◌^◌, List, length}
-use Rattle.std.specs.Prelude.{Result, Err, IfOk, IfErr}
+use Rattle.std.specs.Prelude.{◌≡◌, ℕ, ◌+◌, ◌<◌, ◌^◌, Bool, Some, List, Result, Err, IfOk, IfErr}
 use Rattle.wkb_geom.specs.declared.common.Dimension.{Dimension}
 use Rattle.wkb_geom.specs.Fronts.{Front}
 use Rattle.wkb_geom.specs.Spellings.{Spelling}
@@ -10,9 +9,8 @@ use Rattle.wkb_bounds.specs.declared.range.Range.{Range}
 use Rattle.wkb_bounds.specs.declared.range.Bounds.{Bounds}
 use Rattle.wkb_check.specs.Public.{Checks}
 use Rattle.wkb_bounds.specs.declared.axes.AxisRanks.{AxisRanks}
-use Rattle.wkb_bounds.specs.Ranges.{no_numbers, widened, range_of, range_by, AreNumbers}
-use Rattle.wkb_bounds.specs.Ordinates.{Axis, x_axis, y_axis, z_axis, m_axis, words_in}
-use Rattle.wkb_bounds.specs.Ordinates.{words_on}
+use Rattle.wkb_bounds.specs.Ranges.{no_numbers, widened, range_of, range_by, AreNumbers, WidensRanks}
+use Rattle.wkb_bounds.specs.Ordinates.{Axis, x_axis, y_axis, z_axis, m_axis, words_at, words_in, words_on}
 
 -- the range on an axis
 abbrev pub on : Axis → Bounds → Range
@@ -66,6 +64,13 @@ pub record ArePlaneNumbers (k : AxisRanks) : Type 0 where
   pub x : AreNumbers k.x
   pub y : AreNumbers k.y
 
--- as many more words can be counted as there are bytes
-abbrev pub HasRoom : Bounds → List ℕ → Type 0
-HasRoom b bytes = (a : Axis) → (on a b).count + length bytes < 2 ^ 64
+-- the ranks of x and y are widened by some coordinates
+pub record WidensPlane (tested : Bool) (old new : AxisRanks) (cs : List Coordinate) : Type 0 where
+  pub x : WidensRanks tested old.x new.x (words_at (Some 0) cs)
+  pub y : WidensRanks tested old.y new.y (words_at (Some 1) cs)
+  pub z : new.z ≡ old.z
+  pub m : new.m ≡ old.m
+
+-- so many more words can be counted
+abbrev pub HasRoom : Bounds → ℕ → Type 0
+HasRoom b n = (a : Axis) → (on a b).count + n < 2 ^ 64

@@ -1,3 +1,4 @@
 pub mod Ranges
 pub mod Ordinates
 pub mod Bounded
+pub mod Runs

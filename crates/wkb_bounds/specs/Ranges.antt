@@ -1,5 +1,6 @@
 -- The range of some words.
-use Rattle.std.specs.Prelude.{◌≡◌, ℕ, ◌+◌, ◌-◌, ◌*◌, ◌^◌, ◌<◌, ◌≤◌, List, [], ◌∷◌, length, nat_lt, if◌then◌else◌}
+use Rattle.std.specs.Prelude.{◌≡◌, ℕ, ◌+◌, ◌-◌, ◌^◌, ◌≤◌, ⊤, Bool, true, false, List, [], ◌∷◌, length, nat_lt}
+use Rattle.std.specs.Prelude.{if◌then◌else◌}
 use Rattle.wkb_geom.specs.Numbers.{is_nan}
 use Rattle.wkb_geom.specs.Ranks.{rank}
 use Rattle.wkb_bounds.specs.declared.range.Range.{Range}
@@ -41,12 +42,6 @@ range_of ws = widened no_numbers ws
 abbrev pub range_by : Ranks → Range
 range_by k = record { least = word_of k.least; greatest = word_of k.greatest; count = k.count }
 
--- n items of this size are there, with a word at this offset, and so many more words can be counted
-pub record CanWiden (k : Ranks) (size at n : ℕ) (bytes : List ℕ) : Type 0 where
-  pub inside : at + 8 ≤ size
-  pub whole : size * n ≤ length bytes
-  pub room : k.count + n < 2 ^ 64
-
 -- the range of these ranks is widened by some words
 abbrev pub WidensRange : Ranks → Ranks → List ℕ → Type 0
 WidensRange old new words = range_by new ≡ widened (range_by old) words
@@ -56,13 +51,13 @@ pub record AreNumbers (k : Ranks) : Type 0 where
   pub low : 0x000fffffffffffff ≤ k.least
   pub high : k.greatest ≤ 0xfff0000000000000
 
--- if the new ranks are of numbers, so are the old ones, and the word between them is one
-pub record WidensNumbers (old : Ranks) (w : ℕ) (new : Ranks) : Type 0 where
-  pub before : AreNumbers new → AreNumbers old
-  pub range : AreNumbers new → range_by new ≡ with_word (range_by old) w
-  pub count : new.count ≡ old.count + 1
+-- the ranks are right if each word was tested, or else all were numbers
+abbrev pub AreRight : Bool → Ranks → Type 0
+AreRight true k = ⊤
+AreRight false k = AreNumbers k
 
--- if the new ranks are of numbers, so are the old ones, and so many words were counted
-pub record FollowsNumbers (old : Ranks) (n : ℕ) (new : Ranks) : Type 0 where
-  pub before : AreNumbers new → AreNumbers old
-  pub count : new.count ≡ old.count + n
+-- these ranks are widened by some words, and if they are right then, they were so before
+pub record WidensRanks (tested : Bool) (old new : Ranks) (ws : List ℕ) : Type 0 where
+  pub before : AreRight tested new → AreRight tested old
+  pub range : AreRight tested new → WidensRange old new ws
+  pub count : new.count ≤ old.count + length ws

@@ -1,22 +1,17 @@
 //! Ranges on all axes, while they are widened.
 
-ghost use Rattle.std.specs.Prelude.{◌≡◌, ◌+◌, ◌*◌, ◌≤◌, false, length, true};
-ghost use Rattle.wkb_geom.specs.declared.common.Dimension.TheVariants.{Xy};
+ghost use Rattle.std.specs.Prelude.{◌≡◌, ◌*◌, ◌<◌, ◌≤◌, IfSome, false, length, true};
 ghost use Rattle.wkb_geom.specs.Dimensions.{width};
-ghost use Rattle.wkb_geom.specs.Reading.{coordinates};
-ghost use Rattle.wkb_bounds.specs.Ranges.{CanWiden, WidensRange, AreNumbers, FollowsNumbers};
-ghost use Rattle.wkb_bounds.specs.Ordinates.{Axis, column_words, axis_place, z_axis, m_axis};
-ghost use Rattle.wkb_bounds.specs.Bounded.{WidensBounds, ArePlaneNumbers, HasRoom, bounds_by, on};
+ghost use Rattle.wkb_bounds.specs.Ordinates.{axis_place, z_axis, m_axis};
+ghost use Rattle.wkb_bounds.specs.Bounded.{WidensBounds, WidensPlane, ArePlaneNumbers, HasRoom, bounds_by};
 ghost use Rattle.wkb_bounds.specs.Bounded.{nothing as no_bounds};
+ghost use Rattle.wkb_bounds.specs.Runs.{coordinates_of, rows};
 
 use crate::by_order;
 use crate::range::{Bounds, Range};
 use crate::ranks::Ranks;
-use wkb_geom::words::{WORD_SIZE, rest_from, u64_at};
+use crate::run::Run;
 use wkb_geom::{Dimension, Endianness};
-
-/// The bytes of a coordinate of an x and a y.
-const XY_SIZE: usize = 2 * WORD_SIZE;
 
 /// The ranges on each axis. Most coordinates have no z and no m, whose ranges are kept as they are returned.
 #[derive(Clone, Copy)]
@@ -27,112 +22,11 @@ pub(crate) struct AxisRanks {
     m: Range,
 }
 
-/// Widens the ranks of x and y by the first two words of each of `count` coordinates, as if each were a number.
-#[tactic(auto, using(crate::proofs::Widening::column_laws))]
-#[inline(always)]
-fn widen_plane_by_numbers(
-    x: &mut Ranks,
-    y: &mut Ranks,
-    order: Endianness,
-    size: usize,
-    count: u32,
-    bytes: &[u8],
-)
-    requires x { CanWiden x.old size 0 count bytes.now }
-    requires y { CanWiden y.old size 8 count bytes.now }
-    ensures x { AreNumbers x.new → WidensRange x.old x.new (column_words order size 0 count bytes.now) }
-    ensures y { AreNumbers y.new → WidensRange y.old y.new (column_words order size 8 count bytes.now) }
-    ensures x_follows { FollowsNumbers x.old count x.new }
-    ensures y_follows { FollowsNumbers y.old count y.new }
-{
-    let mut x_ranks = *x;
-    let mut y_ranks = *y;
-    let mut rest = bytes;
-    for _ in 0..count {
-        x_ranks = x_ranks.with_number(u64_at(rest, 0, order));
-        y_ranks = y_ranks.with_number(u64_at(rest, WORD_SIZE, order));
-        rest = rest_from(rest, size);
-    }
-    *x = x_ranks;
-    *y = y_ranks;
-}
-
-/// Widens the ranges of x and y by the first two words of each of `count` coordinates, which have `size` bytes each.
-#[inline(always)]
-fn widen_plane_in(
-    x: &mut Ranks,
-    y: &mut Ranks,
-    order: Endianness,
-    size: usize,
-    count: u32,
-    bytes: &[u8],
-)
-    requires x { CanWiden x.old size 0 count bytes.now }
-    requires y { CanWiden y.old size 8 count bytes.now }
-    ensures x { WidensRange x.old x.new (column_words order size 0 count bytes.now) }
-    ensures y { WidensRange y.old y.new (column_words order size 8 count bytes.now) }
-{
-    let mut x_numbers = *x;
-    let mut y_numbers = *y;
-    widen_plane_by_numbers(&mut x_numbers, &mut y_numbers, order, size, count, bytes);
-    if x_numbers.are_numbers() && y_numbers.are_numbers() {
-        *x = x_numbers;
-        *y = y_numbers;
-    } else {
-        widen_plane_word_by_word(x, y, order, size, count, bytes);
-    }
-}
-
-/// As `widen_plane_in`, with a test of each word. It isn't inlined, so that the loop without such tests is short.
-#[tactic(auto, using(crate::proofs::Widening::column_laws))]
-#[inline(never)]
-fn widen_plane_word_by_word(
-    x: &mut Ranks,
-    y: &mut Ranks,
-    order: Endianness,
-    size: usize,
-    count: u32,
-    bytes: &[u8],
-)
-    requires x { CanWiden x.old size 0 count bytes.now }
-    requires y { CanWiden y.old size 8 count bytes.now }
-    ensures x { WidensRange x.old x.new (column_words order size 0 count bytes.now) }
-    ensures y { WidensRange y.old y.new (column_words order size 8 count bytes.now) }
-{
-    let mut x_ranks = *x;
-    let mut y_ranks = *y;
-    let mut rest = bytes;
-    for _ in 0..count {
-        x_ranks = x_ranks.with(u64_at(rest, 0, order));
-        y_ranks = y_ranks.with(u64_at(rest, WORD_SIZE, order));
-        rest = rest_from(rest, size);
-    }
-    *x = x_ranks;
-    *y = y_ranks;
-}
-
-/// As `widen_plane_in`, with a loop for each order. It isn't inlined, so that its counters stay in registers.
-#[inline(never)]
-fn widen_plane(
-    x: &mut Ranks,
-    y: &mut Ranks,
-    order: Endianness,
-    size: usize,
-    count: u32,
-    bytes: &[u8],
-)
-    requires x { CanWiden x.old size 0 count bytes.now }
-    requires y { CanWiden y.old size 8 count bytes.now }
-    ensures x { WidensRange x.old x.new (column_words order size 0 count bytes.now) }
-    ensures y { WidensRange y.old y.new (column_words order size 8 count bytes.now) }
-{
-    by_order!(order, widen_plane_in(x, y, order, size, count, bytes))
-}
-
 /// Which word of a coordinate is its z.
 #[inline(always)]
 pub(crate) fn place_of_z(dimension: Dimension) -> Option<usize>
-    ensures { result ≡ axis_place z_axis dimension }
+    ensures place { result ≡ axis_place z_axis dimension }
+    ensures there { IfSome result (λ k. k < width dimension) }
 {
     match dimension {
         Dimension::Xyz | Dimension::Xyzm => Some(2),
@@ -143,7 +37,8 @@ pub(crate) fn place_of_z(dimension: Dimension) -> Option<usize>
 /// Which word of a coordinate is its m.
 #[inline(always)]
 pub(crate) fn place_of_m(dimension: Dimension) -> Option<usize>
-    ensures { result ≡ axis_place m_axis dimension }
+    ensures place { result ≡ axis_place m_axis dimension }
+    ensures there { IfSome result (λ k. k < width dimension) }
 {
     match dimension {
         Dimension::Xym => Some(2),
@@ -180,39 +75,83 @@ impl AxisRanks {
         }
     }
 
-    /// Widens the ranges by the `count` coordinates at the start of the bytes.
+    /// Widens the ranks of x and y by a run. Words that aren't tested are taken for numbers. If the order is a constant,
+    /// the ranks stay in registers.
+    #[tactic(auto, using(crate::proofs::Widening::run_laws))]
     #[inline(always)]
-    pub(crate) fn widen(
-        &mut self,
-        order: Endianness,
-        dimension: Dimension,
-        count: u32,
-        bytes: &[u8],
-    )
-        requires whole { 8 * width dimension * count ≤ length bytes.now }
-        requires room { HasRoom (bounds_by self.old) bytes.now }
-        ensures { WidensBounds self.old self.new dimension (coordinates order dimension count bytes.now) }
+    pub(crate) fn widen_plane_by(&mut self, run: Run<'_>, tested: bool)
+        requires plane { 16 ≤ run.size }
+        requires room { HasRoom (bounds_by self.old) run.count }
+        ensures { WidensPlane tested self.old self.new (coordinates_of run.entry) }
     {
-        let size = dimension.coordinate_size();
-        widen_plane(&mut self.x, &mut self.y, order, size, count, bytes);
-        let z = place_of_z(dimension);
-        self.z.widen_at(z, order, dimension, count, bytes);
-        let m = place_of_m(dimension);
-        self.m.widen_at(m, order, dimension, count, bytes);
+        let mut x = self.x;
+        let mut y = self.y;
+        let mut left = run;
+        while left.count > 0 {
+            x = x.with(left.first_word(0), tested);
+            y = y.with(left.first_word(1), tested);
+            left = left.behind_first();
+        }
+        self.x = x;
+        self.y = y;
     }
 
-    /// Widens the ranks by coordinates of an x and a y, as if each word were a number. If it is inlined, the order is a
-    /// constant, and the ranks stay in registers.
+    /// As `widen_plane_by`, with a test of each word where one isn't a number.
+    #[tactic(auto, using(crate::proofs::Widening::run_laws))]
     #[inline(always)]
-    pub(crate) fn widen_xy_by_numbers(&mut self, order: Endianness, count: u32, bytes: &[u8])
-        requires whole { XY_SIZE * count ≤ length bytes.now }
-        requires room { HasRoom (bounds_by self.old) bytes.now }
-        ensures before { ArePlaneNumbers self.new → ArePlaneNumbers self.old }
-        ensures widens { ArePlaneNumbers self.new
-            → WidensBounds self.old self.new Xy (coordinates order Xy count bytes.now) }
-        ensures few { (a : Axis) → (on a (bounds_by self.new)).count ≤ (on a (bounds_by self.old)).count + count }
+    fn widen_plane_in(&mut self, run: Run<'_>)
+        requires plane { 16 ≤ run.size }
+        requires room { HasRoom (bounds_by self.old) run.count }
+        ensures { WidensPlane true self.old self.new (coordinates_of run.entry) }
     {
-        widen_plane_by_numbers(&mut self.x, &mut self.y, order, XY_SIZE, count, bytes);
+        let mut numbers = *self;
+        numbers.widen_plane_by(run, false);
+        if numbers.are_plane_numbers() {
+            self.x = numbers.x;
+            self.y = numbers.y;
+        } else {
+            self.widen_plane_word_by_word(run.order, run.size, run.count, run.bytes);
+        }
+    }
+
+    /// As `widen_plane_by`, with a test of each word. It isn't inlined, so that the loop without such tests is short.
+    #[tactic(auto, using(crate::proofs::Widening::run_laws))]
+    #[inline(never)]
+    fn widen_plane_word_by_word(&mut self, order: Endianness, size: usize, count: u32, bytes: &[u8])
+        requires plane { 16 ≤ size }
+        requires whole { size * count ≤ length bytes.now }
+        requires room { HasRoom (bounds_by self.old) count }
+        ensures { WidensPlane true self.old self.new (rows order size count bytes.now) }
+    {
+        self.widen_plane_by(Run::of(order, size, count, bytes), true);
+    }
+
+    /// As `widen_plane_in`, with a loop for each order. It isn't inlined, so that its counters stay in registers.
+    #[tactic(auto, using(crate::proofs::Widening::run_laws))]
+    #[inline(never)]
+    fn widen_plane(&mut self, order: Endianness, size: usize, count: u32, bytes: &[u8])
+        requires plane { 16 ≤ size }
+        requires whole { size * count ≤ length bytes.now }
+        requires room { HasRoom (bounds_by self.old) count }
+        ensures { WidensPlane true self.old self.new (rows order size count bytes.now) }
+    {
+        by_order!(
+            order,
+            self.widen_plane_in(Run::of(order, size, count, bytes))
+        )
+    }
+
+    /// Widens the ranges by a run of coordinates of this dimension.
+    #[tactic(auto, using(crate::proofs::Widening::place_there))]
+    #[inline(always)]
+    pub(crate) fn widen(&mut self, dimension: Dimension, run: Run<'_>)
+        requires sized { run.size ≡ 8 * width dimension }
+        requires room { HasRoom (bounds_by self.old) run.count }
+        ensures { WidensBounds self.old self.new dimension (coordinates_of run.entry) }
+    {
+        self.widen_plane(run.order, run.size, run.count, run.bytes);
+        self.z.widen_at(place_of_z(dimension), run);
+        self.m.widen_at(place_of_m(dimension), run);
     }
 
     /// Whether all words of x and y were numbers.

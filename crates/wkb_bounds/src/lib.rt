@@ -24,6 +24,7 @@ mod axes;
 mod coordinate;
 mod range;
 mod ranks;
+mod run;
 mod scan;
 mod widen;
 

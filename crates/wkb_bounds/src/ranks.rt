@@ -1,15 +1,15 @@
 //! Ranges by the order of numbers on their words.
 
-ghost use Rattle.std.specs.Prelude.{◌≡◌, ◌+◌, ◌*◌, ◌<◌, ◌≤◌, ◌^◌, length, IfSome, false, true};
-ghost use Rattle.wkb_geom.specs.Dimensions.{width};
-ghost use Rattle.wkb_bounds.specs.Ranges.{word_of as word_by, range_by, with_word};
-ghost use Rattle.wkb_bounds.specs.Ranges.{widened, CanWiden, WidensRange, AreNumbers, WidensNumbers};
-ghost use Rattle.wkb_bounds.specs.Ordinates.{column_words, place_words};
+ghost use Rattle.std.specs.Prelude.{◌≡◌, ◌+◌, ◌*◌, ◌/◌, ◌<◌, ◌≤◌, ◌^◌, [], ◌∷◌, length, IfSome, Some, false, true};
+ghost use Rattle.wkb_bounds.specs.Ranges.{word_of as word_by, range_by, widened, AreNumbers, WidensRanks};
+ghost use Rattle.wkb_bounds.specs.Ordinates.{words_at};
+ghost use Rattle.wkb_bounds.specs.Runs.{coordinates_of, rows};
 
 use crate::by_order;
 use crate::range::Range;
-use wkb_geom::words::{SIGN, WORD_SIZE, is_nan, rank, rest_from, u64_at};
-use wkb_geom::{Dimension, Endianness};
+use crate::run::Run;
+use wkb_geom::Endianness;
+use wkb_geom::words::{SIGN, is_nan, rank};
 
 /// The rank of minus infinity, the least number.
 const LEAST_RANK: u64 = 0x000f_ffff_ffff_ffff;
@@ -57,29 +57,16 @@ impl Ranks {
         }
     }
 
-    /// The range widened by this word, if it is a number.
+    /// The ranks widened by this word. One that isn't tested is taken for a number: of another the ranks tell it.
+    #[tactic(auto, using(crate::proofs::Ranking::passed_by))]
     #[inline(always)]
-    pub(crate) fn with(self, word: u64) -> Ranks
+    pub(crate) fn with(self, word: u64, tested: bool) -> Ranks
         requires room { self.count + 1 < 2 ^ 64 }
-        ensures { range_by result ≡ with_word (range_by self) word }
+        ensures { WidensRanks tested self result (word ∷ []) }
     {
-        if is_nan(word) {
+        if tested && is_nan(word) {
             return self;
         }
-        let here = rank(word);
-        Ranks {
-            least: self.least.min(here),
-            greatest: self.greatest.max(here),
-            count: self.count + 1,
-        }
-    }
-
-    /// The ranks widened by this word as if it were a number. Of another the ranks tell it.
-    #[inline(always)]
-    pub(crate) fn with_number(self, word: u64) -> Ranks
-        requires room { self.count + 1 < 2 ^ 64 }
-        ensures { WidensNumbers self word result }
-    {
         let here = rank(word);
         Ranks {
             least: self.least.min(here),
@@ -97,98 +84,83 @@ impl Ranks {
         LEAST_RANK <= self.least && self.greatest <= GREATEST_RANK
     }
 
-    /// Widens the ranks by a word of each of `count` coordinates, as if each were a number.
-    #[tactic(auto, using(crate::proofs::Widening::column_laws))]
+    /// Widens the ranks by word `k` of each coordinate.
+    #[tactic(auto, using(crate::proofs::Widening::run_laws))]
     #[inline(always)]
-    fn widen_by_numbers(
-        &mut self,
-        order: Endianness,
-        size: usize,
-        at: usize,
-        count: u32,
-        bytes: &[u8],
-    )
-        requires { CanWiden self.old size at count bytes.now }
-        ensures { AreNumbers self.new
-            → WidensRange self.old self.new (column_words order size at count bytes.now) }
+    fn widen_by(&mut self, k: usize, run: Run<'_>, tested: bool)
+        requires there { k < run.size / 8 }
+        requires room { self.old.count + run.count < 2 ^ 64 }
+        ensures { WidensRanks tested self.old self.new (words_at (Some k) (coordinates_of run.entry)) }
     {
         let mut ranks = *self;
-        let mut rest = bytes;
-        for _ in 0..count {
-            ranks = ranks.with_number(u64_at(rest, at, order));
-            rest = rest_from(rest, size);
+        let mut left = run;
+        while left.count > 0 {
+            ranks = ranks.with(left.first_word(k), tested);
+            left = left.behind_first();
         }
         *self = ranks;
     }
 
-    /// Widens the range by the word at offset `at` of each of `count` coordinates, which have `size` bytes each.
+    /// As `widen_by`, with a test of each word where one isn't a number.
+    #[tactic(auto, using(crate::proofs::Widening::run_laws))]
     #[inline(always)]
-    fn widen_in(&mut self, order: Endianness, size: usize, at: usize, count: u32, bytes: &[u8])
-        requires { CanWiden self.old size at count bytes.now }
-        ensures { WidensRange self.old self.new (column_words order size at count bytes.now) }
+    fn widen_in(&mut self, k: usize, run: Run<'_>)
+        requires there { k < run.size / 8 }
+        requires room { self.old.count + run.count < 2 ^ 64 }
+        ensures { WidensRanks true self.old self.new (words_at (Some k) (coordinates_of run.entry)) }
     {
         let mut numbers = *self;
-        numbers.widen_by_numbers(order, size, at, count, bytes);
+        numbers.widen_by(k, run, false);
         if numbers.are_numbers() {
             *self = numbers;
         } else {
-            self.widen_word_by_word(order, size, at, count, bytes);
+            self.widen_word_by_word(k, run.order, run.size, run.count, run.bytes);
         }
     }
 
-    /// As `widen_in`, with a test of each word. It isn't inlined, so that the loop without such tests is short.
-    #[tactic(auto, using(crate::proofs::Widening::column_laws))]
+    /// As `widen_by`, with a test of each word. It isn't inlined, so that the loop without such tests is short.
+    #[tactic(auto, using(crate::proofs::Widening::run_laws))]
     #[inline(never)]
     fn widen_word_by_word(
         &mut self,
+        k: usize,
         order: Endianness,
         size: usize,
-        at: usize,
         count: u32,
         bytes: &[u8],
     )
-        requires { CanWiden self.old size at count bytes.now }
-        ensures { WidensRange self.old self.new (column_words order size at count bytes.now) }
+        requires there { k < size / 8 }
+        requires whole { size * count ≤ length bytes.now }
+        requires room { self.old.count + count < 2 ^ 64 }
+        ensures { WidensRanks true self.old self.new (words_at (Some k) (rows order size count bytes.now)) }
     {
-        let mut ranks = *self;
-        let mut rest = bytes;
-        for _ in 0..count {
-            ranks = ranks.with(u64_at(rest, at, order));
-            rest = rest_from(rest, size);
-        }
-        *self = ranks;
+        self.widen_by(k, Run::of(order, size, count, bytes), true);
     }
 
     /// As `widen_in`, with a loop for each order. It isn't inlined, so that its counters stay in registers.
+    #[tactic(auto, using(crate::proofs::Widening::run_laws))]
     #[inline(never)]
-    fn widen(&mut self, order: Endianness, size: usize, at: usize, count: u32, bytes: &[u8])
-        requires { CanWiden self.old size at count bytes.now }
-        ensures { WidensRange self.old self.new (column_words order size at count bytes.now) }
+    fn widen(&mut self, k: usize, order: Endianness, size: usize, count: u32, bytes: &[u8])
+        requires there { k < size / 8 }
+        requires whole { size * count ≤ length bytes.now }
+        requires room { self.old.count + count < 2 ^ 64 }
+        ensures { WidensRanks true self.old self.new (words_at (Some k) (rows order size count bytes.now)) }
     {
-        by_order!(order, self.widen_in(order, size, at, count, bytes))
+        by_order!(order, self.widen_in(k, Run::of(order, size, count, bytes)))
     }
 }
 
 impl Range {
-    /// Widens the range by the word at this place of each of `count` coordinates, if they have one there.
+    /// Widens the range by the word at this place of each coordinate, if they have one there.
     #[inline(always)]
-    pub(crate) fn widen_at(
-        &mut self,
-        place: Option<usize>,
-        order: Endianness,
-        dimension: Dimension,
-        count: u32,
-        bytes: &[u8],
-    )
-        requires place { IfSome place (λ k. k < width dimension) }
-        requires whole { 8 * width dimension * count ≤ length bytes.now }
-        requires room { self.old.count + length bytes.now < 2 ^ 64 }
-        ensures { self.new ≡ widened self.old (place_words place order dimension count bytes.now) }
+    pub(crate) fn widen_at(&mut self, place: Option<usize>, run: Run<'_>)
+        requires place { IfSome place (λ k. k < run.size / 8) }
+        requires room { self.old.count + run.count < 2 ^ 64 }
+        ensures { self.new ≡ widened self.old (words_at place (coordinates_of run.entry)) }
     {
-        if let Some(word) = place {
-            let size = dimension.coordinate_size();
+        if let Some(k) = place {
             let mut ranks = Ranks::of(*self);
-            ranks.widen(order, size, WORD_SIZE * word, count, bytes);
+            ranks.widen(k, run.order, run.size, run.count, run.bytes);
             *self = ranks.range();
         }
     }

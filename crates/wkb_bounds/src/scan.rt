@@ -5,7 +5,7 @@ ghost use Rattle.wkb_geom.specs.declared.code.TheConstants.{POLYGON};
 ghost use Rattle.wkb_geom.specs.declared.common.Dimension.TheVariants.{Xy};
 ghost use Rattle.wkb_geom.specs.Dimensions.{width};
 ghost use Rattle.wkb_geom.specs.Reading.{coordinates};
-ghost use Rattle.wkb_bounds.specs.declared.axes.TheConstants.{XY_SIZE};
+ghost use Rattle.wkb_bounds.specs.declared.scan.TheConstants.{XY_SIZE};
 ghost use Rattle.wkb_check.specs.Known.{HasGeometry};
 ghost use Rattle.wkb_bounds.specs.Bounded.{AreBounds, BoundsFront, BoundsOnlyFront, FindsBounds};
 ghost use Rattle.wkb_bounds.specs.Bounded.{nothing as no_bounds, Widens};
@@ -16,10 +16,14 @@ ghost use Rattle.wkb_check.specs.Public.{Checks, DescribesFront, HasNoPlain};
 use crate::axes::AxisRanks;
 use crate::by_order;
 use crate::range::Bounds;
+use crate::run::Run;
 use wkb_check::{Piece, Pieces, Refused, Summary, check, check_plain};
 use wkb_geom::code::{POLYGON, WkbType};
-use wkb_geom::words::rest_from;
+use wkb_geom::words::{WORD_SIZE, rest_from};
 use wkb_geom::{Dimension, Endianness};
+
+/// The bytes of a coordinate of an x and a y.
+const XY_SIZE: usize = 2 * WORD_SIZE;
 
 /// Writes the bounds of `count` coordinates of x and y in an order that is a constant if this is inlined.
 #[inline(always)]
@@ -28,7 +32,7 @@ fn xy_bounds_of_order_into(order: Endianness, count: u32, bytes: &[u8], bounds: 
     ensures { Widens no_bounds bounds.new (λ a. words_in a Xy (coordinates order Xy count bytes.now)) }
 {
     let mut ranks = AxisRanks::empty();
-    ranks.widen_xy_by_numbers(order, count, bytes);
+    ranks.widen_plane_by(Run::of(order, XY_SIZE, count, bytes), false);
     if !ranks.are_plane_numbers() {
         coordinates_bounds_into(order, Dimension::Xy, count, bytes, bounds);
         return;
@@ -58,7 +62,8 @@ fn coordinates_bounds_into(
     ensures { Widens no_bounds bounds.new (λ a. words_in a dimension (coordinates order dimension count bytes.now)) }
 {
     let mut ranks = AxisRanks::empty();
-    ranks.widen(order, dimension, count, bytes);
+    let run = Run::of(order, dimension.coordinate_size(), count, bytes);
+    ranks.widen(dimension, run);
     *bounds = ranks.bounds();
 }
 
@@ -94,7 +99,7 @@ fn rings_bounds_of_order_into(buf: &[u8], order: Endianness, srid: Option<u32>, 
     let mut pieces = Pieces::behind(buf, &first);
     while let Some(ring) = pieces.next_if_ring() {
         let bytes = rest_from(buf, ring.offset);
-        ranks.widen_xy_by_numbers(order, ring.count, bytes);
+        ranks.widen_plane_by(Run::of(order, XY_SIZE, ring.count, bytes), false);
     }
     if !ranks.are_plane_numbers() {
         front_bounds_into(buf, bounds);
@@ -142,7 +147,9 @@ fn front_bounds_into(buf: &[u8], bounds: &mut Bounds)
     for piece in Pieces::of(buf) {
         if piece.has_coordinates() {
             let bytes = rest_from(buf, piece.offset);
-            ranks.widen(piece.order, piece.dimension, piece.count, bytes);
+            let size = piece.dimension.coordinate_size();
+            let run = Run::of(piece.order, size, piece.count, bytes);
+            ranks.widen(piece.dimension, run);
         }
     }
     *bounds = ranks.bounds();

@@ -20,6 +20,6 @@ impl Range {
         requires { self.count + 1 < 2 ^ 64 }
         ensures { result ≡ range_with self word }
     {
-        Ranks::of(self).with(word).range()
+        Ranks::of(self).with(word, true).range()
     }
 }

@@ -6,7 +6,7 @@ use Rattle.wkb_bounds.specs.Bounded.{on, bounds_by, nothing, AreBounds}
 use Rattle.wkb_check.proofs.Following.{all_given}
 use Rattle.wkb_bounds.proofs.Words.{widened_push, all_widened, none_counted, leaf_words, leaf_end, no_words}
 use Rattle.wkb_check.proofs.Leaves.{wide}
-use Rattle.wkb_bounds.proofs.Widening.{counts_more}
+use Rattle.wkb_bounds.proofs.Widening.{counts_more, run_widens}
 use Rattle.wkb_bounds.proofs.scan.front_bounds_into.Goals as goal
 
 pub loop-piece-init-derived : goal.loop-piece-init-derived
@@ -37,15 +37,15 @@ loop-piece-preserved-then-has_coordinates c =
       can = c.in-Some.ensures.goes.keeps;
       finite = tt;
       widened = λ a.
-          rw (c.widen.ensures a, c.rest_from-bytes.ensures, ← leaf_words a c.args.buf.now p leaf)
+          rw (run_widens _ _ _ c.of-run.ensures c.coordinate_size-size.ensures c.widen.ensures a, c.rest_from-bytes.ensures, ← leaf_words a c.args.buf.now p leaf)
           (widened_push a c.args.buf.now (on a nothing) c.loop-piece.yielded p _ (c.loop-piece.invariant.widened a));
       same = s.same ∙ c.loop-piece.invariant.same;
       few = λ a.
           omega (
             arith,
             c.loop-piece.invariant.few a,
-            counts_more p.order p.dimension p.count c.rest_from-bytes.result.now (bounds_by c.loop-piece.ranks)
-                (bounds_by c.widen.new.self) a c.widen.ensures,
+            counts_more p.dimension c.of-run.result (bounds_by c.loop-piece.ranks) (bounds_by c.widen.new.self) a c.widen.ensures,
+            c.of-run.ensures.count_is,
             s.inside.begins,
             s.inside.ends,
             leaf_end p leaf,

@@ -4,6 +4,7 @@ use Rattle.wkb_bounds.specs.Bounded.{on, bounds_by, AreBounds}
 use Rattle.wkb_bounds.specs.Ranges.{widened}
 use Rattle.wkb_check.proofs.Ahead.{piece_by}
 use Rattle.wkb_check.proofs.Following.{ring_of, rings_after}
+use Rattle.wkb_bounds.proofs.Widening.{plane_before, plane_widens, plane_few, run_long}
 use Rattle.wkb_bounds.proofs.Words.{first_of_numbers, ring_of_numbers, all_of_numbers, ring_words, leaf_end}
 use Rattle.wkb_bounds.proofs.Words.{none_counted}
 use Rattle.wkb_bounds.proofs.scan.rings_bounds_of_order_into.Goals as goal
@@ -39,12 +40,13 @@ loop-ring-preserved c =
     let s = c.in-Some.ensures.steps in
     let ring = ring_of l.rings c.in-Some.ensures.ring in
     let low = ap (λ k. nat_lt k 3) ring.kind_is in
+    let widens = c.widen_plane_by.ensures in
     record {
       so_far = λ g.
-          ring_of_numbers (l.so_far g) s c.widen_xy_by_numbers.ensures.before
+          ring_of_numbers (l.so_far g) s (plane_before widens)
           (λ n a.
-          c.widen_xy_by_numbers.ensures.widens n a
-          ∙ rw c.rest_from-bytes.ensures
+          plane_widens widens n a
+          ∙ rw (c.of.ensures.coordinates_are, c.rest_from-bytes.ensures)
           (ap (widened (on a (bounds_by c.loop-ring.ranks))) (sym (ring_words a c.args.buf.now p ring))));
       rings = rings_after l.rings c.next_if_ring.ensures.rings;
       same = s.same ∙ l.same;
@@ -52,7 +54,9 @@ loop-ring-preserved c =
           omega (
             arith,
             l.few a,
-            c.widen_xy_by_numbers.ensures.few a,
+            plane_few widens a,
+            run_long c.of.result,
+            c.of.ensures.count_is,
             s.inside.begins,
             s.inside.ends,
             leaf_end p low,

@@ -1,0 +1,27 @@
+use Rattle.std.proofs.Common.{◌≡◌, arith, refl}
+use Rattle.wkb_bounds.specs.Ordinates.{x_axis, y_axis}
+use Rattle.wkb_bounds.proofs.Widening.{run_first, run_next, run_done}
+use Rattle.wkb_bounds.proofs.axes.AxisRanks.widen_plane_by.Goals as goal
+
+pub loop-left-init : goal.loop-left-init
+loop-left-init c =
+    let run = c.args.run in
+    record {
+      x_left = run_first c.args.tested 0 c.args.self.now.x run (omega (arith, c.requires.plane)) (c.requires.room x_axis);
+      y_left = run_first c.args.tested 1 c.args.self.now.y run (omega (arith, c.requires.plane)) (c.requires.room y_axis);
+    }
+
+pub loop-left-preserved : goal.loop-left-preserved
+loop-left-preserved c =
+    let l = c.loop-left.invariant in
+    let behind = c.behind_first-left.ensures in
+    record {
+      x_left = run_next l.x_left c.first_word.ensures c.with-x.ensures behind;
+      y_left = run_next l.y_left c.first_word-in-loop-left.ensures c.with-y.ensures behind;
+    }
+
+pub returns : goal.returns
+returns c =
+    let l = c.loop-left.invariant in
+    let none : c.loop-left.left.count ≡ 0 = omega (arith, c.loop-left-test.false) in
+    record { x = run_done l.x_left none; y = run_done l.y_left none; z = refl; m = refl }
