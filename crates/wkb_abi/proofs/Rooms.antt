@@ -11,8 +11,8 @@ use Rattle.wkb_check.specs.declared.answer.Summary.{Summary}
 use Rattle.wkb_abi.specs.Columns.{IsRow}
 use Rattle.wkb_abi.specs.declared.column.Column.{Column}
 use Rattle.wkb_abi.specs.Coordinates.{LevelLists, HasRoomUpTo, LevelsSuffice, written, no_room, LacksCoordinates}
-use Rattle.wkb_abi.specs.Coordinates.{IsCoordinatesRow, HasCoordinates, handed, failed, refused}
-use Rattle.wkb_abi.specs.LevelLists.{LaysAny, LaysRow, accepted, rejected}
+use Rattle.wkb_abi.specs.Coordinates.{IsCoordinatesRow, handed, failed}
+use Rattle.wkb_abi.specs.LevelLists.{LaysFound, LaysRow}
 use Rattle.wkb_abi.specs.declared.level_slices.LevelSlices.{LevelSlices}
 use Rattle.wkb_abi.specs.Coordinates.{totals_after, with_levels, ring_counts, single_counts, ends, asked_subject_words}
 use Rattle.wkb_abi.specs.declared.totals.Totals.{Totals}
@@ -22,29 +22,24 @@ use Rattle.wkb_abi.proofs.Levels.{AreSmall, none_added}
 use Rattle.wkb_abi.proofs.Reasons.{coordinates_tell_other}
 use Rattle.wkb_abi.proofs.Rows.{statuses_more}
 
--- what was checked has coordinates
-pub has_coordinates : {c : Column} {dimension i : ℕ} {asked : Dimension} (row : List ℕ) → IsRow c i row
-    → dimension_of_thousands dimension ≡ Some asked → (found : Summary) → (d : DescribesFront row found)
-    → HasCoordinates c dimension i asked (subjects d.spelled d.value)
-has_coordinates row is asked_is found d = record {
-  row = row;
-  is_row = is;
-  asked_is = asked_is;
-  s = d.spelled;
-  t = d.value;
-  rest = d.rest;
-  front = d.front;
-  are = refl;
-}
-
--- what becomes of a row that has these bytes
-pub any_laid : {c : Column} {dimension i status : ℕ} {asked : Dimension} {row : List ℕ} {from to : Totals}
-    {before after : LevelSlices} → IsRow c i row → dimension_of_thousands dimension ≡ Some asked
-    → LaysAny asked row status from to before after → LaysRow c dimension i status from to before after
-any_laid {asked = asked} {row = row} is asked_is (accepted found d laid) =
-    handed asked (subjects d.spelled d.value) (has_coordinates row is asked_is found d) (laid d)
-any_laid {asked = asked} {row = row} is asked_is (rejected why stays same) =
-    failed (refused row asked is asked_is why) stays same
+-- what becomes of a row in which the check found this
+pub found_laid : {c : Column} {dimension i status : ℕ} {asked : Dimension} {row : List ℕ} {from to : Totals}
+    (before after : LevelSlices) → IsRow c i row → dimension_of_thousands dimension ≡ Some asked → (found : Summary)
+    → DescribesFront row found → LaysFound asked row found status from to before after
+    → LaysRow c dimension i status from to before after
+found_laid {asked = asked} {row = row} before after is asked_is found d laid =
+    handed asked (subjects d.spelled d.value)
+    (record {
+      row = row;
+      is_row = is;
+      asked_is = asked_is;
+      s = d.spelled;
+      t = d.value;
+      rest = d.rest;
+      front = d.front;
+      are = refl;
+    })
+    (laid d)
 
 -- lists are as long as others
 pub record AreAsLong (a b : LevelLists) : Type 0 where

@@ -1,5 +1,6 @@
 -- The slices that the levels are written to, as the code has them.
-use Rattle.std.specs.Prelude.{◌≡◌, ℕ, List}
+use Rattle.std.specs.Prelude.{◌≡◌, ℕ, List, Some}
+use Rattle.wkb_geom.specs.Codes.{dimension_of_thousands}
 use Rattle.wkb_geom.specs.declared.common.Dimension.{Dimension}
 use Rattle.wkb_check.specs.Known.{HasGeometry}
 use Rattle.wkb_check.specs.Public.{DescribesFront}
@@ -8,7 +9,7 @@ use Rattle.wkb_abi.specs.Coordinates.{LevelLists, levels, HasRoomUpTo, totals_af
 use Rattle.wkb_abi.specs.Coordinates.{AreLaid, AreColumnCoordinates, LevelsSuffice}
 use Rattle.wkb_abi.specs.RowItems.{rows_of}
 use Rattle.wkb_check.specs.Subjects.{subjects}
-use Rattle.wkb_abi.specs.Columns.{IsRefusedWith}
+use Rattle.wkb_abi.specs.Columns.{IsRow}
 use Rattle.wkb_abi.specs.declared.column.Column.{Column}
 use Rattle.wkb_abi.specs.declared.level_slices.LevelSlices.{LevelSlices}
 use Rattle.wkb_abi.specs.declared.totals.Totals.{Totals}
@@ -39,18 +40,16 @@ LaysFound asked row found status from to before after =
     (d : DescribesFront row found)
     → AreLaid asked (subjects d.spelled d.value) status from to (levels_of before) (levels_of after)
 
--- the status of a row with any bytes, where its levels begin and end, and what becomes of the slices
-pub data LaysAny (asked : Dimension) (row : List ℕ) (status : ℕ) (from to : Totals) (before after : LevelSlices) : Type 0
-  where
-    accepted : (found : Summary) → DescribesFront row found → LaysFound asked row found status from to before after
-        → LaysAny asked row status from to before after
-    rejected : IsRefusedWith row status → to ≡ from → levels_of after ≡ levels_of before
-        → LaysAny asked row status from to before after
-
 -- the status of row i, where its levels begin and end, and what becomes of the slices
 abbrev pub LaysRow : Column → ℕ → ℕ → ℕ → Totals → Totals → LevelSlices → LevelSlices → Type 0
 LaysRow c dimension i status from to before after =
     IsCoordinatesRow c dimension i status from to (levels_of before) (levels_of after)
+
+-- the same of any row with these bytes, where the number names the dimension
+abbrev pub LaysAny : Dimension → List ℕ → ℕ → Totals → Totals → LevelSlices → LevelSlices → Type 0
+LaysAny asked row status from to before after =
+    (c : Column) (dimension i : ℕ) → IsRow c i row → dimension_of_thousands dimension ≡ Some asked
+    → LaysRow c dimension i status from to before after
 
 -- the levels of all rows are written to the slices, with a status and an end for each row
 abbrev pub AreLevels : Column → ℕ → List ℕ → List ℕ → Totals → LevelSlices → LevelSlices → Type 0
