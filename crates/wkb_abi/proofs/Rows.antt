@@ -1,19 +1,12 @@
 -- The statuses of a column's rows, and their items where each row has one.
-use Rattle.wkb_abi.proofs.Common.{◌≡◌, ℕ, zero, suc, ◌+◌, ◌<◌, List, length, slice_index, refl, sym, subst, arith}
+use Rattle.wkb_abi.proofs.Common.{◌≡◌, ℕ, ◌+◌, ◌<◌, List, length, slice_index, refl, sym, subst, arith}
+use borrow.Author.Count.{below_more}
 use Rattle.std.specs.Prelude.{slice_index_or}
 use Rattle.std.proofs.Common.{set}
 use lib.Seq.{get_or-set_same, get_or-set_other}
 use Rattle.wkb_rewrite.specs.Inputs.{IsAccepted}
 use Rattle.wkb_abi.specs.Columns.{RowShows, RowsShow, accepted, refused, no_row, IsStatusOfRow}
 use Rattle.wkb_abi.specs.declared.column.Column.{Column}
-
--- what holds of the rows below a number, and of the row of this number, holds of the rows below the next
-pub below_more : (Q : ℕ → Type 0) (i : ℕ) → ((j : ℕ) → j < i → Q j) → Q i → (j : ℕ) → j < i + 1 → Q j
-below_more Q zero above own zero h = own
-below_more Q zero above own (suc j) h = absurd (omega (arith, h))
-below_more Q (suc i) above own zero h = above zero (omega arith)
-below_more Q (suc i) above own (suc j) h =
-    below_more (λ k. Q (suc k)) i (λ k h. above (suc k) (omega (arith, h))) own j (omega (arith, h))
 
 -- what holds of the rows below a number, and of its own status, holds with one status more
 pub statuses_more : (Q : ℕ → ℕ → Type 0) (statuses : List ℕ) (i s : ℕ) → i < length statuses

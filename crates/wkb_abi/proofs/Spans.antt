@@ -3,7 +3,7 @@ use Rattle.wkb_abi.proofs.Common.{◌≡◌, ℕ, zero, suc, ◌+◌, ◌<◌, �
 use Rattle.wkb_abi.proofs.Common.{ap, arith}
 use Rattle.std.specs.Prelude.{max, ◌-◌, drop}
 use Rattle.std.proofs.lemmas.List.{length-take}
-use Rattle.wkb_abi.proofs.Rows.{below_more}
+use borrow.Author.Count.{below_more}
 use Rattle.wkb_abi.specs.declared.column.Column.{Column}
 use Rattle.wkb_abi.specs.Columns.{IsSpan, HasNoSpan, HasNoSlice, EndBy, IsReach, IsRow}
 use Rattle.wkb_abi.specs.Columns.{RowsFollow, RowsFit, total_length}
@@ -51,14 +51,9 @@ module _ (c : Column) (row : ℕ → List ℕ) where
       omega (arith, ap length empty, before limit (λ j s e below is. by j s e (omega (arith, below)) is))
   row_fits n before (inr is) limit by =
       let s = is.slice in
-      omega (
-        arith,
-        before s.start s.after,
-        by n s.start s.end (omega arith) s.span,
-        ap length s.row_is,
-        length-take (s.end - s.start) (drop s.start c.bytes.now),
-        s.span.rise,
-      )
+      let above = before s.start s.after in
+      let own = by n s.start s.end (omega arith) s.span in
+      omega (arith, ap length s.row_is, length-take (s.end - s.start) (drop s.start c.bytes.now))
 
   rows_end_and_fit : (n : ℕ) → ((i : ℕ) → i < n → (row i ≡ []) ⊎ IsRow c i (row i)) → EndAndFit n
   rows_end_and_fit zero rows = λ limit by. omega arith

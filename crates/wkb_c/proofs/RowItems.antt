@@ -18,7 +18,8 @@ use Rattle.wkb_abi.specs.RowItems.{KeepsFrom, IsRowStep, laid, lacks, nothing, N
 use Rattle.wkb_abi.specs.Columns.{RowShows, RowsShow}
 use Rattle.wkb_abi.specs.declared.column.Column.{Column}
 use Rattle.wkb_abi.proofs.Reasons.{TellsOther}
-use Rattle.wkb_abi.proofs.Rows.{below_more, statuses_more, shown_more}
+use borrow.Author.Count.{below_more, below_none}
+use Rattle.wkb_abi.proofs.Rows.{statuses_more, shown_more}
 
 -- ---- lists
 
@@ -60,63 +61,53 @@ laid_length xs items start there =
 
 -- ---- a step of one row
 
+-- what a step says of the list that it changes, and of its row
+record StepSays {A : Type 0} (Has : ℕ → List A → Type 0) (Fails : ℕ → ℕ → Type 0) (i status count start : ℕ)
+    (before after : List A) : Type 0 where
+  pub long : length after ≡ length before
+  pub above : (a b : ℕ) → a ≤ b → b ≤ start → slice_range after a b ≡ slice_range before a b
+  pub behind : (k : ℕ) → (status ≡ OK → end_of start count ≤ k) → drop k after ≡ drop k before
+  pub answer : IsRowAnswer Has Fails i status start (end_of start count) after
+  pub room : end_of start count ≤ length before → status ≡ NO_ROOM → ⊥
+
 module _ {A : Type 0} {Has : ℕ → List A → Type 0} {Fails : ℕ → ℕ → Type 0}
   where
-    step_length : {i status count start : ℕ} {before after : List A}
-        → IsRowStep Has Fails i status count start before after
-        → length after ≡ length before
-    step_length {start = start} {before = before} (laid items has ok many there laid_is) =
-        ap length laid_is ∙ ap (λ n. length (take start before ++ (items ++ drop (start + n) before))) many
-        ∙ laid_length before items start (rw many at there)
-    step_length (lacks items has ok many short same) = ap length same
-    step_length (nothing why none same) = ap length same
-
-    step_before : {i status count start : ℕ} {before after : List A}
-        → IsRowStep Has Fails i status count start before after
-        → (a b : ℕ) → a ≤ b → b ≤ start → slice_range after a b ≡ slice_range before a b
-    step_before {start = start} {before = before} (laid items has ok many there laid_is) a b rise below =
-        ap (λ z. slice_range z a b) laid_is ∙ range_before before _ start a b rise below (omega (arith, there))
-    step_before (lacks items has ok many short same) a b rise below = ap (λ z. slice_range z a b) same
-    step_before (nothing why none same) a b rise below = ap (λ z. slice_range z a b) same
-
-    step_behind : {i status count start : ℕ} {before after : List A}
-        → IsRowStep Has Fails i status count start before after
-        → length before < 2 ^ 64 → (k : ℕ) → (status ≡ OK → end_of start count ≤ k) → drop k after ≡ drop k before
-    step_behind {count = count} {start = start} {before = before}
-        (laid items has ok many there laid_is) small k far =
-        let end : end_of start count ≤ k = far ok in
-        let laid_there : start + length items ≤ length before = rw many at there in
-        ap (drop k) (laid_is ∙ ap (λ n. take start before ++ (items ++ drop (start + n) before)) many)
-        ∙ drop_behind before items start k laid_there
-        (omega (arith, end, there, small, many))
-    step_behind (lacks items has ok many short same) small k far = ap (drop k) same
-    step_behind (nothing why none same) small k far = ap (drop k) same
-
-    -- what is known of a row once it is done
-    step_answer : {i status count start : ℕ} {before after : List A}
-        → IsRowStep Has Fails i status count start before after
-        → length before < 2 ^ 64 → start < 2 ^ 64
-        → IsRowAnswer Has Fails i status start (end_of start count) after
-    step_answer {count = count} {start = start} {before = before} {after = after}
-        (laid items has ok many there laid_is) small fits =
+    step_says : {i status count start : ℕ} {before after : List A}
+        → IsRowStep Has Fails i status count start before after → TellsOther Fails → length before < 2 ^ 63
+        → start < 2 ^ 64 → StepSays Has Fails i status count start before after
+    step_says {count = count} {start = start} {before = before} {after = after}
+        (laid items has ok many there laid_is) other small fits =
         let laid_there : start + length items ≤ length before = rw many at there in
         let end : end_of start count ≡ start + length items = omega (arith, there, small, many) in
-        let same = step_length (laid items has ok many there laid_is) in
-        handed items has ok end (omega (arith, end, same, laid_there))
-        (ap (λ e. slice_range after start e) end ∙ ap (λ z. slice_range z start (start + length items)) laid_is
-        ∙ range_laid before items (drop (start + count) before) start (omega (arith, there)))
-    step_answer {count = count} {start = start} (lacks items has ok many short same) small fits =
-        no_room items has ok (ap (end_of start) many) (omega (arith, ap length same, many, short))
-    step_answer {status = status} {count = count} {start = start} (nothing why none same) small fits =
-        failed why (omega (arith, none, fits))
-
-    -- with room up to its end it doesn't lack room
-    step_room : {i status count start : ℕ} {before after : List A}
-        → IsRowStep Has Fails i status count start before after → TellsOther Fails → length before < 2 ^ 63
-        → end_of start count ≤ length before → status ≡ NO_ROOM → ⊥
-    step_room (laid items has ok many there laid_is) other small room told = omega (arith, ok, told)
-    step_room (lacks items has is many short same) other small room told = omega (arith, short, small, room)
-    step_room {i = i} (nothing why none same) other small room told = other i (subst (Fails i) told why)
+        let shown : after ≡ take start before ++ (items ++ drop (start + length items) before) =
+        laid_is ∙ ap (λ n. take start before ++ (items ++ drop (start + n) before)) many in
+        let long : length after ≡ length before = ap length shown ∙ laid_length before items start laid_there in
+        record {
+          long = long;
+          above = λ a b rise below.
+              ap (λ z. slice_range z a b) shown ∙ range_before before _ start a b rise below (omega (arith, there));
+          behind = λ k far.
+              ap (drop k) shown ∙ drop_behind before items start k laid_there (omega (arith, far ok, end));
+          answer =
+              handed items has ok end (omega (arith, end, long, laid_there))
+              (ap (slice_range after start) end ∙ ap (λ z. slice_range z start (start + length items)) shown
+              ∙ range_laid before items (drop (start + length items) before) start (omega (arith, there)));
+          room = λ room told. omega (arith, ok, told);
+        }
+    step_says {start = start} (lacks items has is many short same) other small fits = record {
+      long = ap length same;
+      above = λ a b rise below. ap (λ z. slice_range z a b) same;
+      behind = λ k far. ap (drop k) same;
+      answer = no_room items has is (ap (end_of start) many) (omega (arith, ap length same, many, short));
+      room = λ room told. omega (arith, short, small, room);
+    }
+    step_says {i = i} (nothing why none same) other small fits = record {
+      long = ap length same;
+      above = λ a b rise below. ap (λ z. slice_range z a b) same;
+      behind = λ k far. ap (drop k) same;
+      answer = failed why (omega (arith, none, fits));
+      room = λ room told. other i (subst (Fails i) told why);
+    }
 
     -- what is laid after a row doesn't change its answer
     kept_answer : {i status start end : ℕ} {out new : List A} (at : ℕ)
@@ -190,10 +181,10 @@ rows_first = record {
   at_is = refl;
   fits = omega arith;
   long = refl;
-  each = λ j above. absurd (omega (arith, above));
-  below = λ j above ok. absurd (omega (arith, above));
+  each = below_none _;
+  below = below_none _;
   kept = λ k far. refl;
-  room = λ fit j above told. absurd (omega (arith, above));
+  room = λ fit. below_none _;
 }
 
 start_kept : (ends : List ℕ) (i e j : ℕ) → j ≤ i → start_at 0 (set ends i e) j ≡ start_at 0 ends j
@@ -206,8 +197,8 @@ module _ {A : Type 0} {Has : ℕ → List A → Type 0} {Fails : ℕ → ℕ →
     (step : IsRowStep Has Fails i status count at out new)
     (end_is : end ≡ end_of at count) (other : TellsOther Fails) (small : length before < 2 ^ 63) (below : i < rows)
     (few : rows ≤ rows_of before_statuses before_ends) where
-  small_out : length out < 2 ^ 63
-  small_out = omega (arith, small, done.long)
+  says : StepSays Has Fails i status count at out new
+  says = step_says step other (omega (arith, done.long)) done.fits
 
   status_here : slice_index (set statuses i status) i ≡ status
   status_here = get_or-set_same statuses i status 0 (omega (arith, below, few, done.lists.as_many))
@@ -228,33 +219,26 @@ module _ {A : Type 0} {Has : ℕ → List A → Type 0} {Fails : ℕ → ℕ →
     at_is =
         let next : suc i ≡ i + 1 = omega arith in end_is ∙ sym end_here ∙ ap (start_at 0 (set ends i end)) next;
     fits = omega (arith, end_is);
-    long = step_length step ∙ done.long;
+    long = says.long ∙ done.long;
     each =
         below_more (λ j. IsRowAnswer Has Fails j (slice_index (set statuses i status) j) (start_at 0 (set ends i end) j)
         (slice_index (set ends i end) j) new) i
         (λ j above. rw (status_above j above, end_above j above, start_kept ends i end j (omega (arith, above)))
-        (kept_answer at (done.each j above) (done.below j above) (step_length step) (step_before step)))
+        (kept_answer at (done.each j above) (done.below j above) says.long says.above))
         (rw (status_here, end_here, start_kept ends i end i (omega arith), sym done.at_is)
-        (step_answer step (omega (arith, small_out)) done.fits));
+        says.answer);
     below =
         below_more (λ j. slice_index (set statuses i status) j ≡ OK → slice_index (set ends i end) j ≤ end) i
-        (λ j above ok. omega (
-          arith,
-          end_above j above,
-          done.below j above (sym (status_above j above) ∙ ok),
-          end_is,
-          done.fits,
-        ))
+        (λ j above ok. omega (arith, end_above j above, done.below j above (sym (status_above j above) ∙ ok)))
         (λ ok. omega (arith, end_here, end_is));
     kept = λ k far.
-        step_behind step (omega (arith, small_out)) k
-        (λ ok. omega (arith, far i (omega arith) (status_here ∙ ok), end_here))
+        says.behind k (λ ok. omega (arith, far i (omega arith) (status_here ∙ ok), end_here))
         ∙ done.kept k
         (λ j above ok. omega (arith, far j (omega (arith, above)) (status_above j above ∙ ok), end_above j above));
     room = λ fit.
         statuses_more (λ j told. told ≡ NO_ROOM → ⊥) statuses i status (omega (arith, below, few, done.lists.as_many))
         (done.room (omega (arith, fit, end_is, done.fits)))
-        (step_room step other small_out (omega (arith, fit, end_is, done.long)));
+        (says.room (omega (arith, fit, end_is, done.long)));
   }
 
 -- with room up to the last end no row lacks room
