@@ -37,26 +37,20 @@ both : {xs ys : List Subject} {c d cd r q rq s t st : ℕ} → Count xs c r s �
     → s + t ≡ st → Count (xs ++ ys) cd rq st
 both {xs} {ys} a b c_is r_is s_is =
     let rings = flat_map-append ring_counts xs ys in
-    let singles = flat_map-append single_counts xs ys in
-    let r = flat_map ring_counts in
-    let s = flat_map single_counts in
-    record {
-      coordinates_are =
-          omega (arith, ap sum rings, sum_append (r xs) (r ys), a.coordinates_are, b.coordinates_are, c_is);
-      rings_are = omega (arith, ap length rings, length-append (r xs) (r ys), a.rings_are, b.rings_are, r_is);
-      singles_are = omega (arith, ap length singles, length-append (s xs) (s ys), a.singles_are, b.singles_are, s_is);
+    let singles = flat_map-append single_counts xs ys in record {
+      coordinates_are = omega (arith, ap sum rings, sum_append);
+      rings_are = omega (arith, ap length rings, length-append {A = ℕ});
+      singles_are = omega (arith, ap length singles, length-append {A = ℕ});
     }
 
 -- and so many has one more
 more : {xs : List Subject} {c cd r rq s st : ℕ} (x : Subject) → Count xs c r s → sum (ring_counts x) + c ≡ cd
     → length (ring_counts x) + r ≡ rq → length (single_counts x) + s ≡ st → Count (x ∷ xs) cd rq st
-more {xs} x are c_is r_is s_is =
-    let rings = flat_map ring_counts xs in record {
-      coordinates_are = omega (arith, sum_append (ring_counts x) rings, are.coordinates_are, c_is);
-      rings_are = omega (arith, length-append (ring_counts x) rings, are.rings_are, r_is);
-      singles_are =
-          omega (arith, length-append (single_counts x) (flat_map single_counts xs), are.singles_are, s_is);
-    }
+more x are c_is r_is s_is = record {
+  coordinates_are = omega (arith, sum_append);
+  rings_are = omega (arith, length-append {A = ℕ});
+  singles_are = omega (arith, length-append {A = ℕ});
+}
 
 -- a geometry without members has no subjects in them
 no_member : (ss : Spellings) → Count (subjects_of_each ss no_members) 0 0 0

@@ -106,8 +106,7 @@ ends_append start to (n ∷ ns) ms is =
     ap (λ z. (start + n) ∷ z) (ends_append (start + n) to ns ms (omega (arith, is, sum-first n ns)))
 
 pub sum_append : (ns ms : List ℕ) → sum (ns ++ ms) ≡ sum ns + sum ms
-sum_append [] ms = omega arith
-sum_append (n ∷ ns) ms = omega (arith, sum-first n (ns ++ ms), sum-first n ns, sum_append ns ms)
+sum_append ns ms = grind (arith, common_steps)
 
 -- ---- totals
 
@@ -173,16 +172,6 @@ module _ {input : List ℕ} {p : Piece} {ps : List Piece} {xs : List Subject} (f
       ap (flat_map (asked_subject_words asked)) f.first
       ∙ ap (λ ws. ws ++ flat_map (asked_subject_words asked) f.others) (first_words asked)
 
-  rings_sum : sum (flat_map ring_counts xs) ≡ sum (ring_sizes p) + sum (flat_map ring_counts f.others)
-  rings_sum = ap sum rings_are ∙ sum_append (ring_sizes p) (flat_map ring_counts f.others)
-
-  rings_many : length (flat_map ring_counts xs) ≡ length (ring_sizes p) + length (flat_map ring_counts f.others)
-  rings_many = ap length rings_are ∙ length-append (ring_sizes p) (flat_map ring_counts f.others)
-
-  singles_many : length (flat_map single_counts xs)
-      ≡ length (single_sizes p) + length (flat_map single_counts f.others)
-  singles_many = ap length singles_are ∙ length-append (single_sizes p) (flat_map single_counts f.others)
-
 -- totals are 64-bit integers
 pub record AreSmall (at : Totals) : Type 0 where
   pub coordinates : at.coordinates < 2 ^ 64
@@ -226,11 +215,13 @@ pub totals_next : {input : List ℕ} {now : Pieces} {from at : Totals} {all : Li
 totals_next {input} {at = at} to left taken with =
     let f = first_piece input left.xs left.match_is taken.first in
     let c : end_of to.coordinates (sum (flat_map ring_counts f.others))
-    ≡ end_of at.coordinates (sum (flat_map ring_counts left.xs)) = omega (arith, with.coordinates, rings_sum f) in
+    ≡ end_of at.coordinates (sum (flat_map ring_counts left.xs)) = omega (arith, ap sum (rings_are f), sum_append) in
     let r : end_of to.rings (length (flat_map ring_counts f.others))
-    ≡ end_of at.rings (length (flat_map ring_counts left.xs)) = omega (arith, with.rings, rings_many f) in
+    ≡ end_of at.rings (length (flat_map ring_counts left.xs)) =
+    omega (arith, ap length (rings_are f), length-append {A = ℕ}) in
     let s : end_of to.singles (length (flat_map single_counts f.others))
-    ≡ end_of at.singles (length (flat_map single_counts left.xs)) = omega (arith, with.singles, singles_many f) in
+    ≡ end_of at.singles (length (flat_map single_counts left.xs)) =
+    omega (arith, ap length (singles_are f), length-append {A = ℕ}) in
     record {
       ps = taken.rest;
       ahead = taken.ahead;
@@ -238,9 +229,9 @@ totals_next {input} {at = at} to left taken with =
         xs = f.others;
         match_is = f.pieces;
         small = record {
-          coordinates = omega (arith, with.coordinates);
-          rings = omega (arith, with.rings);
-          singles = omega (arith, with.singles);
+          coordinates = omega arith;
+          rings = omega arith;
+          singles = omega arith;
         };
         total = (λ i. record { coordinates = c i; rings = r i; singles = s i }) ∙ left.total;
       };
@@ -318,12 +309,7 @@ words_length : (asked own : Dimension) (cs : List Coordinate)
     → length (flat_map (words_asked asked own) cs) ≡ width asked * length cs
 words_length asked own [] = omega arith
 words_length asked own (c ∷ cs) =
-    omega (
-      arith,
-      length-append (words_asked asked own c) (flat_map (words_asked asked own) cs),
-      asked_length asked own c,
-      words_length asked own cs,
-    )
+    omega (arith, length-append {A = ℕ}, asked_length asked own c, words_length asked own cs)
 
 -- a ring has as many coordinates as it counts, and nothing else has any
 subject_length : (x : Subject) → length (subject_coordinates x) ≡ sum (ring_counts x)
@@ -341,13 +327,8 @@ subjects_words : (asked : Dimension) (xs : List Subject)
     → length (flat_map (asked_subject_words asked) xs) ≡ width asked * sum (flat_map ring_counts xs)
 subjects_words asked [] = omega arith
 subjects_words asked (x ∷ xs) =
-    omega (
-      arith,
-      length-append (asked_subject_words asked x) (flat_map (asked_subject_words asked) xs),
-      subject_words asked x,
-      subjects_words asked xs,
-      ap (λ n. width asked * n) (sum_append (ring_counts x) (flat_map ring_counts xs)),
-    )
+    let sums = ap (λ n. width asked * n) (sum_append (ring_counts x) (flat_map ring_counts xs)) in
+    omega (arith, length-append {A = ℕ}, subject_words asked x, subjects_words asked xs, sums)
 
 -- these items are still to be laid here, for which there is room, and then the list is this
 pub record ItemsLeft (out : List ℕ) (at : ℕ) (items all : List ℕ) : Type 0 where
@@ -432,32 +413,13 @@ module _ {asked : Dimension} {input : List ℕ} {from : Totals} {all : List Subj
       ∙ ap (λ ns. width asked * sum ns) (own_rings this)
 
   ring_words_fit : width asked * (at.coordinates + sum (ring_sizes p)) ≤ length out.words
-  ring_words_fit =
-      omega (
-        arith,
-        left.words.room,
-        ap length (words_are this asked),
-        length-append (piece_words asked input p) (flat_map (asked_subject_words asked) this.others),
-        piece_length,
-      )
+  ring_words_fit = omega (arith, ap length (words_are this asked), length-append {A = ℕ}, piece_length)
 
   ring_end_fits : at.rings + length (ring_sizes p) ≤ length out.ring_ends
-  ring_end_fits =
-      omega (
-        arith,
-        left.ring_ends.room,
-        ends_length at.coordinates (flat_map ring_counts left.xs),
-        rings_many this,
-      )
+  ring_end_fits = omega (arith, ends_length, ap length (rings_are this), length-append {A = ℕ})
 
   single_end_fits : at.singles + length (single_sizes p) ≤ length out.single_ends
-  single_end_fits =
-      omega (
-        arith,
-        left.single_ends.room,
-        ends_length (at.rings + left.rings_left) (flat_map single_counts left.xs),
-        singles_many this,
-      )
+  single_end_fits = omega (arith, ends_length, ap length (singles_are this), length-append {A = ℕ})
 
   pub piece_fits : PieceFits asked input p at out
   piece_fits = record {
@@ -471,20 +433,13 @@ module _ {asked : Dimension} {input : List ℕ} {from : Totals} {all : List Subj
   module _ (to : Totals) (new : LevelLists) (with : AreTotalsWith at p to)
       (laid : LaysPiece asked input p at out new) where
     coordinates_to : to.coordinates ≡ at.coordinates + sum (ring_sizes p)
-    coordinates_to =
-        omega (
-          arith,
-          with.coordinates,
-          left.words.short,
-          ring_words_fit,
-          wide_enough asked (at.coordinates + sum (ring_sizes p)),
-        )
+    coordinates_to = omega (arith, ring_words_fit, wide_enough asked (at.coordinates + sum (ring_sizes p)))
 
     rings_to : to.rings ≡ at.rings + length (ring_sizes p)
-    rings_to = omega (arith, with.rings, left.ring_ends.short, ring_end_fits)
+    rings_to = omega (arith, ring_end_fits)
 
     singles_to : to.singles ≡ at.singles + length (single_sizes p)
-    singles_to = omega (arith, with.singles, left.single_ends.short, single_end_fits)
+    singles_to = omega (arith, single_end_fits)
 
     paces : Paces left.rings_left this.x this.others
     paces = pace left.rings_left this.x this.others (subst (Paced left.rings_left) this.first left.paced)

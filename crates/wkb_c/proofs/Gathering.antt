@@ -123,13 +123,9 @@ inner_none (Ewkb srid) = refl
 at_most_inside : (order : Endianness) (form : Form) (row : List ℕ) (a : IsAccepted row) → AreBytes row
     → length (encoding order (inner form) (geometry_of a.t)) ≤ length row
 at_most_inside order form row a b =
-    omega (
-      arith,
-      measured order (inner form) row (accepted_there row a) b refl,
-      ap (λ o. srid_size (is_some o)) (inner_none form),
-      ap length a.front.whole,
-      length-append a.front.front a.rest,
-    )
+    let long = measured order (inner form) row (accepted_there row a) b refl in
+    let none = ap (λ o. srid_size (is_some o)) (inner_none form) in
+    omega (arith, ap length a.front.whole, length-append {A = ℕ})
 
 -- a call that writes an encoding, with room or without
 module _ {o : WriteOptions} {row before after : List ℕ} {status size : ℕ}
@@ -230,6 +226,8 @@ measured_more {c} {target} {i} {size = size} {n} before after m one =
     let next : i + 1 ≡ suc i = omega arith in
     let own : RowHas (BeginsWithMember (part_of target)) c i one.has.t =
     record { row = one.row; is = one.is; has = one.has.begins } in
+    let least = before.least s.start s.after in
+    let enough = after.enough i s.start s.end (omega arith) s.span in
     record {
       go_on = λ last are.
           let w = m.go_on (member one.has.t last) (own, subst (λ k. AreRowMembers c (part_of target) k last) next are) in
@@ -241,17 +239,7 @@ measured_more {c} {target} {i} {size = size} {n} before after m one =
             many = omega (arith, w.many);
             size_is = omega (arith, w.size_is, one.has.size_is, long);
           };
-      fits =
-          omega (
-            arith,
-            m.fits,
-            one.has.short,
-            before.least s.start s.after,
-            after.enough i s.start s.end (omega arith) s.span,
-            ap length s.row_is,
-            length-take (s.end - s.start) (drop s.start c.bytes.now),
-            s.span.rise,
-          );
+      fits = omega (arith, ap length s.row_is, length-take (s.end - s.start) (drop s.start c.bytes.now));
     }
 
 abbrev pub have_before : {c : Column} {target : CollectTarget} {i reach size : ℕ} → MeasuredBefore c target i reach size

@@ -14,7 +14,7 @@ use Rattle.wkb_laws.proofs.Lengths.{coordinates_length}
 use Rattle.wkb_laws.proofs.Parts.{item_at}
 use Rattle.wkb_check.specs.Pieces.{own_end, piece_at}
 use Rattle.wkb_check.specs.Subjects.{Subject, whole, ring, order_in, subject_coordinates, SpellsSubject, rings_of}
-use Rattle.wkb_check.specs.Subjects.{subjects, subjects_of_rings, subjects_of_each}
+use Rattle.wkb_check.specs.Subjects.{subjects, subjects_of_each}
 use Rattle.wkb_check.specs.Tables.{entry_at, entries_from, geometry_entries}
 use Rattle.wkb_check.proofs.Placing.{spelled_end, rings_many, as_many_entries}
 use Rattle.wkb_check.proofs.Subjects.{Stands, ArePlaced, all_placed, IsPieceOf, says}
@@ -88,14 +88,9 @@ mutual
   pub counted : (s : Spelling) (t : Value) (bytes : List ℕ) → Spells s t bytes
       → length (subjects s t) ≡ suc (member_count t)
   counted (node h words ss) t bytes sp =
-      omega (
-        arith,
-        members_counted _ ss (members t) sp.second.rest sp.second.second,
-        member_count-members t,
-        rings_counted t,
-        length-append (subjects_of_rings h.order (dimension t) (rings_of t)) (subjects_of_each ss (members t)),
-        rings_many h.order (dimension t) (rings_of t),
-      )
+      let each = members_counted _ ss (members t) sp.second.rest sp.second.second in
+      let rings = rings_many h.order (dimension t) (rings_of t) in
+      omega (arith, member_count-members t, rings_counted t, length-append {A = Subject})
 
   members_counted : (w : Wanted) (ss : Spellings) (ts : Values) (bytes : List ℕ) → SpellsEach w ss ts bytes
       → length (subjects_of_each ss ts) ≡ member_count_each ts
@@ -103,12 +98,8 @@ mutual
   members_counted w no_spellings (member t ts) bytes sp = absurd sp
   members_counted w (spelling s ss) no_members bytes sp = absurd sp
   members_counted w (spelling s ss) (member t ts) bytes sp =
-      omega (
-        arith,
-        length-append (subjects s t) (subjects_of_each ss ts),
-        counted s t sp.front sp.first.0,
-        members_counted w ss ts sp.rest sp.second,
-      )
+      let first = counted s t sp.front sp.first.0 in
+      omega (arith, length-append {A = Subject}, members_counted w ss ts sp.rest sp.second)
 
 pub entries_many : (s : Spelling) (t : Value) (bytes : List ℕ) → Spells s t bytes
     → length (geometry_entries 0 0 s t) ≡ suc (member_count t)

@@ -5,12 +5,8 @@ use Rattle.wkb_c.proofs.collect.measure_members.Goals as goal
 pub overflow_add-size : goal.overflow_add-size
 overflow_add-size c =
     let l = c.loop-i.invariant in
-    omega (
-      arith,
-      (measured_more l.reaches c.measure_row.ensures.reach l.measured c.in-Ok.ensures.measured).fits,
-      reach_inside c.args.column.now c.measure_row.ensures.reach,
-      c.fits_word.ensures,
-    )
+    let inside = reach_inside c.args.column.now c.measure_row.ensures.reach in
+    omega (arith, (measured_more l.reaches c.measure_row.ensures.reach l.measured c.in-Ok.ensures.measured).fits)
 
 pub loop-i-preserved : goal.loop-i-preserved
 loop-i-preserved c =

@@ -1,4 +1,4 @@
-use Rattle.wkb_abi.proofs.Common.{arith, ap, length, length-append, drop, refl, ◌++◌, ◌∙◌}
+use Rattle.wkb_abi.proofs.Common.{ℕ, arith, ap, length, length-append, refl, ◌++◌, ◌∙◌}
 use Rattle.std.proofs.Common.{length-drop}
 use Rattle.wkb_c.specs.Collections.{front_of, inside_of}
 use Rattle.wkb_c.proofs.Gathering.{one_list, whole_laid}
@@ -20,15 +20,8 @@ returns-then-out-wanted-clause-no_room c = λ told.
 
 pub lay_row_members-requires-clause-room : goal.lay_row_members-requires-clause-room
 lay_row_members-requires-clause-room c = λ m.
-    omega (
-      arith,
-      ap (λ z. length (inside_of c.args.target.now z)) (one_list m c.requires.measured.have),
-      c.requires.measured.size_is,
-      c.if-out-wanted.false,
-      c.copy_from_slice.ensures.len,
-      length-append c.copy_from_slice.new.self (drop c.lay_front-start.result c.args.out.now),
-      length-drop c.lay_front-start.result c.args.out.now,
-    )
+    let same = ap (λ z. length (inside_of c.args.target.now z)) (one_list m c.requires.measured.have) in
+    omega (arith, c.copy_from_slice.ensures.len, length-append {A = ℕ}, length-drop {A = ℕ})
 
 pub returns-clause-written : goal.returns-clause-written
 returns-clause-written c = λ told.
@@ -39,13 +32,7 @@ returns-clause-written c = λ told.
       items = front_of target c.args.rows ++ inside_of target m.have.values;
       is = record { have = m.have; encoding_is = refl };
       held = record {
-        count_is =
-            omega (
-              arith,
-              m.size_is,
-              begun.ends,
-              length-append (front_of target c.args.rows) (inside_of target m.have.values),
-            );
+        count_is = omega (arith, length-append (front_of target c.args.rows) (inside_of target m.have.values));
         whole =
             whole_laid c.args.out.now c.copy_from_slice.new.self c.lay_row_members.new.out (front_of target c.args.rows)
             (inside_of target m.have.values) c.lay_front-start.result

@@ -5,22 +5,20 @@ use Rattle.wkb_c.proofs.column_parts.wkb_raw_column_parts.Goals as goal
 
 pub loop-i-preserved : goal.loop-i-preserved
 loop-i-preserved c =
-    let l = c.loop-i in
-    let row = c.list_row-status in
-    let end = c.saturating_add-at in record {
-      reaches = row.ensures.reach;
+    let row = c.list_row-status.ensures in record {
+      reaches = row.reach;
       done =
-          row_done l.invariant.done row.ensures.step end.ensures
-          (tables_tell_other c.args.column.now) (omega arith)
-          c.loop-i-test.true (omega (arith, c.min-i-end.ensures));
+          row_done c.loop-i.invariant.done row.step c.saturating_add-at.ensures
+          (tables_tell_other c.args.column.now) (omega arith) c.loop-i-test.true
+          (omega (arith, c.min-i-end.ensures));
     }
 
 pub returns-clause-each : goal.returns-clause-each
 returns-clause-each c =
-    let l = c.loop-i in λ i below.
-    l.invariant.done.each i (omega (arith, below, c.loop-i-test.false, c.min-i-end.ensures, l.invariant.done.lists))
+    let done = c.loop-i.invariant.done in
+    λ i below. done.each i (omega (arith, c.loop-i-test.false, c.min-i-end.ensures, done.lists))
 
 pub returns-clause-room : goal.returns-clause-room
 returns-clause-room c =
-    let l = c.loop-i in
-    last_end_suffices l.invariant.done (omega (arith, c.loop-i-test.false, l.auto.i-end, c.min-i-end.ensures))
+    last_end_suffices c.loop-i.invariant.done
+    (omega (arith, c.loop-i-test.false, c.loop-i.auto.i-end, c.min-i-end.ensures))

@@ -15,12 +15,10 @@ loop-i-init c = record {
 
 pub loop-i-preserved : goal.loop-i-preserved
 loop-i-preserved c =
-    let l = c.loop-i in
-    let row = c.write_level_row-status in
-    let end = c.saturating_add-at in record {
-      ready = row.ensures.ready;
+    let row = c.write_level_row-status.ensures in record {
+      ready = row.ready;
       done =
-          row_done l.invariant.done row.ensures.step end.ensures
+          row_done c.loop-i.invariant.done row.step c.saturating_add-at.ensures
           (levels_tell_other c.args.column.now c.target_of_numbers-target.result) (omega arith)
           c.loop-i-test.true (omega (arith, c.min.ensures, c.min-i-end.ensures));
     }
@@ -31,15 +29,13 @@ rows_are c = c.len-rows.ensures ∙ ap (λ levels. length (ends_of levels.row_en
 
 pub returns-clause-each : goal.returns-clause-each
 returns-clause-each c =
-    let l = c.loop-i in
+    let done = c.loop-i.invariant.done in
     let rows = rows_are (goal.at.returns-clause-each c).After-len-rows in λ i below.
     rw (← c.target_of_numbers-target.ensures)
-    (l.invariant.done.each i
-    (omega (arith, below, c.loop-i-test.false, c.min.ensures, c.min-i-end.ensures, rows, l.invariant.done.lists)))
+    (done.each i (omega (arith, c.loop-i-test.false, c.min.ensures, c.min-i-end.ensures, done.lists)))
 
 pub returns-clause-room : goal.returns-clause-room
 returns-clause-room c =
-    let l = c.loop-i in
     let rows = rows_are (goal.at.returns-clause-room c).After-len-rows in
-    last_end_suffices l.invariant.done
-    (omega (arith, c.loop-i-test.false, l.auto.i-end, c.min.ensures, c.min-i-end.ensures, rows))
+    last_end_suffices c.loop-i.invariant.done
+    (omega (arith, c.loop-i-test.false, c.loop-i.auto.i-end, c.min.ensures, c.min-i-end.ensures))

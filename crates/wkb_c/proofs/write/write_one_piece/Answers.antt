@@ -5,26 +5,18 @@ use Rattle.wkb_c.proofs.write.write_one_piece.Goals as goal
 
 pub returns-then-out-wanted : goal.returns-then-out-wanted
 returns-then-out-wanted c =
-    let options = c.options_for-options in
-    let wanted = c.size_with_own_srid-wanted in
     meant c.in-Some.ensures
-    (lacks_room _ c.requires.here options.ensures (λ i. (c.type_inv.buf i).fits)
-    (wanted.ensures.size options.result.endianness (here c.requires.here)) (omega (arith, c.if-out-wanted.true)))
+    (lacks_room _ c.requires.here c.options_for-options.ensures (λ i. (c.type_inv.buf i).fits)
+    (c.size_with_own_srid-wanted.ensures.size _ (here c.requires.here)) (omega (arith, c.if-out-wanted.true)))
 
 pub lay_one_piece-requires-clause-room : goal.lay_one_piece-requires-clause-room
 lay_one_piece-requires-clause-room c = λ g.
-    omega (
-      arith,
-      c.size_with_own_srid-wanted.ensures.size c.options_for-options.result.endianness g,
-      c.if-out-wanted.false,
-    )
+    omega (arith, c.size_with_own_srid-wanted.ensures.size c.options_for-options.result.endianness g)
 
 pub returns : goal.returns
 returns c =
-    let options = c.options_for-options in
-    let wanted = c.size_with_own_srid-wanted in
     let there = here c.requires.here in
     meant c.in-Some.ensures
-    (writes _ c.requires.here options.ensures (λ i. (c.type_inv.buf i).fits)
-    (wanted.ensures.size options.result.endianness there) (omega (arith, c.if-out-wanted.false))
+    (writes _ c.requires.here c.options_for-options.ensures (λ i. (c.type_inv.buf i).fits)
+    (c.size_with_own_srid-wanted.ensures.size _ there) (omega (arith, c.if-out-wanted.false))
     (c.lay_one_piece.ensures.laid there))

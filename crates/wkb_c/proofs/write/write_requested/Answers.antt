@@ -9,11 +9,8 @@ use Rattle.wkb_c.proofs.write.write_requested.Goals.{Joined-out-buf, then-out-bu
 
 pub returns-then-out-wanted : goal.returns-then-out-wanted
 returns-then-out-wanted c =
-    let options = c.options_for-options in
-    let wanted = c.encoded_size-wanted in
-    lacks_room c.args.request c.requires options.ensures (λ i. (c.type_inv.buf i).fits)
-    (wanted.ensures.size options.result.endianness (here c.requires))
-    (omega (arith, c.if-out-wanted.true))
+    lacks_room c.args.request c.requires c.options_for-options.ensures (λ i. (c.type_inv.buf i).fits)
+    (c.encoded_size-wanted.ensures.size _ (here c.requires)) (omega (arith, c.if-out-wanted.true))
 
 -- there is room for the encoding where it is laid
 fits : (c : Joined-out-buf) → (g : HasGeometry c.args.buf.now)
@@ -24,11 +21,10 @@ fits c g =
     elim c.if-out-buf.branch [
       | then-out-buf+else-out-wanted w ↦
           omega (arith, w.encoded_size-wanted.ensures.size options.result.endianness g, w.if-out-wanted.false)
-      | else-out-buf w ↦ omega (
-        arith,
-        at_most options.result.endianness options.result.form c.args.buf.now g (λ i. (c.type_inv.buf i).fits),
-        w.if-out-buf.false,
-      )
+      | else-out-buf w ↦
+          let most =
+          at_most options.result.endianness options.result.form c.args.buf.now g (λ i. (c.type_inv.buf i).fits) in
+          omega arith
     ]
 
 pub lay_encoding-requires-clause-room : goal.lay_encoding-requires-clause-room
