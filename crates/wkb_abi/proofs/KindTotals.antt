@@ -1,26 +1,21 @@
 -- How many coordinates, rings and singles a geometry has, by its kind.
-use Rattle.wkb_abi.proofs.Common.{◌≡◌, ℕ, ◌+◌, ◌<◌, List, [], ◌∷◌, ◌++◌, length, refl, sym, ap, ◌∙◌, arith, length-append}
-use Rattle.wkb_abi.proofs.Common.{Option, Dimension, Spelling, node, Spellings, no_spellings, spelling, Spells, Wanted}
-use Rattle.wkb_abi.proofs.Common.{SpellsEach, Coordinate, Value, point, line_string, polygon, multi_point}
-use Rattle.wkb_abi.proofs.Common.{multi_line_string, multi_polygon, collection, no_members, kind}
-use Rattle.wkb_abi.proofs.Common.{subst, member_count}
+use Rattle.wkb_abi.proofs.Common.{◌≡◌, ℕ, ◌+◌, ◌<◌, List, [], ◌∷◌, ◌++◌, length, refl, sym, ap, ◌∙◌, arith}
+use Rattle.wkb_abi.proofs.Common.{length-append, Option, Dimension, Spelling, node, Spellings, no_spellings, spelling}
+use Rattle.wkb_abi.proofs.Common.{Spells, Wanted, SpellsEach, Coordinate, Value, point, line_string, polygon}
+use Rattle.wkb_abi.proofs.Common.{multi_point, multi_line_string, multi_polygon, collection, no_members, kind, subst}
+use Rattle.wkb_abi.proofs.Common.{member_count, Endianness, HasGeometry, DescribesFront, Summary, Piece, Totals}
+use Rattle.wkb_abi.proofs.Common.{Subject, subjects, subjects_of_each}
 use Rattle.std.specs.Prelude.{sum, sum_by, flat_map}
 use Rattle.std.proofs.lemmas.Grind.{flat_map-append}
 use Rattle.std.proofs.lemmas.List.Sums.{sum_by-cons}
-use Rattle.wkb_geom.specs.declared.common.Endianness.{Endianness}
 use Rattle.wkb_geom.specs.Values.{each}
 use Rattle.wkb_laws.proofs.OneFront.{one_spelling}
-use Rattle.wkb_check.specs.Known.{HasGeometry}
 use Rattle.wkb_geom.specs.Counted.{coordinate_count}
 use Rattle.wkb_check.specs.Pieces.{piece_of, IsPieceAt}
-use Rattle.wkb_check.specs.Public.{DescribesFront}
-use Rattle.wkb_check.specs.declared.answer.Summary.{Summary}
-use Rattle.wkb_check.specs.declared.pieces.Piece.{Piece}
 use Rattle.wkb_abi.specs.Coordinates.{ring_counts, single_counts, totals_after, AreTotals}
-use Rattle.wkb_abi.specs.declared.totals.Totals.{Totals}
 use Rattle.wkb_abi.specs.PieceLevels.{ring_number, single_number}
 use Rattle.wkb_abi.specs.RowItems.{end_of}
-use Rattle.wkb_check.specs.Subjects.{Subject, ring, subjects, subjects_of_rings, subjects_of_each}
+use Rattle.wkb_check.specs.Subjects.{ring, subjects_of_rings}
 use Rattle.wkb_abi.proofs.Levels.{sum-first, sum_append}
 
 -- these subjects have so many coordinates, rings and singles

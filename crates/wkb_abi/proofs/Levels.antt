@@ -1,33 +1,28 @@
 -- Words and ends that are written one after another, and how far they go.
-use Rattle.wkb_abi.proofs.Common.{◌≡◌, ℕ, zero, suc, ◌+◌, ◌*◌, ◌≤◌, ◌<◌, ◌^◌, ◌⊎◌, inl, inr, List, [], ◌∷◌, ◌++◌, length}
-use Rattle.wkb_abi.proofs.Common.{drop, Some, None, slice_index, refl, ap, sym, subst, ◌∙◌, arith, append_assoc}
+use Rattle.wkb_abi.proofs.Common.{◌≡◌, ℕ, zero, suc, ◌+◌, ◌*◌, ◌≤◌, ◌<◌, ◌^◌, ◌⊎◌, inl, inr, List, [], ◌∷◌, ◌++◌}
+use Rattle.wkb_abi.proofs.Common.{length, drop, Some, None, slice_index, refl, ap, sym, subst, ◌∙◌, arith, append_assoc}
 use Rattle.wkb_abi.proofs.Common.{append-nil, length-append, drop-drop, Dimension, width, number, Coordinate, Spelling}
 use Rattle.wkb_abi.proofs.Common.{node, Spellings, no_spellings, spelling, Value, Values, point, line_string, polygon}
-use Rattle.wkb_abi.proofs.Common.{no_members, member, members, dimension}
+use Rattle.wkb_abi.proofs.Common.{no_members, member, members, dimension, set, sets, length-sets, Endianness}
+use Rattle.wkb_abi.proofs.Common.{HasGeometry, Piece, levels_of, Totals, Subject, subjects, subjects_of_each}
 use Rattle.std.specs.Prelude.{sum, flat_map, nat_lt, ◌&&◌, if◌then◌else◌}
-use Rattle.std.proofs.Common.{set}
 use Rattle.std.proofs.lemmas.Grind.{common_steps}
 use Rattle.std.proofs.lemmas.Option.{slice_get-get_or}
-use lib.Seq.{sets, length-sets}
 use Rattle.wkb_geom.specs.declared.common.Dimension.TheVariants.{Xy}
-use Rattle.wkb_geom.specs.declared.common.Endianness.{Endianness}
 use Rattle.wkb_geom.specs.Items.{length-items}
 use Rattle.wkb_geom.specs.Reading.{coordinate, coordinates}
 use Rattle.wkb_laws.proofs.Parts.{item_at}
-use Rattle.wkb_check.specs.Known.{HasGeometry}
 use Rattle.wkb_check.specs.Pieces.{pieces_of, all_pieces, IsAhead, HasAhead, IsTaken, IsBehind, Steps}
 use Rattle.wkb_check.specs.declared.pieces.Pieces.{Pieces}
-use Rattle.wkb_check.specs.declared.pieces.Piece.{Piece}
 use Rattle.wkb_check.proofs.Placing.{sets_after}
 use Rattle.wkb_abi.specs.Coordinates.{words_asked, asked_subject_words, ring_counts, single_counts, ends, totals_after}
 use Rattle.wkb_abi.specs.Coordinates.{LevelLists, HasRoomUpTo, with_levels}
-use Rattle.wkb_abi.specs.LevelLists.{levels_of, AreSameSlices, HasRoomFor}
+use Rattle.wkb_abi.specs.LevelLists.{AreSameSlices, HasRoomFor}
 use Rattle.wkb_abi.specs.declared.level_slices.LevelSlices.{LevelSlices}
-use Rattle.wkb_abi.specs.declared.totals.Totals.{Totals}
 use Rattle.wkb_abi.specs.PieceLevels.{ring_sizes, single_sizes, piece_words, PieceFits, LaysPiece, AreTotalsWith}
 use Rattle.wkb_abi.specs.RowItems.{end_of}
 use Rattle.wkb_check.proofs.Subjects.{IsPieceOf, ArePiecesOf, kind_in, count_in, pieces_match}
-use Rattle.wkb_check.specs.Subjects.{Subject, whole, ring, subjects, subjects_of_rings, subjects_of_each, dimension_in}
+use Rattle.wkb_check.specs.Subjects.{whole, ring, subjects_of_rings, dimension_in}
 use Rattle.wkb_check.specs.Subjects.{subject_coordinates, rings_of}
 
 -- ---- words

@@ -1,12 +1,10 @@
 -- What holds of one row of a column: it has one list of bytes, and no two answers.
-use Rattle.wkb_abi.proofs.Common.{◌≡◌, ◌≢◌, ℕ, List, Some, None, sym, ◌∙◌}
-use Rattle.std.specs.Prelude.{true, false, slice_range}
+use Rattle.wkb_abi.proofs.Common.{◌≡◌, ◌≢◌, ℕ, List, Some, None, sym, ◌∙◌, false, IsAccepted, IsRow, IsRefusedWith}
+use Rattle.wkb_abi.proofs.Common.{Column, Options}
+use Rattle.std.specs.Prelude.{true, slice_range}
 use Rattle.wkb_laws.proofs.Outcomes.{never_both_lem}
-use Rattle.wkb_rewrite.specs.Inputs.{IsAccepted}
-use Rattle.wkb_abi.specs.Columns.{IsRow, LacksRow, IsRefusedWith, null_row, bad_offsets}
+use Rattle.wkb_abi.specs.Columns.{LacksRow, null_row, bad_offsets}
 use Rattle.wkb_abi.specs.Requests.{request_of}
-use Rattle.wkb_abi.specs.declared.column.Column.{Column}
-use Rattle.wkb_abi.specs.declared.options.Options.{Options}
 use Rattle.wkb_abi.specs.declared.options.Request.{Request}
 
 -- a row has one list of bytes

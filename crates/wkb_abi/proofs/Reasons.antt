@@ -1,17 +1,14 @@
 -- Why a row has no items is never that it lacks room.
-use Rattle.wkb_abi.proofs.Common.{ℕ, List, Option, arith}
-use Rattle.wkb_abi.specs.Columns.{LacksRow, null_row, bad_offsets, IsRefusedWith}
-use Rattle.wkb_abi.specs.declared.column.Column.{Column}
+use Rattle.wkb_abi.proofs.Common.{ℕ, List, Option, arith, IsRefusedWith, Column, RowFails, Options, NO_ROOM}
+use Rattle.wkb_abi.specs.Columns.{LacksRow, null_row, bad_offsets}
 use Rattle.wkb_abi.specs.Coordinates.{LacksCoordinates, no_row}
 use Rattle.wkb_abi.specs.Coordinates as coordinates
 use Rattle.wkb_abi.specs.LevelRows.{LacksLevels, unfit}
 use Rattle.wkb_abi.specs.LevelRows as levels
-use Rattle.wkb_abi.specs.RowItems.{RowFails, fails, has_no_row}
+use Rattle.wkb_abi.specs.RowItems.{fails, has_no_row}
 use Rattle.wkb_abi.specs.Writings.{FailsToWrite, unknown, refused}
 use Rattle.wkb_abi.specs.declared.level_column.LevelColumn.{LevelColumn}
 use Rattle.wkb_abi.specs.declared.level_column.LevelTarget.{LevelTarget}
-use Rattle.wkb_abi.specs.declared.options.Options.{Options}
-use Rattle.wkb_abi.specs.declared.status.TheConstants.{NO_ROOM}
 use Rattle.wkb_abi.proofs.Telling.{refusals}
 
 -- the status of a row without items is another

@@ -1,23 +1,15 @@
 -- With room for the totals no row lacks room.
 use Rattle.wkb_abi.proofs.Common.{◌≡◌, ℕ, ◌+◌, ◌*◌, ◌≤◌, ◌<◌, List, [], length, Some, refl, sym, ◌∙◌, subst, arith}
-use Rattle.wkb_abi.proofs.Common.{Dimension, width}
+use Rattle.wkb_abi.proofs.Common.{Dimension, width, set, length-sets, DescribesFront, Summary, IsRow, Column, Totals}
+use Rattle.wkb_abi.proofs.Common.{NO_ROOM, Subject, subjects}
 use Rattle.std.specs.Prelude.{flat_map}
-use Rattle.std.proofs.Common.{set}
-use lib.Seq.{length-sets}
 use Rattle.wkb_geom.specs.Codes.{dimension_of_thousands}
 use Rattle.wkb_geom.specs.declared.common.Dimension.TheVariants.{Xy}
-use Rattle.wkb_check.specs.Public.{DescribesFront}
-use Rattle.wkb_check.specs.declared.answer.Summary.{Summary}
-use Rattle.wkb_abi.specs.Columns.{IsRow}
-use Rattle.wkb_abi.specs.declared.column.Column.{Column}
 use Rattle.wkb_abi.specs.Coordinates.{LevelLists, HasRoomUpTo, LevelsSuffice, written, no_room, LacksCoordinates}
 use Rattle.wkb_abi.specs.Coordinates.{IsCoordinatesRow, handed, failed}
 use Rattle.wkb_abi.specs.LevelLists.{LaysFound, LaysRow}
 use Rattle.wkb_abi.specs.declared.level_slices.LevelSlices.{LevelSlices}
 use Rattle.wkb_abi.specs.Coordinates.{totals_after, with_levels, ring_counts, single_counts, ends, asked_subject_words}
-use Rattle.wkb_abi.specs.declared.totals.Totals.{Totals}
-use Rattle.wkb_abi.specs.declared.status.TheConstants.{NO_ROOM}
-use Rattle.wkb_check.specs.Subjects.{Subject, subjects}
 use Rattle.wkb_abi.proofs.Levels.{AreSmall, none_added}
 use Rattle.wkb_abi.proofs.Reasons.{coordinates_tell_other}
 use Rattle.wkb_abi.proofs.Rows.{statuses_more}

@@ -1,12 +1,10 @@
 -- The statuses of a column's rows, and their items where each row has one.
-use Rattle.wkb_abi.proofs.Common.{◌≡◌, ℕ, ◌+◌, ◌<◌, List, length, slice_index, refl, sym, subst, arith}
+use Rattle.wkb_abi.proofs.Common.{◌≡◌, ℕ, ◌+◌, ◌<◌, List, length, slice_index, refl, sym, subst, arith, set, IsAccepted}
+use Rattle.wkb_abi.proofs.Common.{Column}
 use borrow.Author.Count.{below_more}
 use Rattle.std.specs.Prelude.{slice_index_or}
-use Rattle.std.proofs.Common.{set}
 use lib.Seq.{get_or-set_same, get_or-set_other}
-use Rattle.wkb_rewrite.specs.Inputs.{IsAccepted}
 use Rattle.wkb_abi.specs.Columns.{RowShows, RowsShow, accepted, refused, no_row, IsStatusOfRow}
-use Rattle.wkb_abi.specs.declared.column.Column.{Column}
 
 -- what holds of the rows below a number, and of its own status, holds with one status more
 pub statuses_more : (Q : ℕ → ℕ → Type 0) (statuses : List ℕ) (i s : ℕ) → i < length statuses

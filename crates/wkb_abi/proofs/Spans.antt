@@ -1,11 +1,10 @@
 -- How far the rows of a column reach, so that no two of them overlap.
-use Rattle.wkb_abi.proofs.Common.{◌≡◌, ℕ, zero, suc, ◌+◌, ◌<◌, ◌≤◌, ◌⊎◌, inl, inr, List, [], length}
-use Rattle.wkb_abi.proofs.Common.{ap, arith}
-use Rattle.std.specs.Prelude.{max, ◌-◌, drop}
+use Rattle.wkb_abi.proofs.Common.{◌≡◌, ℕ, zero, suc, ◌+◌, ◌<◌, ◌≤◌, ◌⊎◌, inl, inr, List, [], length, ap, arith, ◌-◌}
+use Rattle.wkb_abi.proofs.Common.{Column, IsRow}
+use Rattle.std.specs.Prelude.{max, drop}
 use Rattle.std.proofs.lemmas.List.{length-take}
 use borrow.Author.Count.{below_more}
-use Rattle.wkb_abi.specs.declared.column.Column.{Column}
-use Rattle.wkb_abi.specs.Columns.{IsSpan, HasNoSpan, HasNoSlice, EndBy, IsReach, IsRow}
+use Rattle.wkb_abi.specs.Columns.{IsSpan, HasNoSpan, HasNoSlice, EndBy, IsReach}
 use Rattle.wkb_abi.specs.Columns.{RowsFollow, RowsFit, total_length}
 
 module _ (bytes offsets : List ℕ) (size : ℕ) where

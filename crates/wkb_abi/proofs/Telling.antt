@@ -1,22 +1,19 @@
 -- What the C library reports of a result of the check.
-use Rattle.wkb_abi.proofs.Common.{◌≡◌, ◌≢◌, ℕ, List, refl, arith, sym, ap, subst, kind, dimension, Value}
-use Rattle.wkb_abi.proofs.Common.{header, Spelling, node, Spells}
+use Rattle.wkb_abi.proofs.Common.{◌≡◌, ◌≢◌, ℕ, List, refl, arith, sym, ap, subst, kind, dimension, Value, header}
+use Rattle.wkb_abi.proofs.Common.{Spelling, node, Spells, Piece, HasGeometry, DescribesFront, Summary, IsAccepted}
+use Rattle.wkb_abi.proofs.Common.{IsRefusedWith}
 use Rattle.wkb_geom.specs.Fronts.{Front}
 use Rattle.wkb_geom.specs.Grammar.{Begins}
 use Rattle.wkb_geom.specs.declared.error.Cause.TheVariants.{General as general}
 use Rattle.wkb_geom.specs.declared.error.General.{General as Bad}
 use Rattle.wkb_geom.specs.declared.error.General.TheVariants.{InvalidByteOrder, CodeOutOfRange, UnsupportedDimensions}
 use Rattle.wkb_check.specs.Pieces.{leading, count_of, piece_of}
-use Rattle.wkb_check.specs.declared.pieces.Piece.{Piece}
-use Rattle.wkb_check.specs.Known.{HasGeometry}
-use Rattle.wkb_check.specs.Public.{DescribesFront, IsRefusedFor}
+use Rattle.wkb_check.specs.Public.{IsRefusedFor}
 use Rattle.wkb_check.specs.declared.answer.Refused.{Refused}
-use Rattle.wkb_check.specs.declared.answer.Summary.{Summary}
-use Rattle.wkb_rewrite.specs.Inputs.{IsAccepted, HaveOneValue, HaveTwoValues}
+use Rattle.wkb_rewrite.specs.Inputs.{HaveOneValue, HaveTwoValues}
 use Rattle.wkb_abi.specs.Checks.{IsFound}
 use Rattle.wkb_abi.specs.declared.found.Found.{Found}
 use Rattle.wkb_abi.specs.Classes.{IsRefusalStatus, IsShortStatus}
-use Rattle.wkb_abi.specs.Columns.{IsRefusedWith}
 use Rattle.wkb_abi.specs.EnumNumbers.{AreRefusals, OthersTellNoEnd}
 use Rattle.wkb_abi.specs.Statuses.{general_status, general_fault, cause_status, cause_fault}
 

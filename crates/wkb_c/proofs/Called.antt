@@ -1,28 +1,22 @@
 -- What the call for one row of a column does.
 use Rattle.wkb_abi.proofs.Common.{◌≡◌, ◌≢◌, ℕ, ◌+◌, ◌≤◌, ◌⊎◌, List, [], ◌∷◌, ◌++◌, length, drop, refl, sym, ap, ◌∙◌}
-use Rattle.wkb_abi.proofs.Common.{arith, append-nil, Spelling, node, Value}
-use lib.Seq.{sets, sets-eq}
-use Rattle.std.proofs.Common.{set}
+use Rattle.wkb_abi.proofs.Common.{arith, append-nil, Spelling, node, Value, sets, sets-eq, set, DescribesFront, Summary}
+use Rattle.wkb_abi.proofs.Common.{Piece, subjects, subjects_of_each, IsRow, IsRefusedWith, IsRowStep, RowHas, RowFails}
 use Rattle.std.proofs.lemmas.List.{nil_from_length}
 use Rattle.wkb_geom.specs.Fronts.{Front}
 use Rattle.wkb_check.specs.Known.{HasGeometries}
 use Rattle.wkb_check.specs.Pieces.{last_end, IsPieceAt}
-use Rattle.wkb_check.specs.Public.{DescribesFront}
-use Rattle.wkb_check.specs.declared.answer.Summary.{Summary}
-use Rattle.wkb_check.specs.declared.pieces.Piece.{Piece}
-use Rattle.wkb_check.specs.Subjects.{whole, subjects, subjects_of_each}
+use Rattle.wkb_check.specs.Subjects.{whole}
 use Rattle.wkb_check.specs.Tables.{geometry_entries, FitGeometries, entry_at, entry_of}
 use Rattle.wkb_check.specs.declared.parts.Part.{Part}
 use Rattle.wkb_check.proofs.Placing.{spelled_end, alone}
 use Rattle.wkb_check.proofs.Joining.{geometry_of_front}
-use Rattle.wkb_abi.specs.Columns.{IsRow, IsRefusedWith}
-use Rattle.wkb_abi.specs.declared.column.Column.{Column}
-use Rattle.wkb_abi.specs.RowItems.{IsRowStep, RowHas, RowFails}
 use Rattle.wkb_abi.specs.Subjects.{IsTable, LacksEntries, HasTable, HasParts}
-use Rattle.wkb_abi.specs.declared.status.TheConstants.{OK, NO_ROOM}
 use Rattle.wkb_c.proofs.RowItems.{IsLent, called_step}
 use Rattle.wkb_abi.proofs.Telling.{begins}
 use Rattle.wkb_c.proofs.Words.{holds, counted, entries_many}
+use Rattle.wkb_abi.specs.declared.column.Column.{Column}
+use Rattle.wkb_abi.specs.declared.status.TheConstants.{OK, NO_ROOM}
 
 row_table : {c : Column} {i : ℕ} (row : List ℕ) → IsRow c i row → (s : Spelling) (t : Value) (rest : List ℕ)
     → Front row s t rest → RowHas HasTable c i (geometry_entries 0 0 s t)

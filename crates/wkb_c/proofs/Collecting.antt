@@ -1,16 +1,13 @@
 -- One geometry whose members are the geometries that rows begin with.
-use Rattle.wkb_abi.proofs.Common.{◌≡◌, ℕ, zero, suc, ◌≤◌, List, [], ◌∷◌, ◌++◌, length}
-use Rattle.wkb_abi.proofs.Common.{Some, refl, sym, ap, subst, ◌∙◌, arith, append-nil}
-use Rattle.wkb_abi.proofs.Common.{Value, Values, member, no_members, kind, dimension, members}
-use Rattle.wkb_abi.proofs.Common.{point, line_string, polygon, multi_point, multi_line_string, multi_polygon, collection}
-use Rattle.wkb_abi.proofs.Common.{Dimension}
-use Rattle.std.specs.Prelude.{false}
-use Rattle.wkb_geom.specs.declared.common.Endianness.{Endianness}
+use Rattle.wkb_abi.proofs.Common.{◌≡◌, ℕ, zero, suc, ◌≤◌, List, [], ◌∷◌, ◌++◌, length, Some, refl, sym, ap, subst, ◌∙◌}
+use Rattle.wkb_abi.proofs.Common.{arith, append-nil, Value, Values, member, no_members, kind, dimension, members, point}
+use Rattle.wkb_abi.proofs.Common.{line_string, polygon, multi_point, multi_line_string, multi_polygon, collection}
+use Rattle.wkb_abi.proofs.Common.{Dimension, false, Endianness, encoding, geometry_of}
 use Rattle.wkb_geom.specs.declared.common.Form.{Form}
-use Rattle.wkb_geom.specs.Encodings.{encoding, encodings, inner, header_encoding}
+use Rattle.wkb_geom.specs.Encodings.{encodings, inner, header_encoding}
 unfoldable use Rattle.wkb_geom.specs.Encodings.{words_encoding}
 use Rattle.wkb_geom.specs.Fronts.{max_nesting}
-use Rattle.wkb_geom.specs.Geometries.{geometry_of, geometries_of}
+use Rattle.wkb_geom.specs.Geometries.{geometries_of}
 use Rattle.wkb_geom.specs.Numbers.{number_bytes}
 use Rattle.wkb_geom.specs.Reading.{type_of, type_kind, type_dimension, point_of, line_string_of, polygon_of}
 use Rattle.wkb_geom.specs.Spellings.{IsPart, member_part, Wanted, part}
@@ -23,8 +20,8 @@ use Rattle.wkb_c.specs.Collections.{AreRowMembers, HaveMembers, IsCollected, par
 use Rattle.wkb_c.specs.Collections.{front_of, inside_of, IsWhole, IsFirstUnfit}
 use Rattle.wkb_c.specs.Collections.{IsAsked, IsFirstUnfitFor}
 use Rattle.wkb_c.specs.declared.collect.CollectTarget.{CollectTarget}
-use Rattle.wkb_abi.specs.declared.column.Column.{Column}
 use Rattle.wkb_abi.specs.declared.fault.WkbFault.{WkbFault}
+use Rattle.wkb_abi.specs.declared.column.Column.{Column}
 use Rattle.wkb_abi.specs.declared.options.Options.{Options}
 
 -- ---- the whole, by its members

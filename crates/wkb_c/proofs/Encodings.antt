@@ -1,30 +1,26 @@
 -- The encoding that is asked for of what was checked, and how long it is.
-use Rattle.wkb_abi.proofs.Common.{◌≡◌, ◌≢◌, ◌⊎◌, ℕ, ◌+◌, ◌≤◌, ◌<◌, inl, inr, List, ◌++◌, length, drop, Some, refl}
-use Rattle.wkb_abi.proofs.Common.{ap, sym, ◌∙◌, arith, header}
-use lib.Seq.{sets, sets-eq, length-sets}
-use Rattle.wkb_geom.specs.declared.common.Endianness.{Endianness}
+use Rattle.wkb_abi.proofs.Common.{◌≡◌, ◌≢◌, ◌⊎◌, ℕ, ◌+◌, ◌≤◌, ◌<◌, inl, inr, List, ◌++◌, length, drop, Some, refl, ap}
+use Rattle.wkb_abi.proofs.Common.{sym, ◌∙◌, arith, header, sets, sets-eq, length-sets, Endianness, encoding}
+use Rattle.wkb_abi.proofs.Common.{geometry_of, DescribesFront, Summary, here, IsRow, IsRowStep, RowHas, RowFails}
 use Rattle.wkb_geom.specs.declared.common.Form.{Form}
 use Rattle.wkb_geom.specs.declared.common.Form.TheVariants.{Ewkb}
-use Rattle.wkb_geom.specs.Encodings.{encoding, header_encoding, point_encoding, line_string_encoding}
+use Rattle.wkb_geom.specs.Encodings.{header_encoding, point_encoding, line_string_encoding}
 use Rattle.wkb_geom.specs.Encodings.{polygon_encoding, members_encoding}
-use Rattle.wkb_geom.specs.Geometries.{geometry_of, Geometry, point}
+use Rattle.wkb_geom.specs.Geometries.{Geometry, point}
 use Rattle.wkb_geom.specs.Numbers.{AreBytes}
-use Rattle.wkb_check.specs.Public.{DescribesFront}
-use Rattle.wkb_check.specs.declared.answer.Summary.{Summary}
-use Rattle.wkb_rewrite.proofs.Measured.{at_most, here}
+use Rattle.wkb_rewrite.proofs.Measured.{at_most}
 use Rattle.wkb_sink.specs.declared.options.WriteOptions.{WriteOptions}
-use Rattle.wkb_abi.specs.Columns.{IsRow}
-use Rattle.wkb_abi.specs.declared.column.Column.{Column}
 use Rattle.wkb_abi.specs.Requests.{IsRequested, request_of, options_for}
-use Rattle.wkb_abi.specs.RowItems.{IsRowStep, RowHas, RowFails, nothing, fails}
+use Rattle.wkb_abi.specs.RowItems.{nothing, fails}
 use Rattle.wkb_abi.specs.Writings.{WritesRequested, WritesAsked, HasEncoding, FailsToWrite}
 use Rattle.wkb_abi.specs.Writings.{WritesAny, accepted, rejected, unknown, refused}
-use Rattle.wkb_abi.specs.declared.options.Options.{Options}
 use Rattle.wkb_abi.specs.declared.options.Request.{Request}
 use Rattle.wkb_abi.specs.declared.options.Request.TheVariants.{Encoding, OwnSrid}
 use Rattle.wkb_abi.specs.declared.status.TheConstants.{OK, NO_ROOM, UNKNOWN_OPTION}
 use Rattle.wkb_abi.proofs.OneRow.{is_asked}
 use Rattle.wkb_c.proofs.RowItems.{IsLent, called_step, unchanged, written_as, no_room_as}
+use Rattle.wkb_abi.specs.declared.column.Column.{Column}
+use Rattle.wkb_abi.specs.declared.options.Options.{Options}
 
 -- an encoding has a first byte
 pub some_encoding : (order : Endianness) (form : Form) (g : Geometry) → 0 < length (encoding order form g)

@@ -1,34 +1,30 @@
 -- The members that rows begin with, row by row.
-use Rattle.wkb_abi.proofs.Common.{◌≡◌, ℕ, suc, ◌+◌, ◌≤◌, ◌<◌, List, ◌++◌, length, drop, ◌⊎◌, inl, inr}
-use Rattle.wkb_abi.proofs.Common.{refl, sym, ap, subst, ◌∙◌, arith, append_assoc, length-append}
-use Rattle.wkb_abi.proofs.Common.{Spelling, Value, Values, member, no_members, kind, collection}
-use Rattle.wkb_abi.proofs.Common.{Dimension, is_some, None, srid_size, drop-drop}
-use Rattle.std.specs.Prelude.{false, ◌-◌, take, nat_lt, Result, Ok, Err, IfErr}
+use Rattle.wkb_abi.proofs.Common.{◌≡◌, ℕ, suc, ◌+◌, ◌≤◌, ◌<◌, List, ◌++◌, length, drop, ◌⊎◌, inl, inr, refl, sym, ap}
+use Rattle.wkb_abi.proofs.Common.{subst, ◌∙◌, arith, append_assoc, length-append, Spelling, Value, Values, member}
+use Rattle.wkb_abi.proofs.Common.{no_members, kind, collection, Dimension, is_some, None, srid_size, drop-drop, false}
+use Rattle.wkb_abi.proofs.Common.{◌-◌, sets, sets-eq, length-sets, Endianness, encoding, geometry_of, Summary}
+use Rattle.wkb_abi.proofs.Common.{IsAccepted, RowHas, IsRow, Reach}
+use Rattle.std.specs.Prelude.{take, nat_lt, Result, Ok, Err, IfErr}
 use Rattle.std.proofs.Common.{length-drop, ltb-false}
 use Rattle.std.proofs.lemmas.Bool.{cond_both}
 use Rattle.std.proofs.lemmas.List.{length-take}
 use denote.Enum.Bare.{sameb}
-use lib.Seq.{sets, sets-eq, length-sets}
 use Rattle.wkb_geom.specs.contracts.common.Dimension.{the_type}
 use Rattle.wkb_geom.specs.declared.common.Dimension.TheVariants.{Xy}
-use Rattle.wkb_geom.specs.declared.common.Endianness.{Endianness}
 use Rattle.wkb_geom.specs.declared.common.Form.{Form}
 use Rattle.wkb_geom.specs.declared.common.Form.TheVariants.{Iso, Ewkb}
 use Rattle.wkb_geom.specs.declared.code.WkbType.{WkbType}
 use Rattle.wkb_geom.specs.declared.code.WkbType.TheVariants.{Point}
-use Rattle.wkb_geom.specs.Encodings.{encoding, inner, form_srid, IsRewriting}
+use Rattle.wkb_geom.specs.Encodings.{inner, form_srid, IsRewriting}
 use Rattle.wkb_geom.specs.Fronts.{FrontWithin}
-use Rattle.wkb_geom.specs.Geometries.{geometry_of}
 use Rattle.wkb_geom.specs.Numbers.{AreBytes}
 use Rattle.wkb_geom.specs.Reading.{type_kind, type_dimension}
 use Rattle.wkb_geom.specs.Spellings.{Wanted, part, any, member_part, IsPart}
 use Rattle.wkb_geom.specs.Values.{count, nest}
 use Rattle.wkb_laws.proofs.OneFront.{one_spelling}
 use Rattle.wkb_check.specs.Public.{DescribesFrontWithin, Checks, member_room}
-use Rattle.wkb_check.specs.declared.answer.Summary.{Summary}
 use Rattle.wkb_check.proofs.Ahead.{type_kind_is, type_dimension_is}
 use Rattle.wkb_check.proofs.Placing.{sets_after}
-use Rattle.wkb_rewrite.specs.Inputs.{IsAccepted}
 use Rattle.wkb_rewrite.specs.Shares.{IsLaid}
 use Rattle.wkb_rewrite.specs.Targets.{encoding_for}
 use Rattle.wkb_rewrite.proofs.Measured.{measured}
@@ -39,14 +35,13 @@ use Rattle.wkb_c.specs.Collections.{IsMeasuredFound, AreMeasured, IsUnwanted, Is
 use Rattle.wkb_c.proofs.RowItems.{lent_rest}
 use Rattle.wkb_abi.proofs.OneRow.{one_row, never_lacks}
 use Rattle.wkb_abi.proofs.Telling.{accepted_there}
-use Rattle.wkb_abi.specs.RowItems.{RowHas}
 use Rattle.wkb_abi.specs.Writings.{WritesRequested}
 use Rattle.wkb_abi.specs.declared.options.Request.TheVariants.{Encoding}
-use Rattle.wkb_abi.specs.declared.status.TheConstants.{OK, NO_ROOM}
-use Rattle.wkb_abi.specs.Columns.{IsRow, LacksRow, Reach}
+use Rattle.wkb_abi.specs.Columns.{LacksRow}
 use Rattle.wkb_c.specs.declared.collect.CollectTarget.{CollectTarget}
-use Rattle.wkb_abi.specs.declared.column.Column.{Column}
 use Rattle.wkb_abi.specs.declared.fault.WkbFault.{WkbFault}
+use Rattle.wkb_abi.specs.declared.status.TheConstants.{OK, NO_ROOM}
+use Rattle.wkb_abi.specs.declared.column.Column.{Column}
 
 -- ---- one row
 

@@ -1,9 +1,8 @@
 -- The rows of a column in turn.
-use Rattle.wkb_abi.proofs.Common.{◌≡◌, ℕ, zero, suc, ◌+◌, ◌≤◌, ◌<◌, List, length, sym, subst, ◌∙◌, arith}
-use Rattle.std.proofs.Common.{set}
+use Rattle.wkb_abi.proofs.Common.{◌≡◌, ℕ, zero, suc, ◌+◌, ◌≤◌, ◌<◌, List, length, sym, subst, ◌∙◌, arith, set}
 use lib.Seq.{get_or-set_same, get_or-set_other}
-use Rattle.wkb_abi.specs.declared.column.Column.{Column}
 use Rattle.wkb_abi.specs.Coordinates.{LevelLists, AreColumnCoordinates, IsCoordinatesRow}
+use Rattle.wkb_abi.specs.declared.column.Column.{Column}
 use Rattle.wkb_abi.specs.declared.totals.Totals.{Totals}
 
 module _ (c : Column) (dimension : ℕ) (statuses row_ends : List ℕ) (out : LevelLists) (i s e : ℕ) where

@@ -1,6 +1,6 @@
 -- What becomes of a row in levels.
-use Rattle.wkb_abi.proofs.Common.{◌≡◌, ℕ, ◌+◌, ◌<◌, List, length, Option, Some, None, ap, arith, subst}
-use Rattle.std.specs.Prelude.{false}
+use Rattle.wkb_abi.proofs.Common.{◌≡◌, ℕ, ◌+◌, ◌<◌, List, length, Option, Some, None, ap, arith, subst, false}
+use Rattle.wkb_abi.proofs.Common.{IsRowStep}
 use Rattle.wkb_geom.specs.declared.common.Dimensions.{Dimensions}
 use Rattle.wkb_levels.specs.declared.levels.Levels.{Levels}
 use Rattle.wkb_levels.specs.declared.levels.Place.{Place}
@@ -12,7 +12,6 @@ use Rattle.wkb_levels.specs.RowWrites as row_writes
 use Rattle.wkb_abi.specs.Columns.{is_unset_bit}
 use Rattle.wkb_abi.specs.LevelRows.{HasLevelEncoding, LacksLevels, unfit}
 use Rattle.wkb_abi.specs.LevelTargets.{levels_in, Ready}
-use Rattle.wkb_abi.specs.RowItems.{IsRowStep}
 use Rattle.wkb_abi.specs.declared.level_column.LevelColumn.{LevelColumn}
 use Rattle.wkb_abi.specs.declared.level_column.LevelTarget.{LevelTarget}
 use Rattle.wkb_abi.specs.declared.status.TheConstants.{OK, NO_ROOM, BAD_LEVELS}

@@ -1,25 +1,25 @@
 -- Rows that write their items one after another.
-use Rattle.wkb_abi.proofs.Common.{◌≡◌, ◌≢◌, ℕ, zero, suc, ◌+◌, ◌≤◌, ◌<◌, ◌^◌, ◌⊎◌, inl, inr, List, [], ◌++◌}
-use Rattle.wkb_abi.proofs.Common.{length, drop, slice_index, refl, ap, sym, subst, ◌∙◌, arith, append_assoc, append-nil}
-use Rattle.wkb_abi.proofs.Common.{length-append, drop-drop}
-use Rattle.std.specs.Prelude.{take, ◌-◌, min, slice_range}
-use Rattle.std.proofs.Common.{set, length-drop}
+use Rattle.wkb_abi.proofs.Common.{◌≡◌, ◌≢◌, ℕ, zero, suc, ◌+◌, ◌≤◌, ◌<◌, ◌^◌, ◌⊎◌, inl, inr, List, [], ◌++◌, length}
+use Rattle.wkb_abi.proofs.Common.{drop, slice_index, refl, ap, sym, subst, ◌∙◌, arith, append_assoc, append-nil}
+use Rattle.wkb_abi.proofs.Common.{length-append, drop-drop, ◌-◌, set, sets-eq, length-sets, IsRowStep}
+use Rattle.std.specs.Prelude.{take, min, slice_range}
+use Rattle.std.proofs.Common.{length-drop}
 use Rattle.std.proofs.Math.Seq.{take-append_seam}
 use Rattle.std.proofs.lemmas.List.{take-append-drop, take-append-le, drop-append-le, length-take-le, drop-set-lt}
 use Rattle.std.proofs.lemmas.List.{nil_from_length, drop_at}
 use Rattle.std.proofs.lemmas.Slice.{drop-append-drop, between_to_end}
 use lib.ListN.{length-set}
-use lib.Seq.{get_or-set_same, get_or-set_other, sets-eq, length-sets}
-use Rattle.wkb_abi.specs.declared.status.TheConstants.{OK, NO_ROOM}
+use lib.Seq.{get_or-set_same, get_or-set_other}
 use Rattle.wkb_abi.specs.Room.{IsHeld, Exceeds, IsWritten, FindsNoRoom}
 use Rattle.wkb_levels.specs.Cuts.{start_at}
 use Rattle.wkb_abi.specs.RowItems.{rows_of, end_of, IsRowAnswer, handed, no_room, failed, AreRowAnswers, KeepsAfter}
-use Rattle.wkb_abi.specs.RowItems.{KeepsFrom, IsRowStep, laid, lacks, nothing, NoneLacksRoom, LastEndSuffices}
+use Rattle.wkb_abi.specs.RowItems.{KeepsFrom, laid, lacks, nothing, NoneLacksRoom, LastEndSuffices}
 use Rattle.wkb_abi.specs.Columns.{RowShows, RowsShow}
-use Rattle.wkb_abi.specs.declared.column.Column.{Column}
 use Rattle.wkb_abi.proofs.Reasons.{TellsOther}
 use borrow.Author.Count.{below_more, below_none}
 use Rattle.wkb_abi.proofs.Rows.{statuses_more, shown_more}
+use Rattle.wkb_abi.specs.declared.status.TheConstants.{OK, NO_ROOM}
+use Rattle.wkb_abi.specs.declared.column.Column.{Column}
 
 -- ---- lists
 

@@ -1,20 +1,17 @@
 -- Where the parts of a geometry are in its bytes, and what is there.
-use Rattle.wkb_abi.proofs.Common.{◌≡◌, ℕ, suc, ◌+◌, ◌*◌, List, [], ◌∷◌, length, drop, Some, refl, sym, ap, ◌∙◌}
-use Rattle.wkb_abi.proofs.Common.{arith, drop-drop, slice_get, is_some, Dimension, width, number, srid_size, Spelling}
-use Rattle.wkb_abi.proofs.Common.{node}
+use Rattle.wkb_abi.proofs.Common.{◌≡◌, ℕ, suc, ◌+◌, ◌*◌, List, [], ◌∷◌, length, drop, Some, refl, sym, ap, ◌∙◌, arith}
+use Rattle.wkb_abi.proofs.Common.{drop-drop, slice_get, is_some, Dimension, width, number, srid_size, Spelling, node}
 use Rattle.wkb_abi.proofs.Common.{Spellings, no_spellings, spelling, Spells, Wanted, SpellsEach, Coordinate, Value}
-use Rattle.wkb_abi.proofs.Common.{Values}
-use Rattle.wkb_abi.proofs.Common.{point, line_string, polygon, no_members, member, members, member_count}
-use Rattle.wkb_abi.proofs.Common.{member_count_each, length-append, dimension}
-use Rattle.wkb_geom.specs.declared.common.Endianness.{Endianness}
+use Rattle.wkb_abi.proofs.Common.{Values, point, line_string, polygon, no_members, member, members, member_count}
+use Rattle.wkb_abi.proofs.Common.{member_count_each, length-append, dimension, Endianness, Subject, subjects}
+use Rattle.wkb_abi.proofs.Common.{subjects_of_each}
 use Rattle.wkb_geom.specs.Grammar.{Begins}
 use Rattle.wkb_geom.specs.Reading.{coordinate, coordinates}
 use Rattle.wkb_laws.proofs.Bounds.{ring_count, member_count-members}
 use Rattle.wkb_laws.proofs.Lengths.{coordinates_length}
 use Rattle.wkb_laws.proofs.Parts.{item_at}
 use Rattle.wkb_check.specs.Pieces.{own_end, piece_at}
-use Rattle.wkb_check.specs.Subjects.{Subject, whole, ring, order_in, subject_coordinates, SpellsSubject, rings_of}
-use Rattle.wkb_check.specs.Subjects.{subjects, subjects_of_each}
+use Rattle.wkb_check.specs.Subjects.{whole, ring, order_in, subject_coordinates, SpellsSubject, rings_of}
 use Rattle.wkb_check.specs.Tables.{entry_at, entries_from, geometry_entries}
 use Rattle.wkb_check.proofs.Placing.{spelled_end, rings_many, as_many_entries}
 use Rattle.wkb_check.proofs.Subjects.{Stands, ArePlaced, all_placed, IsPieceOf, says}

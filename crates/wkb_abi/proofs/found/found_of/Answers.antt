@@ -1,7 +1,6 @@
-use Rattle.wkb_abi.proofs.Common.{ap, ◌∙◌, arith, Option, ℕ, is_some, unwrap_or, order_byte, width}
+use Rattle.wkb_abi.proofs.Common.{ap, ◌∙◌, arith, Option, ℕ, is_some, unwrap_or, order_byte, width, here}
 use mir.Val.{bool_byte as from_bool}
 use Rattle.wkb_geom.specs.Codes.{thousands}
-use Rattle.wkb_rewrite.proofs.Measured.{here}
 use Rattle.wkb_abi.proofs.Telling.{first_piece}
 use Rattle.wkb_abi.proofs.found.found_of.Goals as goal
 

@@ -1,5 +1,4 @@
-use Rattle.wkb_abi.proofs.Common.{arith, sym, ◌∙◌}
-use Rattle.wkb_abi.specs.LevelLists.{levels_of}
+use Rattle.wkb_abi.proofs.Common.{arith, sym, ◌∙◌, levels_of}
 use Rattle.wkb_check.proofs.Placing.{only_piece}
 use Rattle.wkb_abi.proofs.Levels.{levels_first, levels_alone, piece_fits}
 use Rattle.wkb_abi.proofs.level_slices.lay_levels.Goals as goal

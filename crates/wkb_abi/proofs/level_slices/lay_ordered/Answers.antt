@@ -1,6 +1,4 @@
-use Rattle.wkb_abi.proofs.Common.{arith, ap, ◌∙◌, ◌+◌, length, drop}
-use Rattle.std.specs.Prelude.{◌-◌}
-use lib.Seq.{length-sets}
+use Rattle.wkb_abi.proofs.Common.{arith, ap, ◌∙◌, ◌+◌, length, drop, ◌-◌, length-sets}
 use Rattle.wkb_geom.specs.Reading.{coordinate}
 use Rattle.wkb_abi.specs.Coordinates.{words_asked}
 use Rattle.wkb_abi.proofs.Levels.{words_next}

@@ -1,5 +1,4 @@
-use Rattle.std.specs.Prelude.{◌-◌}
-use lib.Seq.{sets}
+use Rattle.wkb_abi.proofs.Common.{◌-◌, sets}
 use Rattle.wkb_abi.specs.PieceLevels.{words_from}
 use Rattle.wkb_abi.proofs.Levels.{WordsLeft}
 use Rattle.wkb_abi.proofs.level_slices.lay_ordered.Given as goal

@@ -1,7 +1,5 @@
-use Rattle.wkb_abi.proofs.Common.{◌+◌, length}
-use lib.Seq.{sets}
+use Rattle.wkb_abi.proofs.Common.{◌+◌, length, sets, Reach}
 use Rattle.wkb_c.specs.Collections.{HaveMembers, part_of, inside_of}
-use Rattle.wkb_abi.specs.Columns.{Reach}
 use Rattle.wkb_c.proofs.Gathering.{MembersLeft}
 use Rattle.wkb_c.proofs.collect.lay_row_members.Given as goal
 

@@ -1,5 +1,4 @@
-use Rattle.wkb_abi.proofs.Common.{◌≡◌}
-use Rattle.wkb_abi.specs.Columns.{Reach}
+use Rattle.wkb_abi.proofs.Common.{◌≡◌, Reach}
 use Rattle.wkb_c.proofs.Gathering.{MeasuredBefore}
 use Rattle.wkb_c.proofs.collect.measure_members.Given as goal
 

@@ -1,6 +1,5 @@
-use Rattle.wkb_abi.proofs.Common.{refl}
+use Rattle.wkb_abi.proofs.Common.{refl, here}
 use Rattle.wkb_abi.specs.Coordinates.{written, no_room}
-use Rattle.wkb_rewrite.proofs.Measured.{here}
 use Rattle.wkb_c.proofs.column_coordinates.found_levels_into.Goals as goal
 
 pub returns-then-not-has_room-clause-laid : goal.returns-then-not-has_room-clause-laid

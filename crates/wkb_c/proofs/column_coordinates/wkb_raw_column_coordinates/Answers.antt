@@ -1,5 +1,4 @@
-use Rattle.wkb_abi.proofs.Common.{arith}
-use Rattle.wkb_abi.specs.LevelLists.{levels_of}
+use Rattle.wkb_abi.proofs.Common.{arith, levels_of}
 use Rattle.wkb_c.proofs.InTurn.{row_more}
 use Rattle.wkb_abi.proofs.Rooms.{row_says, room_more, long_more}
 use Rattle.wkb_abi.proofs.Levels.{stay_same}

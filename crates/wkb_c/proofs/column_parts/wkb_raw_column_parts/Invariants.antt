@@ -1,5 +1,4 @@
-use Rattle.wkb_abi.specs.Columns.{IsRefusedWith, Reach}
-use Rattle.wkb_abi.specs.RowItems.{RowHas, RowFails}
+use Rattle.wkb_abi.proofs.Common.{IsRefusedWith, Reach, RowHas, RowFails}
 use Rattle.wkb_abi.specs.Subjects.{HasTable}
 use Rattle.wkb_c.proofs.RowItems.{RowsDone}
 use Rattle.wkb_c.proofs.column_parts.wkb_raw_column_parts.Given as goal

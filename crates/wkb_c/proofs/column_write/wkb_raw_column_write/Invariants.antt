@@ -1,5 +1,4 @@
-use Rattle.wkb_abi.specs.Columns.{Reach}
-use Rattle.wkb_abi.specs.RowItems.{RowHas, RowFails}
+use Rattle.wkb_abi.proofs.Common.{Reach, RowHas, RowFails}
 use Rattle.wkb_abi.specs.Writings.{HasEncoding, FailsToWrite}
 use Rattle.wkb_c.proofs.RowItems.{RowsDone}
 use Rattle.wkb_c.proofs.column_write.wkb_raw_column_write.Given as goal

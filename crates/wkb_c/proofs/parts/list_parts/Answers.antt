@@ -1,7 +1,4 @@
-use Rattle.wkb_abi.proofs.Common.{arith, ap, ◌∙◌, append-nil}
-use lib.Seq.{sets}
-use Rattle.std.proofs.Common.{set}
-use Rattle.wkb_check.specs.Subjects.{subjects}
+use Rattle.wkb_abi.proofs.Common.{arith, ap, ◌∙◌, append-nil, sets, set, subjects}
 use Rattle.wkb_check.specs.Tables.{entries_from}
 use Rattle.wkb_c.proofs.Called.{fits_table, table_laid, one_geometry, whole_laid, parts_found}
 use Rattle.wkb_c.proofs.parts.list_parts.Goals as goal

@@ -1,5 +1,4 @@
-use Rattle.wkb_abi.proofs.Common.{arith}
-use Rattle.wkb_rewrite.proofs.Measured.{here}
+use Rattle.wkb_abi.proofs.Common.{arith, here}
 use Rattle.wkb_c.proofs.Encodings.{meant, writes, lacks_room}
 use Rattle.wkb_c.proofs.write.write_polygon.Goals as goal
 

@@ -1,8 +1,5 @@
-use Rattle.wkb_abi.proofs.Common.{arith, length, ◌≤◌}
-use Rattle.wkb_geom.specs.Encodings.{encoding}
-use Rattle.wkb_geom.specs.Geometries.{geometry_of}
-use Rattle.wkb_check.specs.Known.{HasGeometry}
-use Rattle.wkb_rewrite.proofs.Measured.{at_most, here}
+use Rattle.wkb_abi.proofs.Common.{arith, length, ◌≤◌, encoding, geometry_of, HasGeometry, here}
+use Rattle.wkb_rewrite.proofs.Measured.{at_most}
 use Rattle.wkb_c.proofs.Encodings.{writes, lacks_room}
 use Rattle.wkb_c.proofs.write.write_requested.Goals as goal
 use Rattle.wkb_c.proofs.write.write_requested.Goals.{Joined-out-buf, then-out-buf+else-out-wanted, else-out-buf}

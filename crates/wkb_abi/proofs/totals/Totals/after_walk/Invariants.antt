@@ -1,6 +1,5 @@
-use Rattle.std.specs.Prelude.{◌≡◌, ◌≤◌, ◌-◌, length}
-use Rattle.wkb_check.specs.Known.{HasGeometry}
-use Rattle.wkb_check.specs.Subjects.{subjects}
+use Rattle.wkb_abi.proofs.Common.{◌-◌, HasGeometry, subjects}
+use Rattle.std.specs.Prelude.{◌≡◌, ◌≤◌, length}
 use Rattle.wkb_abi.proofs.Levels.{Coming, TotalsLeft}
 use Rattle.wkb_abi.proofs.totals.Totals.after_walk.Given as goal
 
