@@ -1,6 +1,7 @@
 """The files of specs/: the definitions of each, and those that it re-exports."""
 
 import re
+import textwrap
 
 from pages import ROOT, text_of
 
@@ -92,6 +93,13 @@ class Specs:
 
 WORDS = re.compile(r"(?:(?:unfoldable|abbrev|pub|private|record|data)\s+)*")
 NAME = re.compile(r"[^\W\d][\w'-]*")
+
+
+def declaration(text, name):
+    """The lines that declare a name of a file: its type, and of a record or of data also what it holds."""
+    head = rf"(?:(?:unfoldable|abbrev) )?pub (?:record |data )?{re.escape(name)}(?![\w'-])"
+    found = re.search(rf"(?m)^( *){head}.*\n(?:\1 +.*\n)*", text)
+    return textwrap.dedent(found[0]).replace("pub ", "").splitlines() if found else []
 
 
 def after_groups(text):
