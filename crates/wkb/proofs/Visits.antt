@@ -1,13 +1,13 @@
 -- A walk that visits coordinates part by part.
-use Rattle.std.proofs.Common.{◌≡◌, ℕ, zero, suc, ◌+◌, ◌*◌, ◌<◌, ◌≤◌, List, [], ◌∷◌, ◌++◌, flat_map, drop, length}
+use Rattle.std.proofs.Common.{◌≡◌, ℕ, suc, ◌+◌, ◌<◌, ◌≤◌, List, [], ◌∷◌, ◌++◌, flat_map, drop, length}
 use Rattle.std.proofs.Common.{Some, slice_get, refl, sym, ap, subst, ◌∙◌, arith, append_assoc, append-nil}
 use Rattle.std.specs.Prelude.{Option, option_map, slice_index_or}
 use Rattle.std.proofs.lemmas.List.{drop_all}
 use Rattle.std.proofs.lemmas.Option.{slice_get-get_or}
 use Rattle.wkb.specs.Ranges.{drop_at}
 use Rattle.wkb.specs.Reads.{Item, values}
-use Rattle.wkb.specs.Values.{Coordinate, member_count, member_count_each}
-use Rattle.wkb.specs.Coordinates.{coordinates_of, coordinates_of_each, of_point, Visits}
+use Rattle.wkb.specs.Values.{Coordinate}
+use Rattle.wkb.specs.Coordinates.{coordinates_of, coordinates_of_each, Visits}
 
 module _ {S : Type 0} (has : S → List Coordinate → Type 0) where
   pub visits_none : (v : S) → Visits has v v []

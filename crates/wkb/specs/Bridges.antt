@@ -2,12 +2,12 @@
 use Rattle.std.proofs.Common.{◌≡◌, ℕ, zero, suc, ◌+◌, ◌-◌, ◌≤◌, List, [], ◌∷◌, Option, Some, None, Result, Ok, Err}
 use Rattle.std.proofs.Common.{Bool, ◌⊎◌, inl, inr, refl, sym, ap, subst, slice_get, ◌++◌, ◌∙◌, length, take, drop}
 use Rattle.std.proofs.Common.{append-nil, drop-drop, take-append-drop, length-append, length-drop, take_all, take-take}
-use Rattle.std.proofs.Common.{arith}
+use Rattle.std.proofs.Common.{◌<◌, ◌^◌, arith}
 use Rattle.std.proofs.Math.Seq.{take-append_seam}
 use Rattle.std.proofs.lemmas.List.{drop-take, length-map}
 use Rattle.std.proofs.lemmas.Result.{IfOk-at_ok}
 use Rattle.std.specs.Io.KnownBytes.{Appends}
-use Rattle.wkb.specs.Prelude.{Dimension, WkbError, IsMemory, Tells, Endianness, Form, as_dimensions}
+use Rattle.wkb.specs.Prelude.{Dimension, WkbError, IsMemory, Tells, Endianness, Form, as_dimensions, number, number_bytes}
 use Rattle.wkb.specs.Checks.{Refused, IsRefusedFor}
 use Rattle.wkb_geom.specs.declared.error.WkbError.TheVariants as errors
 use Rattle.wkb.specs.Values.{Coordinate, Value, Values, each, members, collection, nest}
@@ -22,6 +22,8 @@ use Rattle.wkb.specs.Reads.{fitted_line_strings}
 use Rattle.std.specs.declared.io.Error.{Error}
 use Rattle.wkb.specs.Writes.{Writes, WriteOptions, IsSpelled}
 use Rattle.wkb.specs.Laws.{IsOneOf, IsMember, StandsAt}
+use Rattle.wkb_laws.proofs.EncodingSpells.{IsNumber-number_bytes}
+use Rattle.wkb_laws.proofs.Parts.{begins_number}
 
 -- A refusal as one fact: an error of the reader is an allocation failure, or this holds of it.
 pub memory_or : (P : WkbError → Type 0) (e : WkbError) → IfRefused (Err e) P → IsMemory e ⊎ P e
@@ -177,6 +179,15 @@ pub begins_there : {start : ℕ} {part whole : List ℕ} → StandsAt start part
     → drop start whole ≡ part ++ drop (length part) (drop start whole)
 begins_there {start = start} {part = part} {whole = whole} h =
     sym (take-append-drop (length part) (drop start whole)) ∙ ap (λ t. t ++ drop (length part) (drop start whole)) h.is
+
+-- The bytes of a number hold it, and what follows them is behind them.
+pub number_is_read : (order : Endianness) (n x : ℕ) (rest : List ℕ) → x < 256 ^ n
+    → (n ≤ length (number_bytes order n x ++ rest))
+    × (number order n (number_bytes order n x ++ rest) ≡ x)
+    × (drop n (number_bytes order n x ++ rest) ≡ rest)
+number_is_read order n x rest fits =
+    begins_number order n x (number_bytes order n x ++ rest) rest
+    (record { front = number_bytes order n x; whole = refl; first = IsNumber-number_bytes order n x fits })
 
 -- ---- what views count, and the options' SRID
 

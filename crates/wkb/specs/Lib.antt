@@ -29,3 +29,4 @@ pub mod Order
 pub mod OwnBytes
 pub mod Ranges
 pub mod ReadBack
+pub mod Same

@@ -1,5 +1,5 @@
 -- Lemmas: what the reader's clauses say of the geometry at an offset in a blob, and of its words.
-use Rattle.std.proofs.Common.{◌≡◌, ℕ, List, drop, ◌⊎◌, inl, inr, Some, None, Err, sym, ap, subst, ◌∙◌}
+use Rattle.std.proofs.Common.{◌≡◌, ℕ, List, drop, ◌⊎◌, inl, inr, Some, None, Err, ap, subst, ◌∙◌}
 use Rattle.std.proofs.Common.{slice_get}
 use Rattle.wkb.specs.Prelude.{WkbError, IsMemory}
 use Rattle.wkb.specs.Values.{Coordinate}
@@ -23,14 +23,6 @@ none_begins_at blob offset behind e same h follows =
       | inl memory ↦ inl memory
       | inr none ↦ inr (follows (subst HasNoFront same none))
     ]
-
--- What is said to be there is this one.
-pub one_there : (blob : List ℕ) (offset : ℕ) (w v : Item) → BeginsAt blob offset w → IsFront (drop offset blob) v
-    → v ≡ w
-one_there blob offset w v there f =
-    let one = there.only v.spelled v.value f.rest f.front in
-    let encoding : v.encoding ≡ w.encoding = sym f.encoding_is ∙ one.0 in
-    λ i. record { encoding = encoding i; spelled = one.1 i; value = one.2 i }
 
 -- A coordinate that is there and too short has no such word.
 pub no_word : (cs : List Coordinate) (c : Coordinate) (i n x : ℕ) → Some c ≡ slice_get cs i → None ≡ slice_get c n

@@ -1,5 +1,5 @@
 -- Lemmas: what calls return for bytes that begin with a geometry, as those do that `buf` of a geometry returns.
-use Rattle.std.proofs.Common.{◌≡◌, ℕ, List, Result, Ok, Err, Bool, true, false, ◌⊎◌, inl, inr, refl, sym, ap, subst, ◌∙◌}
+use Rattle.std.proofs.Common.{◌≡◌, ℕ, List, Result, Ok, Err, Bool, true, false, ◌⊎◌, inl, inr, sym, ap, subst, ◌∙◌}
 use Rattle.std.proofs.Common.{◌≤◌, length, arith}
 use Rattle.std.specs.Prelude.{IfOk, IfErr, MatchBool, Vec}
 use Rattle.std.specs.Global.{Global}
@@ -33,13 +33,17 @@ pub memory_alone : {buf : List ℕ} {w : Item} (r : Result Wkb WkbError) → IsF
 memory_alone (Ok x) f reads = tt
 memory_alone {buf = buf} (Err e) f reads = memory_left e f (memory_or (λ _. HasNoFront buf) e reads.no_front)
 
+-- Bytes begin with one geometry: two that were read of the same bytes are equal.
+pub one_geometry : {buf : List ℕ} {v w : Item} → IsFront buf v → IsFront buf w → v ≡ w
+one_geometry {buf = buf} {v = v} {w = w} f g =
+    let one = has_one_front buf v.spelled w.spelled v.value w.value f.rest g.rest f.front g.front in
+    let encoding : v.encoding ≡ w.encoding = sym f.encoding_is ∙ one.0 ∙ g.encoding_is in
+    λ i. record { encoding = encoding i; spelled = one.1 i; value = one.2 i }
+
 -- What the reader reads of a geometry's bytes is that geometry.
 pub read_the_same : {buf : List ℕ} {w : Item} (r : Result Wkb WkbError) → IsFront buf w → Reads buf r
     → IfOk r (λ x. x ≡ w)
-read_the_same {w = w} (Ok x) f reads =
-    let one = reads.one_front w.spelled w.value f.rest f.front in
-    let encoding : x.encoding ≡ w.encoding = sym one.0 ∙ f.encoding_is in
-    rw (encoding, sym one.1, sym one.2) refl
+read_the_same (Ok x) f reads = one_geometry reads.front f
 read_the_same (Err e) f reads = tt
 
 -- Whatever geometry such bytes begin with is that geometry.

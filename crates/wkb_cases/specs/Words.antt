@@ -134,21 +134,21 @@ pub use Rattle.wkb.specs.Laws.{behind_count, IsOneOf, IsMember, first_spellings,
 pub use Rattle.wkb.specs.Laws.{member_start, ring_start, StandsAt, HoldsMember, FirstStart, NextStart, FirstRingStart}
 pub use Rattle.wkb.specs.Laws.{NextRingStart, MembersStand, HoldsRing, RingsStand, MembersInPlace, RingsInPlace}
 pub use Rattle.wkb.specs.Laws.{IsWordOf, WordsStand, LineStringWordsStand, RanksInOrder}
-pub use Rattle.wkb.specs.Known.{has_one_front, rest_is_free, bytes_are_read, read_or_refused, never_both, one_refusal}
+pub use Rattle.wkb.specs.Known.{has_one_front, rest_is_free, bytes_are_read, encoding_spells, written_is_read}
+pub use Rattle.wkb.specs.Known.{writable_is_read, rewriting_is_read, rewriting_is_fixed, rewriting_with_srid_is_fixed}
+pub use Rattle.wkb.specs.Known.{equal_encodings, equal_encodings_with_srid, equal_encodings_with_own_srid}
+pub use Rattle.wkb.specs.Known.{equal_spelled, equal_spelled_with_srid, read_or_refused, never_both, one_refusal}
 pub use Rattle.wkb.specs.Known.{refused_outward, cut_is_refused, geometry_agrees, front_is_read, refusal_is_read}
-pub use Rattle.wkb.specs.Known.{front_is_bounded, refusal_is_bounded, reading_is_bounded, encoding_spells}
-pub use Rattle.wkb.specs.Known.{written_is_read, writable_is_read, encoding_has_size, length_of_encoding}
-pub use Rattle.wkb.specs.Known.{length_of_front, front_is_writable, ewkb_is_writable, size_is_refused}
-pub use Rattle.wkb.specs.Known.{own_srid_is_writable, rewriting_is_read, rewriting_is_fixed}
-pub use Rattle.wkb.specs.Known.{rewriting_with_srid_is_fixed, equal_encodings, equal_encodings_with_srid}
-pub use Rattle.wkb.specs.Known.{equal_encodings_with_own_srid, named_dimension, spelled_in_full, size_of_spelled}
-pub use Rattle.wkb.specs.Known.{spelled_is_writable, equal_spelled, equal_spelled_with_srid, has_one_encoding}
-pub use Rattle.wkb.specs.Known.{have_one_encoding, coordinate_has_one_encoding, first_start, next_start}
-pub use Rattle.wkb.specs.Known.{first_ring_start, next_ring_start, members_stand, rings_stand, members_in_place}
-pub use Rattle.wkb.specs.Known.{rings_in_place, words_stand, line_string_words_stand, ranks_in_order}
+pub use Rattle.wkb.specs.Known.{reading_is_bounded, front_is_bounded, refusal_is_bounded, encoding_has_size}
+pub use Rattle.wkb.specs.Known.{length_of_encoding, length_of_front, front_is_writable, ewkb_is_writable}
+pub use Rattle.wkb.specs.Known.{size_is_refused, own_srid_is_writable, spelled_is_writable, named_dimension}
+pub use Rattle.wkb.specs.Known.{spelled_in_full, size_of_spelled, has_one_encoding, have_one_encoding}
+pub use Rattle.wkb.specs.Known.{coordinate_has_one_encoding, first_start, next_start, first_ring_start, next_ring_start}
+pub use Rattle.wkb.specs.Known.{members_stand, rings_stand, members_in_place, rings_in_place, words_stand}
+pub use Rattle.wkb.specs.Known.{line_string_words_stand, ranks_in_order}
 pub use Rattle.wkb.specs.Bridges.{memory_or, refused_for, part_is_member, member_of, appended, encoding_alone}
 pub use Rattle.wkb.specs.Bridges.{read_before, read_again, front_stands, rest_stands, stands_within, begins_there}
-pub use Rattle.wkb.specs.Bridges.{parts_counted, members_counted, srid_of_options}
+pub use Rattle.wkb.specs.Bridges.{number_is_read, parts_counted, members_counted, srid_of_options}
 pub use Rattle.wkb.specs.Handed.{Handed, handed_kind, kind_handed, not_point, not_line_string, not_polygon}
 pub use Rattle.wkb.specs.Handed.{not_multi_point, not_multi_line_string, not_multi_polygon, not_collection}
 pub use Rattle.wkb.specs.Kept.{Keeps, none, kept, left, KeepsBefore, keeping_starts, keeps_one, leaves_one}
@@ -160,11 +160,12 @@ pub use Rattle.wkb.specs.Lent.{IsRingAt, point_is_member, line_string_is_member,
 pub use Rattle.wkb.specs.Lent.{next_member_stands, ring_stands, word_stands, ring_word_stands, held_member_stands}
 pub use Rattle.wkb.specs.Lent.{held_ring_stands}
 pub use Rattle.wkb.specs.Members.{item_found, item_missing, no_member, one_member, member_falls, items_lawful}
-pub use Rattle.wkb.specs.Offsets.{BeginsAt, begins_at, none_begins_at, one_there, no_word, no_word_there}
+pub use Rattle.wkb.specs.Offsets.{BeginsAt, begins_at, none_begins_at, no_word, no_word_there}
 pub use Rattle.wkb.specs.Order.{is_number, not_nan, HasNumbers, IsBetween, stay_numbers, range_has_numbers, between}
-pub use Rattle.wkb.specs.OwnBytes.{own_options, never_refused, memory_alone, read_the_same, only_front, one_item}
-pub use Rattle.wkb.specs.OwnBytes.{one_listed, no_longer, no_refusal, not_refused, not_refused_under, always_compared}
-pub use Rattle.wkb.specs.OwnBytes.{own_encoding, own_encoding_with_srid, values_compared}
+pub use Rattle.wkb.specs.OwnBytes.{own_options, never_refused, memory_alone, one_geometry, read_the_same, only_front}
+pub use Rattle.wkb.specs.OwnBytes.{one_item, one_listed, no_longer, no_refusal, not_refused, not_refused_under}
+pub use Rattle.wkb.specs.OwnBytes.{always_compared, own_encoding, own_encoding_with_srid, values_compared}
 pub use Rattle.wkb.specs.Ranges.{IsWithin, BringsWithin, stays_within, within_range_of, number_within, item_within}
 pub use Rattle.wkb.specs.Ranges.{ordinate_within, member_within, drop_at, widened_next, counts_once, same_bounds}
 pub use Rattle.wkb.specs.ReadBack.{IsReadBefore, encoding_is_read, value_is_read, empty_point_read, point_read}
+pub use Rattle.wkb.specs.Same.{same_reflexive, same_symmetric, same_transitive, same_as_rewriting, bounds_of_same}

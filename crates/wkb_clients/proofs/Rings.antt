@@ -10,7 +10,8 @@ use Rattle.wkb.specs.Bridges.{member_of, front_stands, stands_within}
 use Rattle.wkb.specs.Lent.{held_member_stands, held_ring_stands, word_stands}
 use Rattle.wkb_clients.specs.Collections.{IsRingOf, HasNoRing, IsRingWordAt, HasNoRingWordAt}
 use Rattle.wkb.specs.Members.{one_member}
-use Rattle.wkb.specs.Offsets.{BeginsAt, one_there, no_word, no_word_there}
+use Rattle.wkb.specs.Offsets.{BeginsAt, no_word, no_word_there}
+use Rattle.wkb.specs.OwnBytes.{one_geometry}
 
 -- ---- rings
 
@@ -82,7 +83,7 @@ module _ (blob : List ℕ) (offset k j i n : ℕ) (w : Item) (there : BeginsAt b
 
   -- what is said to be such a word is one of a ring of the collection that is there
   ring_there : (x : ℕ) → (h : IsRingWordAt blob offset k j i n x) → IsRingOf w k j h.ring
-  ring_there x h = subst (λ v. IsRingOf v k j h.ring) (one_there blob offset w h.whole there h.front) h.is_ring
+  ring_there x h = subst (λ v. IsRingOf v k j h.ring) (one_geometry h.front there.front) h.is_ring
 
   word_there : (ring : List Coordinate) (x : ℕ) → IsRingOf w k j ring → IsRingWordAt blob offset k j i n x
       → IsWordOf ring i n x
