@@ -2,4 +2,5 @@ pub mod KeysFound
 pub mod Rings
 pub mod BoxesHold
 pub mod Packages
+pub mod Blobs
 pub mod AllPoints

@@ -1,16 +1,19 @@
 -- What is found in a GeoPackage blob, and what isn't.
-use Rattle.std.proofs.Common.{◌≡◌, List, ℕ, Bool, true, false, sym, ap, subst, ◌∙◌, ◌⊎◌, inl, inr}
-use Rattle.wkb.specs.Checks.{Bounds, AreBounds, BoundsOnlyFront}
+use Rattle.std.proofs.Common.{◌≡◌, List, ℕ, Bool, true, false, sym, ap, subst, ◌∙◌, ◌⊎◌, inl, inr, drop, Result, Ok, Err}
+use Rattle.std.specs.Prelude.{IfOk, IfErr}
+use Rattle.wkb.specs.Checks.{Bounds, AreBounds}
 use Rattle.wkb.specs.Known.{has_one_front}
-use Rattle.wkb.specs.OwnBytes.{no_refusal}
+use Rattle.wkb.specs.OwnBytes.{no_refusal, one_geometry}
+use Rattle.wkb.specs.Prelude.{number}
 use Rattle.wkb.specs.Ranges.{same_bounds}
 use Rattle.wkb.specs.Reads.{IsFront}
 use Rattle.wkb_clients.specs.Common.{Item}
 use Rattle.wkb_clients.specs.declared.geopackage.BlobHeader.{BlobHeader}
+use Rattle.wkb_clients.specs.declared.geopackage.Package.{Package}
 use Rattle.wkb_clients.specs.declared.geopackage.Unread.{Unread}
 use Rattle.wkb_clients.specs.declared.geopackage.Unread.TheVariants as reasons
 use Rattle.wkb_clients.specs.Geopackage.{IsBlobHeader, HoldsGeometry, HoldsNoGeometry, body_of, envelope_around, header_order}
-use Rattle.wkb_clients.specs.Geopackage.{envelope_kind, is_ewkb, IsWhy, IsWantOfMemory}
+use Rattle.wkb_clients.specs.Geopackage.{envelope_kind, is_ewkb, IsWhy, IsWantOfMemory, GivesBack}
 
 -- the envelope is judged by what the blob says
 pub as_said : (blob : List ℕ) (h : BlobHeader) (b : Bounds) (r : Bool) → IsBlobHeader blob h
@@ -39,14 +42,33 @@ none_by blob (reasons.Geometry e) why =
 
 -- a geometry is there, and the envelope is around its bounds
 pub holds : (blob body : List ℕ) (h : BlobHeader) (b : Bounds) (w : Item) → IsBlobHeader blob h → body ≡ body_of blob
-    → false ≡ is_ewkb body → BoundsOnlyFront body b
-    → true ≡ envelope_around (header_order blob) (envelope_kind blob) blob b → IsFront body w → HoldsGeometry blob h w
-holds blob body h b w head same iso only around front =
+    → false ≡ is_ewkb body → AreBounds b w.value → true ≡ envelope_around h.order h.envelope blob b → IsFront body w
+    → HoldsGeometry blob h w
+holds blob body h b w head same iso bounded around front =
     record {
       header = head;
       iso = sym (iso ∙ ap is_ewkb same);
       front = subst (λ l. IsFront l w) same front;
       around = λ c is.
-          ap (envelope_around (header_order blob) (envelope_kind blob) blob)
-          (same_bounds c b w.value is (only w.spelled w.value front.rest front.front)) ∙ sym around;
+          ap (envelope_around (header_order blob) (envelope_kind blob) blob) (same_bounds c b w.value is bounded)
+          ∙ sym (as_said blob h b true head around);
     }
+
+-- a blob has one header
+one_header : (blob : List ℕ) (h g : BlobHeader) → IsBlobHeader blob h → IsBlobHeader blob g → h ≡ g
+one_header blob h g a b =
+    let order : h.order ≡ g.order = a.order ∙ sym b.order in
+    let envelope : h.envelope ≡ g.envelope = a.envelope ∙ sym b.envelope in
+    let empty : h.empty ≡ g.empty = a.empty ∙ sym b.empty in
+    let srs : h.srs ≡ g.srs = a.srs ∙ ap (λ o. number o 4 (drop 4 blob)) order ∙ sym b.srs in
+    λ i. record { order = order i; envelope = envelope i; empty = empty i; srs = srs i }
+
+-- so what it holds is what is read of it
+pub given_back : (blob : List ℕ) (r : Result Package Unread) → IfOk r (λ p. HoldsGeometry blob p.header p.geometry)
+    → IfErr r (λ e. IsWantOfMemory e ⊎ HoldsNoGeometry blob) → GivesBack blob r
+given_back blob (Ok q) ok err p there =
+    let header = one_header blob q.header p.header ok.header there.header in
+    let geometry = one_geometry ok.front there.front in
+    λ i. record { header = header i; geometry = geometry i }
+given_back blob (Err e) ok (inl memory) p there = memory
+given_back blob (Err e) ok (inr none) p there = absurd (none p.header p.geometry there)

@@ -1,11 +1,14 @@
 -- What a GeoPackage blob holds (OGC 12-128, clause 2.1.3).
-use Rattle.std.specs.Prelude.{◌≡◌, ℕ, ◌+◌, ◌/◌, ◌%◌, ◌<◌, ◌≤◌, List, length, drop, slice_index, Bool, true, not}
-use Rattle.std.specs.Prelude.{◌&&◌, ◌==◌, ◌⊎◌, ◌^◌, false, nat_le, if◌then◌else◌}
-use Rattle.wkb.specs.Prelude.{Endianness, BigEndian, LittleEndian, number, is_nan, IsMemory, WkbError}
+use Rattle.std.specs.Prelude.{◌≡◌, ℕ, ◌+◌, ◌*◌, ◌/◌, ◌%◌, ◌<◌, ◌≤◌, List, [], ◌∷◌, ◌++◌, length, drop, slice_index, Bool, true, not}
+use Rattle.std.specs.Prelude.{◌&&◌, ◌==◌, ◌⊎◌, ◌^◌, false, nat_le, if◌then◌else◌, Option, Result, MatchOption, MatchResult, Vec}
+use Rattle.std.specs.Global.{Global}
+use Rattle.wkb.specs.Prelude.{Endianness, BigEndian, LittleEndian, number, is_nan, IsMemory, WkbError, order_byte, number_bytes}
+use Rattle.wkb.specs.Prelude.{empty_word}
 use Rattle.wkb.specs.Checks.{Range, Bounds, AreBounds, BoundsFront, rank}
 use Rattle.wkb.specs.Reads.{IsFront, IsRefusal}
 use Rattle.wkb_clients.specs.Common.{Item}
 use Rattle.wkb_clients.specs.declared.geopackage.BlobHeader.{BlobHeader}
+use Rattle.wkb_clients.specs.declared.geopackage.Package.{Package}
 use Rattle.wkb_clients.specs.declared.geopackage.Unread.{Unread}
 use Rattle.wkb_clients.specs.declared.geopackage.Unread.TheVariants as reasons
 
@@ -51,13 +54,17 @@ HasNoBlobHeader blob = (h : BlobHeader) → IsBlobHeader blob h → ⊥
 abbrev pub is_number_at_most : ℕ → ℕ → Bool
 is_number_at_most v w = not (is_nan v) && nat_le (rank v) (rank w)
 
--- Whether the two words at an offset are numbers, at most the least and at least the greatest of the range. Where that
--- has no number, as on each axis of an empty geometry, they are NaNs.
+-- Whether two words are numbers, at most the least and at least the greatest of a range. Where that has no number, as on
+-- each axis of an empty geometry, they are NaNs.
+abbrev pub is_around : Bool → ℕ → ℕ → ℕ → ℕ → Bool
+is_around none low high least greatest =
+    if none then is_nan low && is_nan high
+    else is_number_at_most low least && (not (is_nan high) && nat_le (rank greatest) (rank high))
+
+-- whether the two words at an offset are around the range
 abbrev pub axis_around : Endianness → List ℕ → ℕ → Range → Bool
 axis_around order blob at r =
-    if r.count == 0 then is_nan (number order 8 (drop at blob)) && is_nan (number order 8 (drop (at + 8) blob))
-    else is_number_at_most (number order 8 (drop at blob)) r.least
-    && (not (is_nan (number order 8 (drop (at + 8) blob))) && nat_le (rank r.greatest) (rank (number order 8 (drop (at + 8) blob))))
+    is_around (r.count == 0) (number order 8 (drop at blob)) (number order 8 (drop (at + 8) blob)) r.least r.greatest
 
 -- of z and m the envelope says nothing where the geometry has no number
 abbrev pub other_around : Endianness → List ℕ → ℕ → Range → Bool
@@ -123,3 +130,34 @@ IsWhy blob (reasons.Geometry e) = IsNotRead blob e
 abbrev pub IsWantOfMemory : Unread → Type 0
 IsWantOfMemory (reasons.Geometry e) = IsMemory e
 IsWantOfMemory _ = ⊥
+
+-- whatever package the blob holds is what is read of it, unless an allocation fails
+abbrev pub GivesBack : List ℕ → Result Package Unread → Type 0
+GivesBack blob r = (p : Package) → HoldsGeometry blob p.header p.geometry → MatchResult r (λ q. q ≡ p) IsWantOfMemory
+
+-- ---- what is written
+
+abbrev pub flags_of : BlobHeader → ℕ
+flags_of h = order_byte h.order + 2 * h.envelope + (if h.empty then 16 else 0)
+
+-- "GP", the version 0, the flags and the reference system
+abbrev pub header_bytes : BlobHeader → List ℕ
+header_bytes h = 71 ∷ 80 ∷ 0 ∷ flags_of h ∷ number_bytes h.order 4 h.srs
+
+-- the word of an axis, and a NaN where it has no number
+abbrev pub word_or_nan : Bool → ℕ → ℕ
+word_or_nan none w = if none then empty_word else w
+
+abbrev pub range_bytes : Endianness → Range → List ℕ
+range_bytes order r =
+    number_bytes order 8 (word_or_nan (r.count == 0) r.least)
+    ++ number_bytes order 8 (word_or_nan (r.count == 0) r.greatest)
+
+abbrev pub envelope_bytes : Endianness → ℕ → Bounds → List ℕ
+envelope_bytes order kind b = if kind == 0 then [] else range_bytes order b.x ++ range_bytes order b.y
+
+-- what is found is a blob that holds the package; none where its geometry is EWKB, or its envelope has more axes
+abbrev pub FindsBlob : Package → Option (Vec ℕ Global) → Type 0
+FindsBlob p found =
+    MatchOption found ((1 < p.header.envelope) ⊎ (is_ewkb p.geometry.encoding ≡ true))
+    (λ blob. HoldsGeometry blob.items p.header p.geometry)

@@ -1,18 +1,21 @@
-//! A reader of GeoPackage blobs (OGC 12-128, clause 2.1.3), whose contract says which blobs it takes, and why it takes no
-//! other.
+//! A reader and a writer of GeoPackage blobs (OGC 12-128, clause 2.1.3): which blobs are read, why no other is, and that
+//! what was written of a geometry is read as it.
 
-ghost use Rattle.std.specs.Prelude.{◌≡◌, ◌+◌, ◌<◌, ◌≤◌, ◌⊎◌, MatchOption, IfOk, IfErr, drop, length};
+ghost use Rattle.std.specs.Prelude.{◌≡◌, ◌+◌, ◌++◌, ◌<◌, ◌≤◌, ◌⊎◌, MatchOption, IfOk, IfErr, drop, length};
+ghost use Rattle.wkb.specs.Prelude.{number_bytes};
 ghost use Rattle.wkb_clients.specs.Geopackage.{IsBlobHeader, HasNoBlobHeader, start_behind, order_said, body_of, is_ewkb};
 ghost use Rattle.wkb_clients.specs.Geopackage.{is_number_at_most, axis_around, other_around, others_around, envelope_around};
 ghost use Rattle.wkb_clients.specs.Geopackage.{header_order, envelope_kind, HoldsGeometry, HoldsNoGeometry, IsWantOfMemory, IsWhy};
+ghost use Rattle.wkb_clients.specs.Geopackage.{GivesBack, flags_of, header_bytes, range_bytes, envelope_bytes, FindsBlob};
 
-use std::alloc::Global;
+use crate::own::bounds_of;
+use std::alloc::{AllocError, Global};
 use wkb::Endianness;
 use wkb::check::{Bounds, Range, bounds};
 use wkb::error::WkbError;
 use wkb::geom::is_at_most;
 use wkb::reader::{Wkb, read_wkb};
-use wkb_geom::words::{is_nan, u32_at, u64_at};
+use wkb_geom::words::{EMPTY_WORD, is_nan, u32_at, u64_at};
 
 /// What stands before the geometry: the order of the header's numbers, the kind of its envelope (0 for none, 1 for x
 /// and y, 2 with z, 3 with m, 4 with both), whether the geometry is said to be empty, and the reference system.
@@ -156,11 +159,9 @@ fn envelope_around(blob: &[u8], order: Endianness, kind: u8, found: Bounds) -> b
         && (axis_around(blob, 24, order, found.y) && others_around(blob, order, kind, found))
 }
 
-/// Reads a blob: its header, an envelope around all numbers of the geometry, and the geometry in the codes of ISO. The
-/// envelope of an empty geometry has NaNs alone.
-pub fn read<'a>(alloc: Global, blob: &'a [u8]) -> Result<Package<'a>, Unread>
+/// What the blob holds, or why it isn't read.
+fn read_or_why<'a>(alloc: Global, blob: &'a [u8]) -> Result<Package<'a>, Unread>
     ensures ok { IfOk result (λ p. HoldsGeometry blob.now p.header p.geometry) }
-    ensures err { IfErr result (λ e. IsWantOfMemory e ⊎ HoldsNoGeometry blob.now) }
     ensures why { IfErr result (λ e. IsWhy blob.now e) }
 {
     let Some(header) = read_header(blob) else {
@@ -182,4 +183,90 @@ pub fn read<'a>(alloc: Global, blob: &'a [u8]) -> Result<Package<'a>, Unread>
         Ok(geometry) => Ok(Package { header, geometry }),
         Err(e) => Err(Unread::Geometry(e)),
     }
+}
+
+/// Reads a blob: its header, an envelope around all numbers of the geometry, and the geometry in the codes of ISO. The
+/// envelope of an empty geometry has NaNs alone. What `write` made of a package is read as that package.
+pub fn read<'a>(alloc: Global, blob: &'a [u8]) -> Result<Package<'a>, Unread>
+    ensures ok { IfOk result (λ p. HoldsGeometry blob.now p.header p.geometry) }
+    ensures err { IfErr result (λ e. IsWantOfMemory e ⊎ HoldsNoGeometry blob.now) }
+    ensures why { IfErr result (λ e. IsWhy blob.now e) }
+    ensures back { GivesBack blob.now result }
+{
+    read_or_why(alloc, blob)
+}
+
+/// The byte of the flags.
+fn flags_of(header: BlobHeader) -> u8
+    requires { header.envelope ≤ 1 }
+    ensures { result ≡ flags_of header }
+{
+    let plain = header.order.byte() + 2 * header.envelope;
+    if header.empty { plain + 16 } else { plain }
+}
+
+#[tactic(auto, unfolding(wkb::specs::Prelude::number_bytes))]
+fn add_word(blob: &mut Vec<u8>, order: Endianness, word: u64) -> Result<(), AllocError>
+    ensures { IfOk result (λ _. blob.new.items ≡ blob.old.items ++ number_bytes order 8 word) }
+{
+    match order {
+        Endianness::BigEndian => blob.extend_from_slice(&word.to_be_bytes()),
+        Endianness::LittleEndian => blob.extend_from_slice(&word.to_le_bytes()),
+    }
+}
+
+/// The letters, the version, the flags and the reference system.
+#[tactic(auto, unfolding(wkb::specs::Prelude::number_bytes))]
+fn add_header(blob: &mut Vec<u8>, header: BlobHeader) -> Result<(), AllocError>
+    requires { header.envelope ≤ 1 }
+    ensures { IfOk result (λ _. blob.new.items ≡ blob.old.items ++ header_bytes header) }
+{
+    blob.extend_from_slice(&[0x47, 0x50, 0, flags_of(header)])?;
+    match header.order {
+        Endianness::BigEndian => blob.extend_from_slice(&header.srs.to_be_bytes()),
+        Endianness::LittleEndian => blob.extend_from_slice(&header.srs.to_le_bytes()),
+    }
+}
+
+/// The two words of an axis; NaNs if the geometry has no number on it.
+fn add_range(blob: &mut Vec<u8>, order: Endianness, range: Range) -> Result<(), AllocError>
+    ensures { IfOk result (λ _. blob.new.items ≡ blob.old.items ++ range_bytes order range) }
+{
+    if range.count == 0 {
+        add_word(blob, order, EMPTY_WORD)?;
+        return add_word(blob, order, EMPTY_WORD);
+    }
+    add_word(blob, order, range.least)?;
+    add_word(blob, order, range.greatest)
+}
+
+/// The envelope of x and y, if the header says one.
+fn add_envelope(blob: &mut Vec<u8>, header: BlobHeader, found: Bounds) -> Result<(), AllocError>
+    ensures { IfOk result
+        (λ _. blob.new.items ≡ blob.old.items ++ envelope_bytes header.order header.envelope found) }
+{
+    if header.envelope == 0 {
+        return Ok(());
+    }
+    add_range(blob, header.order, found.x)?;
+    add_range(blob, header.order, found.y)
+}
+
+/// Writes a blob: the header, the envelope of the geometry's x and y or none, and the geometry's own bytes.
+///
+/// None if these are EWKB, or the header says an envelope of more axes.
+pub fn write(alloc: Global, whole: &Package<'_>) -> Result<Option<Vec<u8>>, AllocError>
+    ensures { IfOk result (FindsBlob whole.now) }
+{
+    let header = whole.header;
+    let body = whole.geometry.buf();
+    if header.envelope > 1 || is_ewkb(body) {
+        return Ok(None);
+    }
+    let found = bounds_of(&whole.geometry);
+    let mut blob = Vec::with_capacity(alloc, body.len().saturating_add(40))?;
+    add_header(&mut blob, header)?;
+    add_envelope(&mut blob, header, found)?;
+    blob.extend_from_slice(body)?;
+    Ok(Some(blob))
 }

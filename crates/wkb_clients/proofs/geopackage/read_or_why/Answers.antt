@@ -3,16 +3,12 @@ use Rattle.wkb.specs.Bridges.{memory_or, refused_for}
 use Rattle.wkb.specs.Checks.{BoundsFront}
 use Rattle.wkb.specs.Prelude.{IsMemory}
 use Rattle.wkb.specs.Reads.{IsRefusal}
-use Rattle.wkb_clients.specs.declared.geopackage.Unread.TheVariants as reasons
-use Rattle.wkb_clients.proofs.Packages.{as_said, none_by, holds}
-use Rattle.wkb_clients.proofs.geopackage.read.Goals as goal
+use Rattle.wkb_clients.proofs.Packages.{as_said, holds}
+use Rattle.wkb_clients.proofs.geopackage.read_or_why.Goals as goal
 
 pub returns-then-is_ewkb-clause-why : goal.returns-then-is_ewkb-clause-why
 returns-then-is_ewkb-clause-why c =
     record { header = c.in-Some.header; is_header = c.in-Some.ensures; ewkb = cc }
-
-pub returns-then-is_ewkb-clause-err : goal.returns-then-is_ewkb-clause-err
-returns-then-is_ewkb-clause-err c = none_by _ reasons.Ewkb (returns-then-is_ewkb-clause-why c)
 
 pub returns-then-not-envelope_around-clause-why : goal.returns-then-not-envelope_around-clause-why
 returns-then-not-envelope_around-clause-why c =
@@ -24,10 +20,6 @@ returns-then-not-envelope_around-clause-why c =
       wrong = sym (as_said c.args.blob.now c.in-Some.header c.in-Ok.found _ c.in-Some.ensures (grind arith));
     }
 
-pub returns-then-not-envelope_around-clause-err : goal.returns-then-not-envelope_around-clause-err
-returns-then-not-envelope_around-clause-err c =
-    none_by _ reasons.Envelope (returns-then-not-envelope_around-clause-why c)
-
 pub returns-in-Err-clause-why : goal.returns-in-Err-clause-why
 returns-in-Err-clause-why c =
     let refusal = refused_for c.in-Err.refused c.from.result c.in-Err.ensures.refused.refusal c.from.ensures in
@@ -37,15 +29,12 @@ returns-in-Err-clause-why c =
       why = inr (subst (λ l. IsRefusal l c.from.result) c.body_of-body.ensures refusal);
     }
 
-pub returns-in-Err-clause-err : goal.returns-in-Err-clause-err
-returns-in-Err-clause-err c = none_by _ (reasons.Geometry _) (returns-in-Err-clause-why c)
-
 pub returns-in-Ok-read_wkb-clause-ok : goal.returns-in-Ok-read_wkb-clause-ok
 returns-in-Ok-read_wkb-clause-ok c =
-    holds c.args.blob.now _ c.in-Some.header c.in-Ok.found c.in-Ok-read_wkb.geometry c.in-Some.ensures
-    c.body_of-body.ensures (grind arith) c.in-Ok.ensures.one_front
-    (as_said c.args.blob.now c.in-Some.header c.in-Ok.found _ c.in-Some.ensures (grind arith))
-    c.in-Ok-read_wkb.ensures.front
+    let w = c.in-Ok-read_wkb.geometry in
+    let front = c.in-Ok-read_wkb.ensures.front in
+    holds c.args.blob.now _ c.in-Some.header c.in-Ok.found w c.in-Some.ensures c.body_of-body.ensures (grind arith)
+    (c.in-Ok.ensures.one_front w.spelled w.value front.rest front.front) (grind arith) front
 
 pub returns-in-Err-read_wkb-clause-why : goal.returns-in-Err-read_wkb-clause-why
 returns-in-Err-read_wkb-clause-why c =
@@ -55,7 +44,3 @@ returns-in-Err-read_wkb-clause-why c =
       why = subst (λ l. IsMemory c.in-Err-read_wkb.e ⊎ IsRefusal l c.in-Err-read_wkb.e) c.body_of-body.ensures
           (memory_or _ c.in-Err-read_wkb.e c.in-Err-read_wkb.ensures.refusal);
     }
-
-pub returns-in-Err-read_wkb-clause-err : goal.returns-in-Err-read_wkb-clause-err
-returns-in-Err-read_wkb-clause-err c =
-    none_by _ (reasons.Geometry c.in-Err-read_wkb.e) (returns-in-Err-read_wkb-clause-why c)
