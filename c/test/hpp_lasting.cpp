@@ -1,5 +1,6 @@
-// Tries wkb.hpp and wkb_facts.hpp over the inputs of test/lasting.rows, whose answers are those of a model: one by one, as a column with
-// null rows, and as coordinates of one's own. It prints nothing, and an error if there is one.
+// Tries wkb.hpp and wkb_facts.hpp, as a program without exceptions has them, over the inputs of test/lasting.rows, whose
+// answers are those of a model: one by one, as a column with null rows, from their members, and as coordinates of one's
+// own. It prints nothing, and an error if there is one.
 #include "hpp.h"
 
 #include "wkb_facts.hpp"
@@ -16,6 +17,7 @@
 namespace {
 
 constexpr std::uint32_t NO_SUM = 0x811c9dc5;
+constexpr wkb_fault UNTOLD{7, 7, 7, 7, 7, 7};
 constexpr double NOT_A_NUMBER = std::numeric_limits<double>::quiet_NaN();
 constexpr std::size_t OPTIONS = 8, OF_BOUNDS = OPTIONS, OF_PARTS = 9, OF_LEVELS = 10, SUMS = 11;
 using ends = std::vector<std::uint64_t>;
@@ -153,49 +155,105 @@ auto adapted(const wkb::part &whole) {
 #endif
 }
 
+// A fault that is nothing but a status.
+wkb_fault only(wkb_status status) { return {0, 0, 0, 0, 0, status}; }
+
 void reads(const row &it) {
   wkb::reader reader;
+  wkb_fault fault = UNTOLD;
   std::vector<wkb_part> table(it.found.parts);
-  for (const auto &whole : {reader.try_read(it.bytes), wkb::try_read(it.bytes, table)}) {
+  const auto less = std::span(table).first(table.size() - 1);
+  it.expect(!wkb::try_read(it.bytes, less, &fault) && is_same(fault, only(WKB_STATUS_NO_ROOM)), "a smaller table");
+  it.expect(table[0].end == 0 && reader.table().empty(), "what it holds");
+  fault = UNTOLD;
+  for (const auto &whole : {reader.try_read(it.bytes, &fault), wkb::try_read(it.bytes, table, &fault)}) {
     walk over{it};
     over.visit(*whole);
     it.expect(summed(std::span(std::as_const(over.entries))) == it.sums[OF_PARTS], "the parts");
     it.expect(over.found.sum() == it.sums[OF_LEVELS], "the words of parts");
     auto member = whole->begin();
     for (const wkb::part kept : adapted(*whole)) it.expect(&kept.entry() == &(*member++).entry(), "a part that is gone");
+    it.expect(member == whole->end(), "the end of its members");
   }
   it.expect(reader.table().size() == table.size() && reader.table().back().end == table.back().end, "the tables");
+  it.expect(is_same(fault, UNTOLD), "no fault");
 }
 
 wkb_options options_of(std::size_t number) {
   return {static_cast<wkb_order>(number / 4), static_cast<wkb_form>(number % 4), 4326};
 }
 
+// Each call tells the fault, and leaves what it would have written to.
 void refuses(const row &it) {
-  wkb_fault fault{};
-  std::vector<std::byte> out;
-  it.expect(!wkb::check(it.bytes, &fault) && is_same(fault, it.fault), "the fault of check");
-  it.expect(!wkb::try_bounds(it.bytes, &fault) && is_same(fault, it.fault), "the fault of try_bounds");
-  it.expect(!wkb::try_write(it.bytes, options_of(0), out, &fault) && is_same(fault, it.fault), "of try_write");
+  static const auto POINT = spelled("0101000000000000000000f03f0000000000000040");
+  constexpr std::byte KEPT{7};
+  wkb_fault fault = UNTOLD;
+  std::uint32_t which = 0;
+  std::vector<std::byte> out(3, KEPT), room(it.bytes.size() + 4, KEPT);
+  std::vector<wkb_part> table(it.bytes.size() + 1);
+  wkb::reader reader;
+  const auto is_told = [&](bool is_refused, const char *call) {
+    it.expect(is_refused && is_same(fault, it.fault), call);
+    fault = UNTOLD;
+  };
+  is_told(!wkb::check(it.bytes, &fault), "the fault of check");
+  is_told(!wkb::try_bounds(it.bytes, &fault), "the fault of try_bounds");
+  is_told(!wkb::try_write(it.bytes, options_of(0), out, &fault), "the fault of try_write");
+  is_told(!wkb::try_write(it.bytes, options_of(0), std::span(room), &fault), "the fault of try_write into a span");
+  is_told(!wkb::try_read(it.bytes, table, &fault), "the fault of try_read");
+  is_told(!reader.try_read(it.bytes, &fault) && reader.table().empty(), "the fault of a reader");
+  is_told(!wkb::try_same(it.bytes, POINT, &fault, &which) && which == 1, "the fault of the first of two");
+  is_told(!wkb::try_same(POINT, it.bytes, &fault, &which) && which == 2, "the fault of the second of two");
+  it.expect(!wkb::check(it.bytes) && !wkb::try_write(it.bytes, options_of(0), out), "refusals that nobody wants");
+  const std::array<std::int64_t, 2> offsets{0, static_cast<std::int64_t>(it.bytes.size())};
+  const wkb_column rows = wkb::column(it.bytes, std::span<const std::int64_t>(offsets));
+  // Inside a collection more a row may be nested too deep.
+  std::size_t row = 7;
+  const bool is_made = wkb::try_collect(rows, WKB_KIND_GEOMETRY_COLLECTION, WKB_DIM_XY, options_of(0), out, &fault, &row);
+  if (it.fault.part < 127) is_told(!is_made && row == 0, "the fault of a row of a collection");
+  it.expect(!wkb::try_write(it.bytes, {2, WKB_FORM_ISO, 0}, out, &fault), "an unknown order");
+  it.expect(is_same(fault, only(WKB_STATUS_UNKNOWN_OPTION)), "the fault of an unknown order");
+  room.insert(room.end(), out.begin(), out.end());
+  it.expect(std::ranges::count(room, KEPT) == std::ssize(room) && table[0].end == 0, "what a refusal leaves");
 }
 
 void accepts(const row &it) {
-  const auto found = wkb::check(it.bytes);
+  wkb_fault fault = UNTOLD;
+  const auto found = wkb::check(it.bytes, &fault);
   it.expect(found && is_same(*found, it.found), "check");
-  it.expect(sum_of(wkb::bounds(it.bytes)) == it.sums[OF_BOUNDS], "bounds");
+  it.expect(sum_of(*wkb::try_bounds(it.bytes, &fault)) == it.sums[OF_BOUNDS], "bounds");
   for (std::size_t number = 0; number < OPTIONS; number++) {
-    const auto out = wkb::write(it.bytes, options_of(number));
+    std::vector<std::byte> out(number * it.bytes.size());
+    it.expect(wkb::try_write(it.bytes, options_of(number), out, &fault), "try_write");
+    it.expect(summed(out) == it.sums[number] && wkb::try_same(it.bytes, out, &fault) == true, "what is written");
     std::vector<std::byte> room(out.size());
     const std::span<std::byte> all(room);
-    it.expect(summed(out) == it.sums[number] && wkb::same(it.bytes, out), "write");
-    it.expect(wkb::try_write(it.bytes, options_of(number), all) == out.size() && room == out, "try_write into a span");
-    wkb_fault fault{};
+    const auto size = wkb::try_write(it.bytes, options_of(number), all, &fault);
+    it.expect(size == out.size() && room == out && is_same(fault, UNTOLD), "try_write into a span");
     const auto less = wkb::try_write(it.bytes, options_of(number), all.first(out.size() - 1), &fault);
-    it.expect(!less && fault.status == WKB_STATUS_NO_ROOM, "room for all bytes but one");
+    it.expect(!less && is_same(fault, only(WKB_STATUS_NO_ROOM)), "room for all bytes but one");
+    fault = UNTOLD;
   }
-  wkb_fault fault{};
   const auto cut = wkb::bytes(it.bytes).first(static_cast<std::size_t>(it.found.size) - 1);
   it.expect(!wkb::try_bounds(cut, &fault) && wkb_status_is_early_end(fault.status), "a byte less");
+}
+
+// The members of a row are collected into what is written of it.
+void collects(const row &it) {
+  wkb::reader reader;
+  const wkb::part whole = *reader.try_read(it.bytes);
+  if (whole.has_coordinates() || whole.kind() == WKB_KIND_POLYGON) return;
+  std::vector<std::int64_t> offsets{static_cast<std::int64_t>(whole.empty() ? 0 : (&whole.entry() + 1)->begin)};
+  for (const wkb::part member : whole) offsets.push_back(static_cast<std::int64_t>(member.entry().end));
+  const wkb_column members = wkb::column(it.bytes, std::span<const std::int64_t>(offsets));
+  for (const std::size_t number : {0u, 2u, 3u, 4u, 6u, 7u}) {
+    std::vector<std::byte> out(number * it.bytes.size());
+    wkb_fault fault = UNTOLD;
+    std::size_t row = 7;
+    it.expect(wkb::try_collect(members, whole.kind(), whole.dimension(), options_of(number), out, &fault, &row),
+              "a collection");
+    it.expect(summed(out) == it.sums[number] && is_same(fault, UNTOLD) && row == 7, "what is collected");
+  }
 }
 
 // All inputs, and a null row behind each four of them, with bits that begin in the second byte.
@@ -292,7 +350,7 @@ void joins(const auto &it) {
   for (const row *of : it.rows) {
     all.null_rows += !of, all.refused += of && of->status != WKB_STATUS_OK;
     if (status_of(of) != WKB_STATUS_OK) continue;
-    const wkb_box box = wkb::bounds(of->bytes);
+    const wkb_box box = *wkb::try_bounds(of->bytes);
     join(all.box.x, box.x), join(all.box.y, box.y), join(all.box.z, box.z), join(all.box.m, box.m);
     all.accepted++, all.of_kind[of->found.kind][of->found.dimension]++;
     if (of->found.has_srid) srids.insert(of->found.srid);
@@ -357,8 +415,9 @@ int main() {
     }
     accepts(it);
     reads(it);
+    collects(it);
     if (it.found.kind != WKB_KIND_GEOMETRY_COLLECTION) from_levels(it);
-    it.expect(!before || wkb::same(it.bytes, before->bytes) == (it.sums[0] == before->sums[0]), "a comparison");
+    it.expect(!before || wkb::try_same(it.bytes, before->bytes) == (it.sums[0] == before->sums[0]), "a comparison");
     before = &it;
   }
   as_a_column<std::int32_t>(rows);

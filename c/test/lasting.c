@@ -2,6 +2,7 @@
  * and each byte that it writes, one by one and as a column. Neither changes within version 1. A status inside its
  * class changes only with the file. */
 #include "lasting.h"
+#include <math.h>
 
 static lasting table[LASTING_MOST];
 static uint8_t bytes[BYTES_MOST];
@@ -58,11 +59,6 @@ void fill(filled *f) {
   f->validity[SHORT_ROWS / 8] &= (uint8_t)~(1 << SHORT_ROWS % 8);
   const wkb_column column = {f->data, (size_t)size, f->offsets, sizeof f->offsets[0], f->validity, 0, COLUMN_ROWS};
   f->column = column;
-}
-
-wkb_status status_in_vain(size_t row) {
-  if (row < SHORT_ROWS) return WKB_STATUS_UNKNOWN_OPTION;
-  return row == SHORT_ROWS ? WKB_STATUS_NULL_ROW : WKB_STATUS_BAD_OFFSETS;
 }
 
 uint32_t summed(uint32_t sum, const void *of, size_t len) {
@@ -136,6 +132,60 @@ static bool is_slice(const uint8_t *bytes, const wkb_part *p) {
          f.order == p->order && f.srid == p->srid && f.has_srid == p->has_srid;
 }
 
+/* The words of a row under each dimension, and the ends of its rings and singles. */
+typedef struct levels {
+  double words[4][INPUT_MOST / 4];
+  uint64_t ring_ends[ROW_PARTS_MOST], single_ends[ROW_PARTS_MOST];
+  size_t used[4], rings, singles;
+} levels;
+
+static void put_words(levels *to, const wkb_part *p, const double *words) {
+  for (size_t at = 0; at < p->count * p->width; at += p->width)
+    for (unsigned under = WKB_DIM_XY; under <= WKB_DIM_XYZM; under++) {
+      double *next = to->words[under] + to->used[under];
+      *next++ = words[at], *next++ = words[at + 1];
+      if (under & 1) *next++ = p->dimension & 1 ? words[at + 2] : NAN;
+      if (under & 2) *next++ = p->dimension & 2 ? words[at + p->width - 1] : NAN;
+      to->used[under] = (size_t)(next - to->words[under]);
+    }
+}
+
+/* Puts the words of a ring, a point or a line string, by the two calls for words alike, all of them and each coordinate.
+ * Returns what is wrong, or NULL. */
+static const char *put_part(levels *to, const uint8_t *input, const wkb_part *p) {
+  double words[INPUT_MOST / 8 + 1], own[5];
+  memset(words, UNTOUCHED, sizeof words), memset(own, UNTOUCHED, sizeof own);
+  wkb_words(input, p, 0, p->count, words);
+  if (!is_kept(words + p->width * p->count, sizeof words[0])) return "a word after the last is written";
+  for (uint64_t i = 0; i < p->count; i++) {
+    wkb_words(input, p, i, 1, own);
+    if (memcmp(own, words + p->width * i, p->width * sizeof own[0]) != 0) return "a word of wkb_words";
+    if (!is_kept(own + p->width, sizeof own[0])) return "a word after a coordinate is written";
+    for (unsigned n = 0; n < p->width; n++) {
+      const double word = wkb_word(input, p, i, n);
+      if (memcmp(&word, &own[n], sizeof word) != 0) return "a word of wkb_word";
+    }
+  }
+  put_words(to, p, words);
+  to->ring_ends[to->rings++] = to->used[WKB_DIM_XY] / 2;
+  if (p->kind != WKB_KIND_RING) to->single_ends[to->singles++] = to->rings;
+  return NULL;
+}
+
+/* What is wrong with the words of a row's parts, or NULL. */
+static const char *wrong_words(const lasting *r, const wkb_part *parts, size_t count) {
+  levels all = {.rings = 0};
+  const char *wrong = NULL;
+  uint32_t sum = NO_SUM;
+  for (size_t i = 0; i < count && !wrong; i++) {
+    if (parts[i].kind <= WKB_KIND_LINE_STRING) wrong = put_part(&all, r->bytes, &parts[i]);
+    if (parts[i].kind == WKB_KIND_POLYGON) all.single_ends[all.singles++] = all.rings + parts[i].count;
+  }
+  for (int under = 0; under < 4; under++) sum = summed(sum, all.words[under], 8 * all.used[under]);
+  sum = summed(summed(sum, all.ring_ends, 8 * all.rings), all.single_ends, 8 * all.singles);
+  return !wrong && sum != r->sums[OF_LEVELS] ? "a word changes" : wrong;
+}
+
 /* What is wrong with the table of a row, or NULL. */
 static const char *wrong_parts(const lasting *r) {
   wkb_part parts[ROW_PARTS_MOST + 1];
@@ -150,6 +200,8 @@ static const char *wrong_parts(const lasting *r) {
   if (count != wanted || summed(NO_SUM, parts, count * sizeof parts[0]) != r->sums[OF_PARTS]) return "a part changes";
   for (size_t i = 0; i < count; i++)
     if (!is_slice(r->bytes, &parts[i])) return "the bytes of a part are another geometry";
+  const char *wrong = wrong_words(r, parts, count);
+  if (wrong) return wrong;
   wkb_found found;
   wkb_check(r->bytes, r->len, &found, NULL);
   const wkb_part whole = wkb_whole(&found);
@@ -211,6 +263,7 @@ static void wrong_rows_are_seen(lasting *r) {
     is_seen(r, &r->sums[i], 1, "a byte that is written changes");
   if (!is_refused) is_seen(r, &r->sums[OF_BOUNDS], 1, "a bound changes");
   if (!is_refused) is_seen(r, &r->sums[OF_PARTS], 1, "a part changes");
+  if (!is_refused) is_seen(r, &r->sums[OF_LEVELS], 1, "a word changes");
   if (!is_refused) return;
   is_seen(r, &r->status, 16, "a status changes its class");
   is_seen(r, &r->status, 2, "a status changes inside its class");

@@ -1,5 +1,5 @@
-/* wkb_column_from_coordinates on a column of each kind, with each status and smaller rooms; lasting_columns.c has the
- * way back and all options. */
+/* Levels that somebody else has made, with each status and smaller rooms, and levels as GeoArrow's offsets;
+ * lasting_columns.c has the levels of all inputs, the way back and all options. */
 #include "shared.h"
 
 enum { ROWS_MOST = 6, OUT_MOST = 512, ALIKE = 0x5a };
@@ -18,16 +18,14 @@ typedef struct worked {
 #define ENDS(...) (const uint64_t[]){__VA_ARGS__}
 #define OK WKB_STATUS_OK
 #define BAD WKB_STATUS_BAD_LEVELS
+#define NONE WKB_STATUS_NULL_ROW
+#define NO_KIND WKB_STATUS_UNKNOWN_OPTION
 
 static const worked WORKED[] = {
     /* No ends: a point each. Of NaNs it is empty, and they are written as they are. */
     {"WX NN 010000000000f87f N YZ", WKB_KIND_POINT, WKB_DIM_XY, 4, 4, 4, NULL, NULL, NULL,
      {"01 01000000 WX", "01 01000000 NN", "01 01000000 010000000000f87f N", "01 01000000 YZ"}, {OK, OK, OK, OK}},
-    /* No ends in the other dimensions: as many words each as a coordinate has. */
-    {"WXY ZYX", WKB_KIND_POINT, WKB_DIM_XYZ, 2, 2, 2, NULL, NULL, NULL, {"01 e9030000 WXY", "01 e9030000 ZYX"},
-     {OK, OK}},
-    {"WXY ZYX", WKB_KIND_POINT, WKB_DIM_XYM, 2, 2, 2, NULL, NULL, NULL, {"01 d1070000 WXY", "01 d1070000 ZYX"},
-     {OK, OK}},
+    /* No ends in another dimension: as many words each as a coordinate has. */
     {"WXYZ ZYXW", WKB_KIND_POINT, WKB_DIM_XYZM, 2, 2, 2, NULL, NULL, NULL, {"01 b90b0000 WXYZ", "01 b90b0000 ZYXW"},
      {OK, OK}},
     /* Ends of rings alone; no coordinates are an empty line string. The last but one ends before it begins. */
@@ -65,11 +63,27 @@ static const worked WORKED[] = {
     {"WX Y", WKB_KIND_POINT, WKB_DIM_XY, 2, 2, 2, NULL, NULL, NULL, {"01 01000000 WX", NULL}, {OK, BAD}},
     {"WXYZ ZYX", WKB_KIND_LINE_STRING, WKB_DIM_XYZM, 2, 2, 2, ENDS(1, 2), NULL, NULL,
      {"01 ba0b0000 01000000 WXYZ", NULL}, {OK, BAD}},
+    /* A null row isn't written, but the rows after it begin where it ends or later. */
+    {"WX YZ WX", WKB_KIND_MULTI_POINT, WKB_DIM_XY, 3, 3, 4, NULL, NULL, ENDS(1, 3, 2, 3),
+     {"01 04000000 01000000 01 01000000 WX", NULL, NULL, NULL}, {OK, NONE, BAD, BAD}},
+    /* A kind or a dimension without a meaning is the status of each row that isn't null. */
+    {"WX YZ", 0, WKB_DIM_XY, 2, 2, 2, NULL, NULL, NULL, {NULL, NULL}, {NO_KIND, NONE}},
+    {"WX YZ", 7, WKB_DIM_XY, 2, 2, 2, NULL, NULL, NULL, {NULL, NULL}, {NO_KIND, NONE}},
+    {"WX YZ", WKB_KIND_POINT, 4, 2, 2, 2, NULL, NULL, NULL, {NULL, NULL}, {NO_KIND, NONE}},
+    /* The levels of a rejected row, and of collections of a point and of an empty line string. */
+    {"WX", WKB_KIND_MULTI_POINT, WKB_DIM_XY, 2, 2, 3, ENDS(1, 1), ENDS(1, 2), ENDS(0, 1, 2),
+     {"01 04000000 00000000", "01 04000000 01000000 01 01000000 WX", NULL}, {OK, OK, BAD}},
+    {"WX", WKB_KIND_LINE_STRING, WKB_DIM_XY, 2, 2, 3, ENDS(1, 1), ENDS(1, 2), ENDS(0, 1, 2),
+     {NULL, "01 02000000 01000000 WX", "01 02000000 00000000"}, {BAD, OK, OK}},
 };
 
-static wkb_levels levels_of(const worked *w, double *words) {
+/* The bit of the first row is bit 5, so that other rows have bits of the byte behind. */
+static wkb_levels levels_of(const worked *w, double *words, uint16_t *present) {
   size_t count = spelled(w->words, (uint8_t *)words) / sizeof words[0];
-  wkb_levels levels = {words, count, w->ring_ends, w->rings, w->single_ends, w->singles, w->row_ends, w->rows, NULL, 0};
+  wkb_levels levels = {words, count, w->ring_ends, w->rings, w->single_ends, w->singles, w->row_ends, w->rows, NULL, 5};
+  *present = UINT16_MAX;
+  for (size_t i = 0; i < w->rows; i++)
+    if (w->statuses[i] == NONE) levels.validity = present, *present &= (uint16_t)~(1u << (5 + i));
   return levels;
 }
 
@@ -79,7 +93,8 @@ static size_t rows_are_written(const worked *w, size_t room) {
   uint8_t out[OUT_MOST + 1], statuses[ROWS_MOST + 1], wanted[OUT_MOST];
   uint64_t ends[ROWS_MOST + 1], start = 0, last = 0;
   memset(out, ALIKE, sizeof out), memset(statuses, ALIKE, sizeof statuses), memset(ends, ALIKE, sizeof ends);
-  wkb_levels levels = levels_of(w, words);
+  uint16_t present;
+  const wkb_levels levels = levels_of(w, words, &present);
   size_t total = wkb_column_from_coordinates(&levels, w->kind, w->dimension, &LITTLE_ISO, room ? out : NULL, room,
                                              ends, statuses);
   for (size_t i = 0; i < w->rows; i++) {
@@ -97,77 +112,59 @@ static size_t rows_are_written(const worked *w, size_t room) {
   return total;
 }
 
-/* A null row isn't written, but the rows after it begin where it ends or later. */
-static void null_rows_are_passed(void) {
-  static const double WORDS[6] = {1, 2, 3, 4, 1, 2};
-  static const uint64_t ROW_ENDS[4] = {1, 3, 2, 3};
-  static const uint8_t VALIDITY[2] = {0xbf, 0xff};
-  uint8_t out[64], statuses[4];
-  uint64_t ends[4];
-  wkb_levels levels = {WORDS, 6, NULL, 3, NULL, 3, ROW_ENDS, 4, VALIDITY, 5};
-  wkb_column_from_coordinates(&levels, WKB_KIND_MULTI_POINT, WKB_DIM_XY, &LITTLE_ISO, out, 64, ends, statuses);
-  expect(statuses[0] == OK && statuses[1] == WKB_STATUS_NULL_ROW, "a null row", "levels");
-  expect(statuses[2] == BAD && statuses[3] == BAD, "a row before a null row's end", "levels");
-  expect(ends[0] == 30 && ends[1] == 30 && ends[2] == 30 && ends[3] == 30, "the ends", "a null row");
-}
+/* Rows of one kind, of which the second is null, the third empty and the fourth rejected; and what the format of
+ * GeoArrow has of them, worked by hand: the offsets of each list, from the outermost on. */
+enum { LIST_ROWS = 5, LISTS_MOST = 3, OFFSETS_MOST = 8, GIVEN = 0x15 };
+typedef struct listed {
+  wkb_kind kind;
+  const char *rows[LIST_ROWS];
+  uint64_t offsets[LISTS_MOST][OFFSETS_MOST];
+} listed;
+static const listed LISTED[] = {
+    {WKB_KIND_LINE_STRING,
+     {"01 02000000 02000000 WXYZ", NULL, "00 00000002 00000000", "02", "01 02000000 03000000 WXYZWX"},
+     {{0, 2, 2, 2, 2, 5}}},
+    {WKB_KIND_POLYGON,
+     {"01 03000000 02000000 03000000 WXYZWX 01000000 ZZ", NULL, "01 03000000 00000000", "02",
+      "01 03000000 02000000 00000000 02000000 XXYY"},
+     {{0, 2, 2, 2, 2, 4}, {0, 3, 4, 4, 6}}},
+    {WKB_KIND_MULTI_POINT,
+     {"01 04000000 02000000 01 01000000 WX 01 01000000 YZ", NULL, "01 04000000 00000000", "02",
+      "01 04000000 01000000 01 01000000 XX"},
+     {{0, 2, 2, 2, 2, 3}}},
+    {WKB_KIND_MULTI_LINE_STRING,
+     {"01 05000000 02000000 01 02000000 02000000 WXYZ 01 02000000 00000000", NULL, "01 05000000 00000000", "02",
+      "01 05000000 01000000 01 02000000 01000000 ZW"},
+     {{0, 2, 2, 2, 2, 3}, {0, 2, 2, 3}}},
+    {WKB_KIND_MULTI_POLYGON,
+     {"01 06000000 02000000 01 03000000 02000000 03000000 WXYZWX 01000000 ZZ 01 03000000 00000000", NULL,
+      "01 06000000 00000000", "02", "01 06000000 01000000 01 03000000 01000000 02000000 XXYY"},
+     {{0, 2, 2, 2, 2, 3}, {0, 2, 2, 3}, {0, 3, 4, 6}}},
+};
 
-/* A kind, a dimension or options without a meaning are the status of each row that isn't null. */
-static void no_meaning_is_reported(void) {
-  static const double WORDS[4] = {1, 2, 3, 4};
-  static const uint8_t VALIDITY[1] = {0xfd};
-  static const wkb_options NO_FORM = {WKB_ORDER_LITTLE, (wkb_form)4, 0};
-  const wkb_levels levels = {WORDS, 4, NULL, 2, NULL, 2, NULL, 2, VALIDITY, 0};
-  const struct {
-    uint32_t kind, dimension;
-    const wkb_options *options;
-  } WITHOUT[4] = {{0, 0, &LITTLE_ISO}, {7, 0, &LITTLE_ISO}, {1, 4, &LITTLE_ISO}, {1, 0, &NO_FORM}};
-  for (size_t i = 0; i < 4; i++) {
-    uint8_t out[64], statuses[2];
-    uint64_t ends[2];
-    size_t total = wkb_column_from_coordinates(&levels, WITHOUT[i].kind, WITHOUT[i].dimension, WITHOUT[i].options,
-                                               out, 64, ends, statuses);
-    expect(statuses[0] == WKB_STATUS_UNKNOWN_OPTION, "no meaning", "levels");
-    expect(statuses[1] == WKB_STATUS_NULL_ROW, "a null row without a meaning", "levels");
-    expect(total == 0 && ends[0] == 0 && ends[1] == 0, "the ends without a meaning", "levels");
+/* The ends of rows, singles and rings, each behind a 0, are these offsets. */
+static void are_offsets(const listed *it) {
+  uint8_t bytes[512], statuses[LIST_ROWS], present = 0;
+  int64_t starts[LIST_ROWS + 1] = {0};
+  double words[2 * OFFSETS_MOST];
+  uint64_t rows[OFFSETS_MOST] = {0}, singles[OFFSETS_MOST] = {0}, rings[OFFSETS_MOST] = {0};
+  uint64_t lists[LISTS_MOST][OFFSETS_MOST] = {{0}};
+  const bool is_polygon = it->kind == WKB_KIND_POLYGON, has_rows = it->kind >= WKB_KIND_MULTI_LINE_STRING;
+  for (int i = 0; i < LIST_ROWS; i++) {
+    starts[i + 1] = starts[i] + (it->rows[i] ? (int64_t)spelled(it->rows[i], bytes + starts[i]) : 0);
+    if (it->rows[i]) present |= (uint8_t)(1u << i);
   }
-}
-
-/* The levels of a rejected row, and of collections of a point and of an empty line string, given on as if they were rows
- * of a kind. */
-static void other_rows_come_back(wkb_kind kind, const char *const encodings[3], const wkb_status wanted[3]) {
-  static const char COLUMN[] =
-      "05 01 07000000 01000000 01 01000000 WX 01 07000000 01000000 01 02000000 00000000";
-  uint8_t data[64], out[64], expected[64], statuses[3];
-  const int64_t offsets[4] = {0, 1, 31, (int64_t)spelled(COLUMN, data)};
-  double words[2];
-  uint64_t rings[2], singles[2], rows[3], ends[4] = {0};
-  const wkb_column column = {data, (size_t)offsets[3], offsets, 8, NULL, 0, 3};
-  wkb_coordinates found = {words, 2, rings, 2, singles, 2, rows, 0, 0, 0};
-  wkb_column_coordinates(&column, WKB_DIM_XY, &found, statuses);
-  const wkb_levels levels = {words, 2, rings, 2, singles, 2, rows, 3, NULL, 0};
-  wkb_column_from_coordinates(&levels, kind, WKB_DIM_XY, &LITTLE_ISO, out, 64, ends + 1, statuses);
-  for (size_t i = 0; i < 3; i++) {
-    const char *what = i == 0 ? "a rejected row" : "a collection";
-    size_t size = encodings[i] ? spelled(encodings[i], expected) : 0;
-    expect(statuses[i] == wanted[i] && ends[i + 1] - ends[i] == size, what, "levels");
-    expect(memcmp(out + ends[i], expected, size) == 0, what, "the bytes of levels");
-  }
-}
-
-static void rows_without_levels_come_back(void) {
-  other_rows_come_back(WKB_KIND_MULTI_POINT,
-                       (const char *[]){"01 04000000 00000000", "01 04000000 01000000 01 01000000 WX", NULL},
-                       (const wkb_status[]){OK, OK, BAD});
-  other_rows_come_back(WKB_KIND_LINE_STRING,
-                       (const char *[]){NULL, "01 02000000 01000000 WX", "01 02000000 00000000"},
-                       (const wkb_status[]){BAD, OK, OK});
-}
-
-/* Without rows there is nothing, and all pointers may be null. */
-static void no_rows_are_written(void) {
-  const wkb_levels none = {NULL, 0, NULL, 0, NULL, 0, NULL, 0, NULL, 0};
-  expect(wkb_column_from_coordinates(&none, WKB_KIND_POINT, WKB_DIM_XY, &LITTLE_ISO, NULL, 0, NULL, NULL) == 0,
-         "no rows", "levels");
+  const wkb_column column = {bytes, (size_t)starts[LIST_ROWS], starts, 8, &present, 0, LIST_ROWS};
+  wkb_coordinates out = {words,    2 * OFFSETS_MOST, rings + 1, OFFSETS_MOST - 1, singles + 1, OFFSETS_MOST - 1,
+                         rows + 1, 0,                0,         0};
+  wkb_column_coordinates(&column, WKB_DIM_XY, &out, statuses);
+  for (int i = 0; i < LIST_ROWS; i++)
+    expect((statuses[i] == WKB_STATUS_OK) == (GIVEN >> i & 1), "rows without a list", it->rows[0]);
+  for (size_t i = 0; i <= LIST_ROWS; i++)
+    lists[0][i] = has_rows ? rows[i] : is_polygon ? singles[rows[i]] : rings[singles[rows[i]]];
+  if (it->kind == WKB_KIND_MULTI_POLYGON) memcpy(lists[1], singles, sizeof singles);
+  if (has_rows || is_polygon) memcpy(lists[it->kind == WKB_KIND_MULTI_POLYGON ? 2 : 1], rings, sizeof rings);
+  expect(memcmp(lists, it->offsets, sizeof lists) == 0, "offsets of GeoArrow", it->rows[0]);
 }
 
 void levels_are_right(void) {
@@ -175,8 +172,5 @@ void levels_are_right(void) {
     size_t total = rows_are_written(&WORKED[i], OUT_MOST);
     for (size_t room = 0; room <= total; room++) rows_are_written(&WORKED[i], room);
   }
-  null_rows_are_passed();
-  no_meaning_is_reported();
-  rows_without_levels_come_back();
-  no_rows_are_written();
+  for (size_t i = 0; i < sizeof LISTED / sizeof LISTED[0]; i++) are_offsets(&LISTED[i]);
 }

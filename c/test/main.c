@@ -15,13 +15,8 @@ int main(int count, char **words) {
   printf("the calls return what they must\n");
   texts_are_right();
   printf("texts, classes and the version are right\n");
-  words_are_right();
-  printf("words are right\n");
-  columns_are_right();
-  coordinates_are_right();
   levels_are_right();
-  collections_are_right();
-  printf("columns return what they must\n");
+  printf("levels are written as they must\n");
   what_lasts_is_as_it_was();
   printf("20000 random inputs have the answers %016llx\n", (unsigned long long)answers_over(0, 20000));
   nothing_is_read_after_the_input();

@@ -22,43 +22,28 @@ static void ends_at_page(const lasting *r, size_t len, uint8_t *page_end, const 
   can_be_written(page_end, true);
 }
 
-/* A column of one row, whose offsets and validity are at the end of a page as well. */
+/* A column of one row, whose offsets or validity are at the end of a page as well. */
 static void column_ends_at_page(const lasting *r, uint8_t *page_end, uint8_t *other_end) {
   const size_t len = r->len;
+  const int64_t offsets[2] = {0, (int64_t)len};
+  uint8_t statuses[ASKED_MOST];
   memcpy(page_end - len, r->bytes, len);
   for (size_t offset_size = 4; offset_size <= 8; offset_size += 4) {
-    uint8_t status = 0x5a;
-    uint64_t end;
-    wkb_box box;
-    wkb_found found;
+    const wkb_status of_all = r->status == WKB_STATUS_OK ? WKB_STATUS_NO_ROOM : r->status;
     memset(other_end - 2 * offset_size, 0, 2 * offset_size);
     memcpy(other_end - offset_size, &(uint64_t){len}, offset_size);
-    wkb_column column = {page_end - len, len, other_end - 2 * offset_size, offset_size, NULL, 0, 1};
-    wkb_column_check(&column, &status);
-    expect(status == r->status, "a column at the end of a page", "");
-    wkb_column_found(&column, &found, &status);
-    expect(status == r->status, "what is found at the end of a page", "");
-    wkb_column_bounds(&column, &box, &status);
-    expect(status == r->status, "bounds at the end of a page", "");
-    wkb_column_parts(&column, NULL, 0, &end, &status);
-    const wkb_status without_room = r->status == WKB_STATUS_OK ? WKB_STATUS_NO_ROOM : r->status;
-    expect(status == without_room, "parts at the end", "");
-    wkb_column_write(&column, &LITTLE_ISO, NULL, 0, &end, &status);
-    expect(status == without_room, "an encoding at the end", "");
-    double words[64];
-    uint64_t ring_ends[8], single_ends[8];
-    wkb_coordinates levels = {words, 64, ring_ends, 8, single_ends, 8, &end, 0, 0, 0};
-    wkb_column_coordinates(&column, WKB_DIM_XYZM, &levels, &status);
-    expect(status == r->status, "coordinates at the end", "");
-    wkb_status of_all = wkb_collect(&column, WKB_KIND_GEOMETRY_COLLECTION, 0, &LITTLE_ISO, NULL, 0, NULL, NULL, NULL);
-    expect(of_all == without_room, "a collection at the end", "");
+    const wkb_column column = {page_end - len, len, other_end - 2 * offset_size, offset_size, NULL, 0, 1};
+    for (int call = 0; call < UNKNOWN; call++) {
+      ask(call, &column, statuses);
+      expect(statuses[0] == r->status, "a column at the end of a page", "");
+    }
+    wkb_status status = wkb_collect(&column, WKB_KIND_GEOMETRY_COLLECTION, 0, &LITTLE_ISO, NULL, 0, NULL, NULL, NULL);
+    expect(status == of_all, "a collection at the end", "");
   }
-  uint8_t status = 0x5a;
-  int64_t offsets[2] = {0, (int64_t)len};
   other_end[-1] = 0x80;
-  wkb_column column = {page_end - len, len, offsets, 8, other_end - 1, 7, 1};
-  wkb_column_check(&column, &status);
-  expect(status == r->status, "validity at the end of a page", "");
+  const wkb_column column = {page_end - len, len, offsets, 8, other_end - 1, 7, 1};
+  wkb_column_check(&column, statuses);
+  expect(statuses[0] == r->status, "validity at the end of a page", "");
 }
 
 /* Words and ends of levels, and a validity, each at the end of a page. */
@@ -86,30 +71,21 @@ static void levels_end_at_page(uint8_t *page_end, uint8_t *other_end) {
 
 /* Null rows, and rows whose offsets are bad, over data that can't be read: no call reads them. */
 static void rows_without_bytes_are_not_read(const uint8_t *unreadable) {
-  enum { ROWS = 4, ROOM = 8 };
+  enum { ROWS = 4 };
   static const int32_t OFFSETS[ROWS + 1] = {0, 21, -1, 42, 21};
   static const uint8_t VALIDITY = 0x0e;
   const wkb_column column = {unreadable, 42, OFFSETS, 4, &VALIDITY, 0, ROWS};
-  uint8_t statuses[6][ROWS], out[ROOM];
-  uint64_t ends[ROWS], rings[ROOM], singles[ROOM];
-  double words[ROOM];
-  wkb_part parts[ROOM];
-  wkb_box boxes[ROWS];
-  wkb_found found[ROWS];
-  wkb_coordinates to = {words, ROOM, rings, ROOM, singles, ROOM, ends, 0, 0, 0};
-  wkb_column_check(&column, statuses[0]);
-  wkb_column_bounds(&column, boxes, statuses[1]);
-  wkb_column_parts(&column, parts, ROOM, ends, statuses[2]);
-  wkb_column_write(&column, &LITTLE_ISO, out, ROOM, ends, statuses[3]);
-  wkb_column_coordinates(&column, WKB_DIM_XY, &to, statuses[4]);
-  wkb_column_found(&column, found, statuses[5]);
-  for (size_t i = 0; i < ROWS; i++) {
-    const wkb_column rest = {unreadable, 42, OFFSETS + i, 4, &VALIDITY, i, ROWS - i};
-    wkb_status status = wkb_collect(&rest, WKB_KIND_MULTI_POINT, 0, &LITTLE_ISO, out, ROOM, NULL, NULL, NULL);
-    expect(status == (i ? WKB_STATUS_BAD_OFFSETS : WKB_STATUS_NULL_ROW), "a row of all", "");
+  uint8_t statuses[ASKED_MOST];
+  for (int i = 0; i < ROWS; i++) {
+    const wkb_status expected = i ? WKB_STATUS_BAD_OFFSETS : WKB_STATUS_NULL_ROW;
+    const wkb_column rest = {unreadable, 42, OFFSETS + i, 4, &VALIDITY, (size_t)i, (size_t)(ROWS - i)};
+    for (int call = 0; call < COLUMN_CALLS; call++) {
+      ask(call, &column, statuses);
+      expect(statuses[i] == expected, "a row", "");
+    }
+    wkb_status status = wkb_collect(&rest, WKB_KIND_MULTI_POINT, 0, &LITTLE_ISO, NULL, 0, NULL, NULL, NULL);
+    expect(status == expected, "a row of all", "");
   }
-  for (int i = 0; i < 6 * ROWS; i++)
-    expect(statuses[i / ROWS][i % ROWS] == (i % ROWS ? WKB_STATUS_BAD_OFFSETS : WKB_STATUS_NULL_ROW), "a row", "");
 }
 
 /* All rows, and those that are short cut anywhere. */

@@ -27,8 +27,10 @@ typedef struct filled {
 
 void fill(filled *f);
 
-/* The status of a row of this column where what is asked for has no meaning. */
-wkb_status status_in_vain(size_t row);
+/* One of the calls that give each row of a column a status, with room for all of so many short rows. Those from UNKNOWN
+ * on are asked for what has no meaning. */
+enum { ASKED_MOST = 13, UNKNOWN = 6, COLUMN_CALLS = 8 };
+void ask(int call, const wkb_column *of, uint8_t *statuses);
 
 /* The end of a page that may be read and written, before one that may not. */
 uint8_t *end_of_a_page(void);
@@ -43,11 +45,7 @@ void release(uint8_t *taken, size_t size);
 /* The tests, by their files. Each group ends the program where something is wrong. */
 void calls_are_right(void);
 void texts_are_right(void);
-void words_are_right(void);
-void columns_are_right(void);
-void coordinates_are_right(void);
 void levels_are_right(void);
-void collections_are_right(void);
 void nothing_is_read_after_the_input(void);
 void little_stack_is_taken(void);
 void calls_run_at_the_same_time(void);

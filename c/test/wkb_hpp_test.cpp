@@ -1,4 +1,5 @@
-// Tries wkb.hpp. It prints nothing, and an error if there is one.
+// Tries what wkb.hpp has beside the answers of hpp_lasting.cpp: exceptions, readers that are moved, long inputs, and words
+// and facts that no input has. It prints nothing, and an error if there is one.
 #include "test/hpp.h"
 
 #include "wkb_facts.hpp"
@@ -22,88 +23,47 @@ static const auto POLYGONS = spelled(
     "000000000300000000"
     "000000000300000002" "00000001" "3ff00000000000004000000000000000" "00000000");
 
-static void checks() {
-  wkb_fault fault{};
-  auto found = wkb::check(POINT, &fault);
-  expect(found && found->size == 25 && found->srid == 4326 && found->has_srid == 1, "check");
-  expect(!wkb::check({}, &fault) && fault.status == WKB_STATUS_SHORT_HEADER, "nothing is refused");
-  expect(!wkb::check({}), "nothing is refused without a fault");
+constexpr wkb_options BIG{WKB_ORDER_BIG, WKB_FORM_ISO, 0}, LITTLE{WKB_ORDER_LITTLE, WKB_FORM_ISO, 0};
+constexpr wkb_options UNKNOWN{2, WKB_FORM_ISO, 0};
+
+// The text of what a call throws, or none. LOOK looks at what it throws.
+template <typename Exception>
+static std::string thrown(auto call, auto look) {
+  try {
+    call();
+  } catch (const Exception &it) {
+    expect(look(it), it.what());
+    return it.what();
+  }
+  return {};
 }
 
-static bool says(const wkb::refused &refusal, const char *text) { return std::strcmp(refusal.what(), text) == 0; }
-
-static void bounds_and_refusals() {
-  expect(wkb::bounds(POLYGONS).y.greatest == 2 && wkb::bounds(POLYGONS).x.count == 1, "bounds");
-  try {
-    wkb::bounds(wkb::bytes(POINT).first(20));
-    expect(false, "a short point is refused");
-  } catch (const wkb::refused &refusal) {
-    expect(refusal.status() == WKB_STATUS_SHORT_POINT && refusal.fault().end == 25, "the fault of bounds");
-    expect(says(refusal, "the input ends inside a point, at byte 0 (part 0): it needs 25 bytes and has 20"), "point");
-  }
-  const auto short_ring = spelled("01030000000100000004000000" + ONE_AND_TWO);
-  try {
-    wkb::bounds(short_ring);
-    expect(false, "a short ring is refused");
-  } catch (const wkb::refused &refusal) {
-    expect(says(refusal, "the input ends inside a ring, at byte 9 (part 1): it needs 68 bytes and has 20"), "ring");
-  }
+template <typename Exception>
+static std::string thrown(auto call) {
+  return thrown<Exception>(call, [](const Exception &) { return true; });
 }
 
-static void writes() {
-  std::vector<std::byte> out;
-  wkb::write(POINT, {WKB_ORDER_LITTLE, WKB_FORM_ISO, 0}, out);
-  expect(out == spelled("0101000000" + ONE_AND_TWO), "ISO");
-  wkb::write(POINT, {WKB_ORDER_LITTLE, WKB_FORM_EWKB_OWN_SRID, 0}, out);
-  expect(out == POINT, "EWKB, which is longer");
-  wkb::write(POINT, {WKB_ORDER_LITTLE, WKB_FORM_EWKB_WITHOUT_SRID, 0}, out);
-  expect(out.size() == 21, "EWKB, which is shorter");
-  const auto before = out;
-  try {
-    wkb::write(POINT, {2, WKB_FORM_ISO, 0}, out);
-    expect(false, "an unknown order");
-  } catch (const std::invalid_argument &) {
-    expect(out == before, "what an unknown order leaves");
-  }
-  try {
-    wkb::write({}, {WKB_ORDER_BIG, WKB_FORM_ISO, 0}, out);
-    expect(false, "nothing is refused");
-  } catch (const wkb::refused &refusal) {
-    expect(refusal.status() == WKB_STATUS_SHORT_HEADER && out == before, "what a refusal leaves");
-  }
-}
-
-static void compares() {
-  expect(wkb::same(POINT, spelled("0101000000" + ONE_AND_TWO)), "SRIDs don't matter");
-  expect(!wkb::same(POINT, POLYGONS), "other values");
-  for (std::uint32_t which = 1; which <= 2; which++) {
-    try {
-      wkb::same(which == 1 ? wkb::bytes() : POINT, which == 2 ? wkb::bytes() : POINT);
-      expect(false, "nothing is refused");
-    } catch (const wkb::refused_of_two &refusal) {
-      expect(refusal.which() == which && refusal.status() == WKB_STATUS_SHORT_HEADER, "which is refused");
-    }
-  }
-}
-
-static void reads() {
+// What the calls that throw return, what they throw, and what that leaves.
+static void exceptions() {
+  const std::string ended = "the input ends inside a header or before a count, at byte 0 (part 0)";
+  const std::string cut = "the input ends inside a point, at byte 0 (part 0): it needs 25 bytes and has 20";
+  auto out = POLYGONS;
   wkb::reader reader;
-  expect(reader.table().empty(), "no table yet");
-  wkb::part point = reader.read(POINT);
-  expect(point.begin() == point.end() && point.size() == 1, "a point has no parts");
-  wkb::part whole = reader.read(POLYGONS);
-  expect(reader.table().size() == 5 && whole.size() == 2, "a longer table");
-  auto polygon = whole.begin();
-  expect((*polygon).empty() && (*polygon).begin() == (*polygon).end(), "a polygon without rings");
-  wkb::part second = *++polygon;
-  expect(second.encoding().size() == 33 && std::distance(second.begin(), second.end()) == 2, "a polygon with rings");
-  expect(polygon++ != whole.end() && polygon == whole.end(), "the end");
-  try {
-    reader.read({});
-    expect(false, "nothing is refused");
-  } catch (const wkb::refused &) {
-    expect(reader.table().empty(), "no table of a refused input");
-  }
+  expect(wkb::bounds(POLYGONS).y.greatest == 2 && wkb::write(POINT, LITTLE).size() == 21, "bounds and a writing");
+  expect(wkb::same(POINT, wkb::write(POINT, BIG)) && !wkb::same(POINT, POLYGONS), "comparisons");
+  const auto is_of_point = [](const wkb::refused &it) {
+    return it.status() == WKB_STATUS_SHORT_POINT && it.fault().end == 25;
+  };
+  expect(thrown<wkb::refused>([] { wkb::bounds(wkb::bytes(POINT).first(20)); }, is_of_point) == cut, "bounds");
+  expect(thrown<wkb::refused>([&] { wkb::write({}, BIG, out); }) == ended && out == POLYGONS, "what a refusal leaves");
+  const std::string unknown = thrown<std::invalid_argument>([&] { wkb::write(POINT, UNKNOWN, out); });
+  expect(unknown == wkb_status_text(WKB_STATUS_UNKNOWN_OPTION) && out == POLYGONS, "what an unknown order leaves");
+  const auto is_first = [](const wkb::refused_of_two &it) { return it.which() == 1; };
+  const auto is_second = [](const wkb::refused_of_two &it) { return it.which() == 2; };
+  expect(thrown<wkb::refused_of_two>([] { wkb::same({}, POINT); }, is_first) == ended, "the first of two");
+  expect(thrown<wkb::refused_of_two>([] { wkb::same(POINT, {}); }, is_second) == ended, "the second of two");
+  expect(reader.table().empty() && reader.read(POLYGONS).size() == 2 && reader.table().size() == 5, "a table");
+  expect(thrown<wkb::refused>([&] { reader.read({}); }) == ended && reader.table().empty(), "no table");
 }
 
 // A reader that was copied or moved, and one that was moved from.
@@ -119,29 +79,6 @@ static void reader_moves() {
   expect(reader.table().size() == 5, "a table that was assigned");
 }
 
-// The calls that don't throw tell of a refusal what the others throw.
-static void refusals_without_exceptions() {
-  wkb_fault fault{};
-  std::uint32_t which = 0;
-  std::vector<std::byte> out(3);
-  const auto before = out;
-  const wkb_options iso = {WKB_ORDER_LITTLE, WKB_FORM_ISO, 0};
-  expect(wkb::try_bounds(POINT)->y.least == 2 && wkb::try_same(POINT, POINT).value(), "bounds and a comparison");
-  expect(!wkb::try_bounds({}, &fault) && fault.status == WKB_STATUS_SHORT_HEADER, "no bounds");
-  fault = {};
-  expect(!wkb::try_write({}, iso, out, &fault) && fault.status == WKB_STATUS_SHORT_HEADER, "not written");
-  expect(!wkb::try_write({}, iso, out) && out == before, "what a refusal leaves");
-  expect(wkb::try_write(POINT, iso, out) && out.size() == 21, "written");
-  expect(!wkb::try_write(POINT, {WKB_ORDER_BIG, 4, 0}, out, &fault) && out.size() == 21, "an unknown form");
-  expect(fault.status == WKB_STATUS_UNKNOWN_OPTION && fault.end == 0, "why it is not written");
-  fault = {};
-  expect(!wkb::try_same(POINT, {}, &fault, &which) && which == 2 && fault.status == WKB_STATUS_SHORT_HEADER, "same");
-  wkb::reader reader;
-  fault = {};
-  expect(reader.try_read(POINT)->size() == 1 && !reader.try_read({}, &fault), "a reader");
-  expect(fault.status == WKB_STATUS_SHORT_HEADER && reader.table().empty(), "no table");
-}
-
 // An input that is longer than its geometry takes no more room for that, and a long one is written.
 static void long_inputs() {
   std::vector<std::byte> input = spelled("0102000000ffff0000"), out;
@@ -149,10 +86,10 @@ static void long_inputs() {
   wkb::write(input, {WKB_ORDER_BIG, WKB_FORM_EWKB_WITH_SRID, 4326}, out);
   expect(out.size() == 13 + 16 * 65535 && out.capacity() < 2000000, "a long input");
   input.resize(100000);
-  expect(!wkb::try_write(input, {WKB_ORDER_BIG, WKB_FORM_ISO, 0}, out), "a long input that is cut off");
+  expect(!wkb::try_write(input, BIG, out), "a long input that is cut off");
   expect(out.size() == 13 + 16 * 65535, "what it leaves");
   std::vector<std::byte> little;
-  expect(!wkb::try_write(input, {WKB_ORDER_BIG, WKB_FORM_ISO, 0}, little), "the same for an output without memory");
+  expect(!wkb::try_write(input, BIG, little), "the same for an output without memory");
   input = POINT;
   input.resize(70000);
   expect(wkb::try_write(input, {WKB_ORDER_LITTLE, WKB_FORM_EWKB_OWN_SRID, 0}, little), "a point and much behind it");
@@ -165,65 +102,41 @@ static void collects() {
   std::vector<std::byte> data = POINT, out = POLYGONS;
   data.insert(data.end(), POLYGONS.begin(), POLYGONS.end());
   const std::int32_t end = static_cast<std::int32_t>(data.size()), offsets[] = {0, 25, end, end};
-  const wkb_options options = {WKB_ORDER_BIG, WKB_FORM_ISO, 0};
-  const auto of = [&](std::size_t rows) { return wkb::column(data, std::span<const std::int32_t>(offsets, rows + 1)); };
-  const auto refused = [&](const wkb_column &column, wkb_kind kind) {
-    try {
-      wkb::collect(column, kind, WKB_DIM_XY, options);
-    } catch (const wkb::refused_row &refusal) {
-      return std::pair(refusal.row(), std::string(refusal.what()));
-    }
-    return std::pair(column.rows, std::string());
-  };
-  expect(wkb::collect(of(1), WKB_KIND_MULTI_POINT, WKB_DIM_XY, options) == big, "a multi point");
-  expect(wkb::try_collect(of(1), WKB_KIND_MULTI_POINT, WKB_DIM_XY, options, out) && out == big, "a shorter one");
-  const auto whole = wkb::collect(of(2), WKB_KIND_GEOMETRY_COLLECTION, WKB_DIM_XY, options);
-  expect(whole.size() == 9 + 21 + POLYGONS.size() && std::equal(POLYGONS.begin(), POLYGONS.end(), whole.begin() + 30),
-         "a collection");
-  expect(wkb::collect(of(0), WKB_KIND_GEOMETRY_COLLECTION, WKB_DIM_XY, options).size() == 9, "an empty one");
-  const std::string wrong = "a member has the wrong kind, dimension or SRID for its multi geometry, at byte 0 (part 0)";
-  expect(refused(of(2), WKB_KIND_MULTI_POINT) == std::pair<std::size_t, std::string>(1, wrong), "another kind");
-  const std::string ends = "the input ends inside a header or before a count, at byte 0 (part 0)";
-  expect(refused(of(3), WKB_KIND_GEOMETRY_COLLECTION) == std::pair<std::size_t, std::string>(2, ends), "an empty row");
-  // The last byte of a ring is missing, and the empty one after it: row 1 is told, and its part 3.
-  const std::int32_t cut[] = {0, 25, end - 5};
-  const auto last = wkb::column(data, std::span<const std::int32_t>(cut));
-  const std::string of_row = "the input ends inside a ring, at byte 27 (part 3): it needs 20 bytes and has 19";
-  expect(refused(last, WKB_KIND_GEOMETRY_COLLECTION) == std::pair<std::size_t, std::string>(1, of_row), "a cut row");
   const std::uint8_t validity = 1;
-  const auto null = wkb::column(data, std::span<const std::int32_t>(offsets, 3), &validity);
-  const std::pair<std::size_t, std::string> of_null(1, "the row is null");
-  expect(refused(null, WKB_KIND_GEOMETRY_COLLECTION) == of_null, "a null row");
-  try {
-    wkb::collect(of(3), WKB_KIND_POINT, WKB_DIM_XY, options);
-    expect(false, "a kind without members");
-  } catch (const std::invalid_argument &) {
-  }
+  const auto of = [&](std::size_t rows, const void *valid = nullptr) {
+    return wkb::column(data, std::span<const std::int32_t>(offsets, rows + 1), valid);
+  };
+  const auto refused = [&](const wkb_column &column, wkb_kind kind) {
+    const auto is_last = [&](const wkb::refused_row &it) { return it.row() == column.rows - 1; };
+    return thrown<wkb::refused_row>([&] { wkb::collect(column, kind, WKB_DIM_XY, BIG); }, is_last);
+  };
+  expect(wkb::collect(of(1), WKB_KIND_MULTI_POINT, WKB_DIM_XY, BIG) == big, "a multi point");
+  expect(wkb::try_collect(of(1), WKB_KIND_MULTI_POINT, WKB_DIM_XY, BIG, out) && out == big, "a shorter one");
+  expect(wkb::collect(of(0), WKB_KIND_GEOMETRY_COLLECTION, WKB_DIM_XY, BIG).size() == 9, "an empty one");
+  expect(refused(of(2), WKB_KIND_MULTI_POINT) ==
+             "a member has the wrong kind, dimension or SRID for its multi geometry, at byte 0 (part 0)",
+         "another kind");
+  expect(refused(of(3), WKB_KIND_GEOMETRY_COLLECTION) ==
+             "the input ends inside a header or before a count, at byte 0 (part 0)",
+         "an empty row");
+  expect(refused(of(2, &validity), WKB_KIND_GEOMETRY_COLLECTION) == "the row is null", "a null row");
+  const auto kind = [&] { wkb::collect(of(3), WKB_KIND_POINT, WKB_DIM_XY, BIG); };
+  expect(!thrown<std::invalid_argument>(kind).empty(), "a kind without members");
   wkb_fault fault{};
   std::size_t row = 7;
-  const bool is_written = wkb::try_collect(of(3), WKB_KIND_GEOMETRY_COLLECTION, 4, options, out, &fault, &row);
-  expect(!is_written && out == big && row == 7, "an unknown dimension");
-  expect(fault.status == WKB_STATUS_UNKNOWN_OPTION && !wkb::try_collect(of(3), 7, 0, options, out), "why");
+  expect(!wkb::try_collect(of(3), WKB_KIND_GEOMETRY_COLLECTION, 4, BIG, out, &fault, &row), "an unknown dimension");
+  expect(fault.status == WKB_STATUS_UNKNOWN_OPTION && out == big && row == 7, "what it leaves");
 }
 
-// Coordinates of one's own: levels with ends and without, null rows and bad ones.
+// Points of one's own with a null row, and no rows.
 static void rows_of_ones_own() {
-  const wkb_options little = {WKB_ORDER_LITTLE, WKB_FORM_ISO, 0};
   const std::vector<double> words = {1, 2, 1, 2};
-  const std::vector<std::uint64_t> ends = {1, 1, 2}, past = {1, 3};
   const std::uint8_t validity = 0x04;
   const auto points = wkb::rows_from_coordinates({.words = words, .validity = &validity, .validity_offset = 1},
                                                  WKB_KIND_POINT, WKB_DIM_XY,
                                                  {WKB_ORDER_LITTLE, WKB_FORM_EWKB_WITH_SRID, 4326});
   expect(points.statuses == wkb::statuses{WKB_STATUS_NULL_ROW, WKB_STATUS_OK} && points.data == POINT, "points");
-  const auto lines = wkb::rows_from_coordinates({.words = words, .ring_ends = past}, WKB_KIND_LINE_STRING, WKB_DIM_XY,
-                                                little);
-  expect(lines.statuses == wkb::statuses{WKB_STATUS_OK, WKB_STATUS_BAD_LEVELS} && lines.ends[1] == 25, "lines");
-  const auto several = wkb::rows_from_coordinates({.words = words, .row_ends = ends}, WKB_KIND_MULTI_POINT, WKB_DIM_XY,
-                                                  little);
-  expect(several.statuses == wkb::statuses(3), "the statuses of multi points");
-  expect(several.ends == std::vector<std::uint64_t>{30, 39, 69}, "the ends of multi points");
-  expect(wkb::rows_from_coordinates({}, WKB_KIND_POINT, WKB_DIM_XY, little).ends.empty(), "no rows of one's own");
+  expect(wkb::rows_from_coordinates({}, WKB_KIND_POINT, WKB_DIM_XY, LITTLE).ends.empty(), "no rows of one's own");
   expect(wkb::check_rows(wkb::column({}, std::span<const std::int32_t>())).empty(), "no rows");
 }
 
@@ -231,18 +144,17 @@ static void rows_of_ones_own() {
 static void words_without_a_whole_coordinate() {
   const std::vector<std::uint64_t> one{1};
   const std::uint8_t validity = 0xfe;
-  const wkb_options options = {WKB_ORDER_LITTLE, WKB_FORM_ISO, 0};
   for (wkb_dim dimension = WKB_DIM_XY; dimension <= WKB_DIM_XYZM; dimension++) {
     const std::size_t width = wkb::width_of(dimension);
     const std::vector<double> words(3 * width);
     for (std::size_t count = 1; count < words.size(); count += 1 + ((count + 1) % width == 0)) {
       wkb::levels levels{.words = std::span(words).first(count), .validity = &validity};
-      const auto points = wkb::rows_from_coordinates(levels, WKB_KIND_POINT, dimension, options);
+      const auto points = wkb::rows_from_coordinates(levels, WKB_KIND_POINT, dimension, LITTLE);
       wkb::statuses expected(count / width + 1, WKB_STATUS_BAD_LEVELS);
       expected[0] = WKB_STATUS_NULL_ROW;
       expect(points.statuses == expected && points.data.empty(), "points of words that are no whole coordinates");
       levels.ring_ends = one, levels.validity = nullptr;
-      const auto line = wkb::rows_from_coordinates(levels, WKB_KIND_LINE_STRING, dimension, options);
+      const auto line = wkb::rows_from_coordinates(levels, WKB_KIND_LINE_STRING, dimension, LITTLE);
       expect(line.statuses == wkb::statuses{WKB_STATUS_BAD_LEVELS} && line.data.empty(), "a line string of such words");
     }
   }
@@ -281,13 +193,8 @@ static void facts() {
 }
 
 int main() {
-  checks();
-  bounds_and_refusals();
-  writes();
-  compares();
-  reads();
+  exceptions();
   reader_moves();
-  refusals_without_exceptions();
   long_inputs();
   collects();
   rows_of_ones_own();
