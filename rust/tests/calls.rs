@@ -1,39 +1,18 @@
-//! The calls on one input: texts, statuses, and what outputs keep; lasting.rs has the rest.
+//! What the calls have beside the answers of lasting.rs: texts, statuses, what outputs keep, and rows that are refused.
 use porchsorrel_wkb::*;
 
-fn bytes(hex: &str) -> Vec<u8> {
-    let digits: Vec<u8> = hex.bytes().filter(|it| !it.is_ascii_whitespace()).collect();
-    let byte = |pair: &[u8]| u8::from_str_radix(std::str::from_utf8(pair).unwrap(), 16).unwrap();
-    digits.chunks(2).map(byte).collect()
-}
-
-const ONE_TWO: &str = "000000000000f03f 0000000000000040";
-
-fn point() -> Vec<u8> {
-    bytes(&format!("01 01000000 {ONE_TWO}"))
-}
-
-/// A square with a square hole.
-fn polygon() -> Vec<u8> {
-    bytes(include_str!("../../examples/polygon_with_hole.hex"))
-}
-
-/// A collection of a point with a z and a line string in the other byte order.
-fn collection() -> Vec<u8> {
-    bytes(include_str!("../../examples/collection.hex"))
-}
+const POINT: &[u8] = b"\x01\x01\0\0\0\0\0\0\0\0\0\xf0\x3f\0\0\0\0\0\0\0\x40";
 
 #[test]
 fn refused() {
-    let refused = check(&bytes("01 08000000")).unwrap_err();
-    assert_eq!((refused.code, refused.ends), (Some(8), None));
+    let refused = check(b"\x01\x08\0\0\0").unwrap_err();
     let curve = "unknown geometry type code 8, a circular string, which this library does not read, at byte 0 (part 0)";
     assert_eq!(refused.to_string(), curve);
-    let refused = check(&polygon()[..113]).unwrap_err();
-    assert_eq!((refused.part, refused.offset, refused.ends, refused.code), (2, 97, Some((84, 16)), None));
-    let ring = "the input ends inside a ring, at byte 97 (part 2): it needs 84 bytes and has 16";
-    assert_eq!(refused.to_string(), ring);
-    assert_eq!(check(&bytes("01 00000000")).unwrap_err().code, Some(0));
+    assert_eq!((refused.code, check(b"\x01\0\0\0\0").unwrap_err().code), (Some(8), Some(0)));
+    let of_first = same(&[2], POINT).unwrap_err().to_string();
+    let of_second = same(POINT, &[2]).unwrap_err().to_string();
+    assert!(of_first.starts_with("the first input: a byte order is neither 0 nor 1"), "{of_first}");
+    assert!(of_second.starts_with("the second input: a byte order is neither 0 nor 1"), "{of_second}");
 }
 
 #[test]
@@ -51,30 +30,12 @@ fn classes() {
 }
 
 #[test]
-fn written() {
-    let mut out = vec![7; 3];
-    write_into(&collection(), &Options::default(), &mut out).unwrap();
-    assert_eq!(same(&out, &collection()), Ok(true));
-    let cut = out[..9].to_vec();
-    assert_eq!((write_into(&cut, &Options::default(), &mut out).is_err(), out.len()), (true, 0));
-}
-
-#[test]
-fn same_values() {
-    assert_eq!(same(&polygon(), &point()), Ok(false));
-    let of_first = same(&[2], &point()).unwrap_err().to_string();
-    let of_second = same(&point(), &[2]).unwrap_err().to_string();
-    assert!(of_first.starts_with("the first input: a byte order is neither 0 nor 1"), "{of_first}");
-    assert!(of_second.starts_with("the second input: a byte order is neither 0 nor 1"), "{of_second}");
-}
-
-#[test]
-fn a_reader_has_the_parts_of_its_last_input() {
-    let mut reader = Reader::default();
+fn written_and_read_again() {
+    let (mut out, mut reader) = (vec![7; 3], Reader::default());
     assert_eq!(reader.parts(), []);
-    let parts = reader.read(&polygon()).unwrap().parts().to_vec();
-    assert_eq!(reader.parts(), parts);
-    assert!(reader.read(&polygon()[..20]).is_err() && reader.parts().is_empty());
+    write_into(POINT, &Options::default(), &mut out).unwrap();
+    assert_eq!((&out[..], reader.read(&out).unwrap().parts().len(), reader.parts().len()), (POINT, 1, 1));
+    assert!(write_into(&POINT[..9], &Options::default(), &mut out).is_err() && out.is_empty());
 }
 
 /// Each status of `c/wkb.h` is one of this crate, but those that no call of the crate returns.
@@ -90,4 +51,29 @@ fn statuses_are_those_of_the_header() {
         count += 1;
     }
     assert!(count >= 17, "{count} statuses");
+}
+
+#[test]
+fn rows_that_are_no_members() {
+    let options = Options::default();
+    let collect = |column: Column, kind, dimension| column.collect(kind, dimension, &options);
+    let rows = Rows::of([Some(POINT), None, Some(&[])]);
+    let null = collect(rows.column(), Kind::MultiPoint, Dimension::Xy).unwrap_err();
+    assert_eq!((null, null.to_string()), (NotCollected::NullRow(1), "row 1: the row is null".to_string()));
+    let bad = collect(Column::binary(POINT, &[0, 21, 20]), Kind::MultiPoint, Dimension::Xy).unwrap_err();
+    assert_eq!((bad, bad.status()), (NotCollected::BadOffsets(1), Status::BAD_OFFSETS));
+    let cut = collect(Column::binary(POINT, &[0, 21, 21]), Kind::GeometryCollection, Dimension::Xy).unwrap_err();
+    assert_eq!(cut.to_string(), "row 1: the input ends inside a header or before a count, at byte 0 (part 0)");
+    let why = Refused { status: Status::INCORRECT_TYPE, part: 0, offset: 0, ends: None, code: None };
+    for (kind, dimension) in [(Kind::MultiLineString, Dimension::Xy), (Kind::MultiPoint, Dimension::Xyz)] {
+        let wrong = collect(rows.column(), kind, dimension).unwrap_err();
+        assert_eq!((wrong, wrong.status()), (NotCollected::Refused(0, why), Status::INCORRECT_TYPE));
+    }
+    assert_eq!(NotCollected::TooManyRows.to_string(), "there are more rows than a count of four bytes holds");
+}
+
+#[test]
+#[should_panic(expected = "members of a Polygon")]
+fn a_polygon_has_no_geometries_as_members() {
+    let _ = Column::binary(b"", &[]).collect(Kind::Polygon, Dimension::Xy, &Options::default());
 }

@@ -1,4 +1,5 @@
-//! The calls on columns.
+//! Columns that lasting.rs doesn't have: bits and offsets that begin anywhere, are bad or are none; words that are no whole
+//! coordinates; facts of zeros of both signs, and of more rows than are taken at once.
 use porchsorrel_wkb::*;
 
 fn point(x: f64, y: f64, order: Order) -> Vec<u8> {
@@ -12,28 +13,13 @@ fn rows() -> Rows {
 }
 
 const DIMENSIONS: [Dimension; 4] = [Dimension::Xy, Dimension::Xyz, Dimension::Xym, Dimension::Xyzm];
-const STATUSES: [Status; 4] = [Status::OK, Status::NULL_ROW, Status::OK, Status::SHORT_POINT];
 
 #[test]
 fn offsets_and_validity() {
     let data = point(1.0, 2.0, Order::LittleEndian).repeat(3);
     let column = Column::binary(&data, &[0, 21, 42, 63]);
-    assert_eq!(column.check(), [Status::OK; 3]);
-    assert_eq!(Column::large_binary(&data, &[0, 21, 42, 63]).check(), [Status::OK; 3]);
-    assert_eq!((Column::binary(&data, &[]).check(), Column::binary(&data, &[5]).rows()), (vec![], 0));
-    let hostile = [0, 21, -1, 42, i64::MIN, i64::MAX, 0];
-    let statuses = Column::large_binary(&data, &hostile).check();
-    assert_eq!(
-        statuses,
-        [
-            Status::OK,
-            Status::BAD_OFFSETS,
-            Status::BAD_OFFSETS,
-            Status::BAD_OFFSETS,
-            Status::BAD_OFFSETS,
-            Status::BAD_OFFSETS
-        ]
-    );
+    let hostile = Column::large_binary(&data, &[0, 21, -1, 42, i64::MAX, 0]).check();
+    assert_eq!((hostile[0], &hostile[1..]), (Status::OK, &[Status::BAD_OFFSETS; 4][..]));
     let nulls = column.with_validity(&[0b1010_0000, 0b1], 6).map(|it| it.check());
     assert_eq!(nulls, Some(vec![Status::NULL_ROW, Status::OK, Status::OK]));
     assert!(column.with_validity(&[0xff], 6).is_none() && column.with_validity(&[0xff], usize::MAX).is_none());
@@ -79,75 +65,6 @@ fn no_rows() {
     }
 }
 
-#[test]
-fn coordinates_out_and_in() {
-    let out = rows().column().coordinates(Dimension::Xy);
-    assert_eq!((&out.words[..], &out.row_ends[..]), (&[1.0, 2.0, 3.0, -4.0][..], &[1, 1, 2, 2][..]));
-    assert_eq!(
-        (&out.ring_ends[..], &out.single_ends[..], &out.statuses[..]),
-        (&[1, 2][..], &[1, 2][..], &STATUSES[..])
-    );
-    let wide = rows().column().coordinates(Dimension::Xyz);
-    assert_eq!((wide.words.len(), wide.words[2].is_nan()), (6, true));
-
-    // A line of two coordinates, one of none, and one whose ends decrease.
-    let words = [1.0, 2.0, 3.0, 4.0, 5.0, 6.0];
-    let levels = Levels { words: &words, ring_ends: Some(&[2, 2, 1]), ..Levels::default() };
-    let lines = levels.encode(Kind::LineString, Dimension::Xy, &Options::default());
-    assert_eq!(lines.statuses, [Status::OK, Status::OK, Status::BAD_LEVELS]);
-    assert_eq!((lines.row(0).map(<[u8]>::len), lines.row(1).map(<[u8]>::len), lines.row(2)), (Some(41), Some(9), None));
-    let read = Rows::of([lines.row(0)]).column().coordinates(Dimension::Xy);
-    assert_eq!(read.words, words[..4]);
-}
-
-/// Of a point, a null row, a rejected one, and a collection of two points.
-#[test]
-fn levels_without_a_row_of_their_own() {
-    let point = point(1.0, 2.0, Order::LittleEndian);
-    let collection = [&[1, 7, 0, 0, 0, 2, 0, 0, 0][..], &point, &point].concat();
-    let rows = Rows::of([Some(&point[..]), None, Some(&point[..20]), Some(&collection)]);
-    let out = rows.column().coordinates(Dimension::Xy);
-    assert_eq!(out.row_ends, [1, 1, 1, 3]);
-    let levels = Levels { words: &out.words, row_ends: Some(&out.row_ends), ..Levels::default() };
-
-    let points = levels.encode(Kind::Point, Dimension::Xy, &Options::default());
-    assert_eq!(points.statuses, [Status::OK, Status::BAD_LEVELS, Status::BAD_LEVELS, Status::BAD_LEVELS]);
-    assert_eq!(points.data, point);
-
-    let multi = |members: &[u8]| [&[1, 4, 0, 0, 0, members.len() as u8 / 21, 0, 0, 0], members].concat();
-    let multis = levels.encode(Kind::MultiPoint, Dimension::Xy, &Options::default());
-    assert_eq!(multis.statuses, [Status::OK; 4]);
-    assert_eq!(multis.data, [multi(&point), multi(&[]), multi(&[]), multi(&collection[9..])].concat());
-}
-
-/// Levels without ends of their own: an item is one of the next level.
-#[test]
-fn levels_without_ends() {
-    for dimension in DIMENSIONS {
-        let words: Vec<f64> = (0..6 * dimension.width()).map(|it| it as f64).collect();
-        let levels = Levels { words: &words, ..Levels::default() };
-        let options = Options::default();
-        let whole = |of: Levels, kind| of.encode(kind, dimension, &options);
-        let with_ends = |rings: &[u64], singles: &[u64], rows: &[u64], kind| {
-            let of = Levels { ring_ends: Some(rings), single_ends: Some(singles), row_ends: Some(rows), ..levels };
-            whole(of, kind)
-        };
-        let (six, two) = ([1, 2, 3, 4, 5, 6], [2, 6]);
-        let points = with_ends(&six, &six, &six, Kind::Point);
-        assert_eq!((&whole(levels, Kind::Point), points.data.len()), (&points, 6 * (5 + 8 * dimension.width())));
-        assert_eq!(
-            encode_point(&words[..dimension.width()], dimension, &options),
-            points.data[..points.data.len() / 6]
-        );
-        let multis = whole(Levels { row_ends: Some(&two), ..levels }, Kind::MultiPoint);
-        assert_eq!(multis, with_ends(&six, &six, &two, Kind::MultiPoint));
-        let lines = whole(Levels { ring_ends: Some(&two), ..levels }, Kind::LineString);
-        assert_eq!(lines, with_ends(&two, &[1, 2], &[1, 2], Kind::LineString));
-        let polygons = Levels { ring_ends: Some(&six), single_ends: Some(&two), ..levels };
-        assert_eq!(whole(polygons, Kind::Polygon), with_ends(&six, &two, &[1, 2], Kind::Polygon));
-    }
-}
-
 /// Words that are no whole number of coordinates: no row is written, whichever levels have ends.
 #[test]
 fn words_without_a_whole_coordinate() {
@@ -164,6 +81,52 @@ fn words_without_a_whole_coordinate() {
             assert_eq!((ends.statuses, ends.data), (vec![Status::BAD_LEVELS; 2], vec![]), "{count} words");
         }
     }
+}
+
+fn bits(range: &Range) -> (u64, u64, u64) {
+    (range.least.to_bits(), range.greatest.to_bits(), range.count)
+}
+
+/// The bounds of all rows are those of the ordinates that a dimension has, with -0 below +0 in any order of the rows.
+#[test]
+fn bounds_of_all() {
+    let zeros = Range { least: -0.0, greatest: 0.0, count: 2 };
+    for dimension in DIMENSIONS {
+        let (has_z, has_m) = (dimension as u32 % 2 == 1, dimension as u32 / 2 == 1);
+        for words in [[0.0, -0.0, f64::NAN], [f64::NAN, -0.0, 0.0]] {
+            let rows = words.map(|it| Some(encode_point(&vec![it; dimension.width()], dimension, &Options::default())));
+            let Bounds { x, y, z, m } = Rows::of(rows).column().facts().bounds;
+            for (range, has) in [(x, true), (y, true), (z, has_z), (m, has_m)] {
+                assert_eq!(bits(&range), bits(if has { &zeros } else { &Range::EMPTY }), "{dimension:?} of {words:?}");
+            }
+        }
+    }
+}
+
+/// More rows than are taken at once, in order and not: the last one begins inside the first, 1024 rows before it.
+#[test]
+fn many_rows() {
+    let data = point(1.0, 2.0, Order::LittleEndian).repeat(1023);
+    let mut offsets: Vec<i64> = (0..=1023).map(|it| 21 * it).collect();
+    offsets.extend([21 * 1023; 1000]);
+    let facts = Column::large_binary(&data, &offsets).facts();
+    assert_eq!((facts.rows, facts.accepted, facts.refused, facts.bounds.x.count), (2023, 1023, 1000, 1023));
+    offsets.truncate(1024);
+    offsets.extend([0, 21]);
+    let small: Vec<i32> = offsets.iter().map(|it| *it as i32).collect();
+    for column in [Column::large_binary(&data, &offsets), Column::binary(&data, &small)] {
+        assert_eq!(column.check()[1023..], [Status::BAD_OFFSETS; 2]);
+        assert_eq!(column.facts(), Facts { rows: 1025, refused: 0, ..facts.clone() });
+    }
+}
+
+#[test]
+fn slices() {
+    let data = point(1.0, 2.0, Order::LittleEndian).repeat(3);
+    let small = Column::binary(&data, &[0, 21, 42, 63]).with_validity(&[0b0101_0000], 4).unwrap();
+    assert_eq!(small.slice(1..3).check(), [Status::NULL_ROW, Status::OK]);
+    assert_eq!((small.slice(3..3).rows(), Column::binary(&data, &[]).split(2).map(|it| it.rows()).sum()), (0, 0_usize));
+    assert_eq!(Column::binary(b"", &[0, -1]).facts(), Facts { rows: 1, ..Facts::default() });
 }
 
 #[test]
@@ -188,4 +151,16 @@ fn a_point_has_the_words_of_its_dimension() {
 #[should_panic(expected = "the words of a point")]
 fn a_point_has_no_more_words() {
     let _ = encode_point(&[1.0, 2.0, 3.0], Dimension::Xy, &Options::default());
+}
+
+#[test]
+#[should_panic(expected = "rows 1..2 of 1")]
+fn a_column_has_no_more_rows() {
+    let _ = Column::binary(b"", &[0, 0]).slice(1..2);
+}
+
+#[test]
+#[should_panic(expected = "rows have to be in a column")]
+fn a_column_is_split_into_some() {
+    let _ = Column::binary(b"", &[]).split(0);
 }

@@ -107,29 +107,55 @@ fn sum_of_levels(input: &[u8]) -> u32 {
     summed(&words.chain(ends).flat_map(u64::to_le_bytes).collect::<Vec<u8>>())
 }
 
-/// The same geometry made of its coordinates, and of its members.
-fn made_again(it: &Row, parts: &[Part], options: &Options) -> [Vec<u8>; 2] {
-    let (found, part) = (it.found(), |i: usize| &it.input[parts[i].bytes()]);
-    let whole = part(0);
-    let encoded = if found.kind == Kind::GeometryCollection {
-        write(whole, options).unwrap()
-    } else {
-        let mut out = Rows::of([Some(whole)]).column().coordinates(found.dimension);
-        // Whatever NaNs an empty point has, those of one are written.
-        if [Kind::Point, Kind::MultiPoint].contains(&found.kind) {
-            let points = out.words.chunks_mut(found.dimension.width());
-            points.filter(|it| it.iter().all(|it| it.is_nan())).for_each(|it| it.fill(f64::from_bits(0x7ff8 << 48)));
-        }
-        let (ring_ends, single_ends) = (Some(&out.ring_ends[..]), Some(&out.single_ends[..]));
-        let levels = Levels { words: &out.words, ring_ends, single_ends, row_ends: Some(&out.row_ends) };
-        levels.encode(found.kind, found.dimension, options).data
-    };
-    if found.kind < Kind::MultiPoint {
-        return [encoded.clone(), encoded];
+/// The same geometry made of its coordinates, with the ends of all levels or of those that its kind needs.
+fn made_of_coordinates(it: &Row, whole: &[u8], options: &Options, has_all: bool) -> Vec<u8> {
+    let (kind, dimension) = (it.found().kind, it.found().dimension);
+    let mut out = Rows::of([Some(whole)]).column().coordinates(dimension);
+    let has_points = [Kind::Point, Kind::MultiPoint].contains(&kind);
+    // Whatever NaNs an empty point has, those of one are written.
+    if has_points {
+        let points = out.words.chunks_mut(dimension.width());
+        points.filter(|it| it.iter().all(|it| it.is_nan())).for_each(|it| it.fill(f64::from_bits(0x7ff8 << 48)));
     }
-    let members = std::iter::successors(Some(1), |at| Some(parts[*at].next())).take(found.count);
-    let members = Rows::of(members.map(|it| Some(part(it))));
-    [encoded, members.column().collect(found.kind, found.dimension, options).unwrap()]
+    let has_rings = [Kind::Polygon, Kind::MultiPolygon].contains(&kind);
+    let levels = Levels {
+        words: &out.words,
+        ring_ends: (has_all || !has_points).then_some(&out.ring_ends),
+        single_ends: (has_all || has_rings).then_some(&out.single_ends),
+        row_ends: (has_all || kind >= Kind::MultiPoint).then_some(&out.row_ends),
+    };
+    let made = levels.encode(kind, dimension, options);
+    assert_eq!(made.statuses, [Status::OK]);
+    made.data
+}
+
+/// The same geometry made of its members.
+fn made_of_members(it: &Row, parts: &[Part], options: &Options) -> Vec<u8> {
+    let members = std::iter::successors(Some(1), |at| Some(parts[*at].next())).take(it.found().count);
+    let members = Rows::of(members.map(|at| Some(&it.input[parts[at].bytes()])));
+    members.column().collect(it.found().kind, it.found().dimension, options).unwrap()
+}
+
+/// Each part before its own members, as the table has them.
+fn preorder(view: View, found: &mut Vec<Part>) {
+    found.push(*view.part());
+    assert_eq!(view.members().size_hint(), (view.members().len(), Some(view.members().len())));
+    view.members().for_each(|it| preorder(it, found));
+}
+
+/// The views of a geometry are its parts, each with the words that its bytes have in a column.
+fn views_are_parts(input: &[u8], geometry: Geometry) {
+    let (parts, views, mut found) = (geometry.parts(), geometry.views(), vec![]);
+    assert_eq!(views.len(), parts.len());
+    assert!(views.zip(parts).all(|(view, part)| view.part() == part && view.bytes() == part.bytes()));
+    preorder(geometry.whole(), &mut found);
+    assert_eq!(found, parts);
+    let bits = |words: Vec<f64>| words.into_iter().map(f64::to_bits).collect::<Vec<_>>();
+    for view in geometry.views().filter(|it| (Kind::Point..=Kind::Polygon).contains(&it.kind())) {
+        let own = view.words().chain(view.members().flat_map(|it| it.words())).collect();
+        let rows = Rows::of([Some(&input[view.bytes()])]);
+        assert_eq!(bits(own), bits(rows.column().coordinates(view.dimension()).words));
+    }
 }
 
 #[test]
@@ -140,21 +166,33 @@ fn each_input() {
             assert!(it.has_refused(&check(&it.input).unwrap_err()), "{:x?}", it.input);
             assert!(it.has_refused(&bounds(&it.input).unwrap_err()), "{:x?}", it.input);
             assert!(it.has_refused(&write(&it.input, &Options::default()).unwrap_err()), "{:x?}", it.input);
-            assert!(it.has_refused(&reader.read(&it.input).unwrap_err()), "{:x?}", it.input);
+            assert!(it.has_refused(&reader.read(&it.input).unwrap_err()) && reader.parts() == [], "{:x?}", it.input);
+            // Inside a collection more a row may be nested too deep.
+            let row = Rows::of([Some(&it.input)]);
+            let why = row.column().collect(Kind::GeometryCollection, Dimension::Xy, &Options::default()).unwrap_err();
+            assert!(matches!(why, NotCollected::Refused(0, why) if it.has_refused(&why) || why.part > 126));
             continue;
         }
         let (found, size) = (it.found(), it.fields[0] as usize);
         assert_eq!((check(&it.input), found.dimension.width() as u64), (Ok(found), it.fields[9]), "{:x?}", it.input);
         assert_eq!(sum_of(&bounds(&it.input).unwrap()), it.sums[8], "{:x?}", it.input);
-        let parts = reader.read(&it.input).unwrap().parts();
+        let geometry = reader.read(&it.input).unwrap();
+        let parts = geometry.parts();
+        views_are_parts(&it.input, geometry);
         assert_eq!((parts.len(), parts[0].next()), (found.parts, found.parts), "{:x?}", it.input);
         assert_eq!([sum_of_parts(parts), sum_of_levels(&it.input)], it.sums[9..11], "{:x?}", it.input);
         for (i, sum) in it.sums[..8].iter().enumerate() {
             let written = write(&it.input, &it.options(i)).unwrap();
             assert_eq!(summed(&written), *sum, "{:x?} as {:?}", it.input, it.options(i));
             assert_eq!(same(&it.input, &written), Ok(true), "{:x?}", it.input);
-            let again = made_again(&it, parts, &it.options(i));
-            assert_eq!(again.map(|it| summed(&it)), [*sum; 2], "{:x?} as {:?}", it.input, it.options(i));
+            if found.kind >= Kind::MultiPoint {
+                let again = made_of_members(&it, parts, &it.options(i));
+                assert_eq!(summed(&again), *sum, "{:x?} as {:?}", it.input, it.options(i));
+            }
+            for has_all in [true, false].into_iter().filter(|_| found.kind < Kind::GeometryCollection) {
+                let again = made_of_coordinates(&it, &it.input[parts[0].bytes()], &it.options(i), has_all);
+                assert_eq!(summed(&again), *sum, "{:x?} as {:?}", it.input, it.options(i));
+            }
         }
         assert!(bounds(&it.input[..size - 1]).unwrap_err().status.is_short(), "{:x?} without its end", it.input);
     }
@@ -182,6 +220,30 @@ fn as_a_column() {
             assert_eq!(row.map(summed), it.sums.get(number).copied(), "{:x?}", it.input);
         }
         assert!(written.rows().skip(1).step_by(2).all(|it| it.is_none()));
+    }
+}
+
+/// The levels of a column are those of its rows, each behind the ones before.
+#[test]
+fn levels_of_a_column() {
+    let rows = rows();
+    let made = Rows::of(rows.iter().flat_map(|it| [Some(&it.input), None]));
+    for dimension in DIMENSIONS {
+        let (mut all, mut count) = (Coordinates::default(), 0);
+        for it in &rows {
+            let own = Rows::of([Some(&it.input)]).column().coordinates(dimension);
+            let (rings, singles) = (all.ring_ends.len() as u64, all.single_ends.len() as u64);
+            all.ring_ends.extend(own.ring_ends.iter().map(|it| it + count));
+            all.single_ends.extend(own.single_ends.iter().map(|it| it + rings));
+            all.row_ends.extend([singles + own.row_ends[0]; 2]);
+            all.statuses.extend([own.statuses[0], Status::NULL_ROW]);
+            count += (own.words.len() / dimension.width()) as u64;
+            all.words.extend(own.words);
+        }
+        let found = made.column().coordinates(dimension);
+        assert!(found.words.iter().map(|it| it.to_bits()).eq(all.words.iter().map(|it| it.to_bits())));
+        assert_eq!((found.ring_ends, found.single_ends), (all.ring_ends, all.single_ends));
+        assert_eq!((found.row_ends, found.statuses), (all.row_ends, all.statuses));
     }
 }
 

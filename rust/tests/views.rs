@@ -16,41 +16,6 @@ fn collection() -> Vec<u8> {
 }
 
 #[test]
-fn members() {
-    let (input, mut reader) = (collection(), Reader::default());
-    let geometry = reader.read(&input).unwrap();
-    let whole = geometry.whole();
-    let kinds: Vec<Kind> = whole.members().map(|it| it.kind()).collect();
-    assert_eq!(kinds, [Kind::Point, Kind::MultiPolygon, Kind::Point]);
-    assert_eq!((whole.members().len(), whole.members().size_hint()), (3, (3, Some(3))));
-    let polygons = whole.members().nth(1).unwrap();
-    let rings: Vec<usize> = polygons.members().map(|it| it.members().len()).collect();
-    assert_eq!(rings, [2, 0]);
-    let lens = polygons.members().flat_map(|it| it.members()).map(|it| it.words().len());
-    assert_eq!(lens.collect::<Vec<_>>(), [8, 6]);
-    let mut points = whole.members().last().unwrap().members();
-    assert_eq!((points.len(), points.next().is_none(), points.next().is_none()), (0, true, true));
-}
-
-/// Each part before its own members, as the table has them.
-fn preorder(view: View, found: &mut Vec<Part>) {
-    found.push(*view.part());
-    view.members().for_each(|it| preorder(it, found));
-}
-
-#[test]
-fn views() {
-    let (input, mut reader) = (collection(), Reader::default());
-    let geometry = reader.read(&input).unwrap();
-    let views: Vec<View> = geometry.views().collect();
-    assert_eq!((views.len(), geometry.views().len()), (8, 8));
-    assert!(views.iter().zip(geometry.parts()).all(|(view, part)| view.part() == part && view.bytes() == part.bytes()));
-    let mut found = vec![];
-    preorder(geometry.whole(), &mut found);
-    assert_eq!(found, geometry.parts());
-}
-
-#[test]
 fn words() {
     for order in [Order::BigEndian, Order::LittleEndian] {
         let words = [1.5, -2.5, 3.5, 4.5, 5.5, 6.5];

@@ -48,19 +48,6 @@ pub fn of(geometry: &impl GeometryTrait<T = f64>) -> (Kind, Vec<u64>) {
     }
 }
 
-/// The same by the parts of the crate.
-pub fn words_of_parts(whole: porchsorrel_wkb::View) -> (Kind, Vec<u64>) {
-    let mut all = vec![];
-    let mut parts = vec![whole];
-    while let Some(part) = parts.pop() {
-        let words: Vec<f64> = part.words().collect();
-        let is_empty = part.kind() == Kind::Point && words.iter().all(|it| it.is_nan());
-        all.extend(words.into_iter().filter(|_| !is_empty).map(f64::to_bits));
-        parts.extend(part.members().collect::<Vec<_>>().into_iter().rev());
-    }
-    (whole.kind(), all)
-}
-
 type Listed<'b> = (Dimensions, &'b [u8], Order, Option<u32>);
 
 /// A geometry and the members of collections, one after another.
