@@ -1,5 +1,5 @@
-/* Levels that somebody else has made, with each status and smaller rooms, and levels as GeoArrow's offsets;
- * lasting_columns.c has the levels of all inputs, the way back and all options. */
+/* Levels that no input has, with each status and smaller rooms; lasting_columns.c has the levels of all inputs, the way
+ * back and all options. */
 #include "shared.h"
 
 enum { ROWS_MOST = 6, OUT_MOST = 512, ALIKE = 0x5a };
@@ -112,65 +112,9 @@ static size_t rows_are_written(const worked *w, size_t room) {
   return total;
 }
 
-/* Rows of one kind, of which the second is null, the third empty and the fourth rejected; and what the format of
- * GeoArrow has of them, worked by hand: the offsets of each list, from the outermost on. */
-enum { LIST_ROWS = 5, LISTS_MOST = 3, OFFSETS_MOST = 8, GIVEN = 0x15 };
-typedef struct listed {
-  wkb_kind kind;
-  const char *rows[LIST_ROWS];
-  uint64_t offsets[LISTS_MOST][OFFSETS_MOST];
-} listed;
-static const listed LISTED[] = {
-    {WKB_KIND_LINE_STRING,
-     {"01 02000000 02000000 WXYZ", NULL, "00 00000002 00000000", "02", "01 02000000 03000000 WXYZWX"},
-     {{0, 2, 2, 2, 2, 5}}},
-    {WKB_KIND_POLYGON,
-     {"01 03000000 02000000 03000000 WXYZWX 01000000 ZZ", NULL, "01 03000000 00000000", "02",
-      "01 03000000 02000000 00000000 02000000 XXYY"},
-     {{0, 2, 2, 2, 2, 4}, {0, 3, 4, 4, 6}}},
-    {WKB_KIND_MULTI_POINT,
-     {"01 04000000 02000000 01 01000000 WX 01 01000000 YZ", NULL, "01 04000000 00000000", "02",
-      "01 04000000 01000000 01 01000000 XX"},
-     {{0, 2, 2, 2, 2, 3}}},
-    {WKB_KIND_MULTI_LINE_STRING,
-     {"01 05000000 02000000 01 02000000 02000000 WXYZ 01 02000000 00000000", NULL, "01 05000000 00000000", "02",
-      "01 05000000 01000000 01 02000000 01000000 ZW"},
-     {{0, 2, 2, 2, 2, 3}, {0, 2, 2, 3}}},
-    {WKB_KIND_MULTI_POLYGON,
-     {"01 06000000 02000000 01 03000000 02000000 03000000 WXYZWX 01000000 ZZ 01 03000000 00000000", NULL,
-      "01 06000000 00000000", "02", "01 06000000 01000000 01 03000000 01000000 02000000 XXYY"},
-     {{0, 2, 2, 2, 2, 3}, {0, 2, 2, 3}, {0, 3, 4, 6}}},
-};
-
-/* The ends of rows, singles and rings, each behind a 0, are these offsets. */
-static void are_offsets(const listed *it) {
-  uint8_t bytes[512], statuses[LIST_ROWS], present = 0;
-  int64_t starts[LIST_ROWS + 1] = {0};
-  double words[2 * OFFSETS_MOST];
-  uint64_t rows[OFFSETS_MOST] = {0}, singles[OFFSETS_MOST] = {0}, rings[OFFSETS_MOST] = {0};
-  uint64_t lists[LISTS_MOST][OFFSETS_MOST] = {{0}};
-  const bool is_polygon = it->kind == WKB_KIND_POLYGON, has_rows = it->kind >= WKB_KIND_MULTI_LINE_STRING;
-  for (int i = 0; i < LIST_ROWS; i++) {
-    starts[i + 1] = starts[i] + (it->rows[i] ? (int64_t)spelled(it->rows[i], bytes + starts[i]) : 0);
-    if (it->rows[i]) present |= (uint8_t)(1u << i);
-  }
-  const wkb_column column = {bytes, (size_t)starts[LIST_ROWS], starts, 8, &present, 0, LIST_ROWS};
-  wkb_coordinates out = {words,    2 * OFFSETS_MOST, rings + 1, OFFSETS_MOST - 1, singles + 1, OFFSETS_MOST - 1,
-                         rows + 1, 0,                0,         0};
-  wkb_column_coordinates(&column, WKB_DIM_XY, &out, statuses);
-  for (int i = 0; i < LIST_ROWS; i++)
-    expect((statuses[i] == WKB_STATUS_OK) == (GIVEN >> i & 1), "rows without a list", it->rows[0]);
-  for (size_t i = 0; i <= LIST_ROWS; i++)
-    lists[0][i] = has_rows ? rows[i] : is_polygon ? singles[rows[i]] : rings[singles[rows[i]]];
-  if (it->kind == WKB_KIND_MULTI_POLYGON) memcpy(lists[1], singles, sizeof singles);
-  if (has_rows || is_polygon) memcpy(lists[it->kind == WKB_KIND_MULTI_POLYGON ? 2 : 1], rings, sizeof rings);
-  expect(memcmp(lists, it->offsets, sizeof lists) == 0, "offsets of GeoArrow", it->rows[0]);
-}
-
 void levels_are_right(void) {
   for (size_t i = 0; i < sizeof WORKED / sizeof WORKED[0]; i++) {
     size_t total = rows_are_written(&WORKED[i], OUT_MOST);
     for (size_t room = 0; room <= total; room++) rows_are_written(&WORKED[i], room);
   }
-  for (size_t i = 0; i < sizeof LISTED / sizeof LISTED[0]; i++) are_offsets(&LISTED[i]);
 }
