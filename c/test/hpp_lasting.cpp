@@ -1,6 +1,6 @@
-// Tries wkb.hpp and wkb_facts.hpp, as a program without exceptions has them, over the inputs of test/lasting.rows, whose
-// answers are those of a model: one by one, as a column with null rows, from their members, and as coordinates of one's
-// own. It prints nothing, and an error if there is one.
+// Tries wkb.hpp and wkb_facts.hpp, as a program without exceptions has them, over the inputs of test/lasting.rows,
+// whose answers are those of a model: one by one, as a column with null rows, from their members, and as coordinates of
+// one's own. It prints nothing, and an error if there is one.
 #include "hpp.h"
 
 #include "wkb_facts.hpp"
@@ -209,7 +209,8 @@ void refuses(const row &it) {
   const wkb_column rows = wkb::column(it.bytes, std::span<const std::int64_t>(offsets));
   // Inside a collection more a row may be nested too deep.
   std::size_t row = 7;
-  const bool is_made = wkb::try_collect(rows, WKB_KIND_GEOMETRY_COLLECTION, WKB_DIM_XY, options_of(0), out, &fault, &row);
+  const wkb_kind kind = WKB_KIND_GEOMETRY_COLLECTION;
+  const bool is_made = wkb::try_collect(rows, kind, WKB_DIM_XY, options_of(0), out, &fault, &row);
   if (it.fault.part < 127) is_told(!is_made && row == 0, "the fault of a row of a collection");
   it.expect(!wkb::try_write(it.bytes, {2, WKB_FORM_ISO, 0}, out, &fault), "an unknown order");
   it.expect(is_same(fault, only(WKB_STATUS_UNKNOWN_OPTION)), "the fault of an unknown order");

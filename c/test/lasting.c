@@ -150,7 +150,7 @@ static void put_words(levels *to, const wkb_part *p, const double *words) {
     }
 }
 
-/* Puts the words of a ring, a point or a line string, by the two calls for words alike, all of them and each coordinate.
+/* Puts the words of a ring, a point or a line string, by both calls for words alike, all of them and each coordinate.
  * Returns what is wrong, or NULL. */
 static const char *put_part(levels *to, const uint8_t *input, const wkb_part *p) {
   double words[INPUT_MOST / 8 + 1], own[5];

@@ -1,5 +1,5 @@
-// Tries what wkb.hpp has beside the answers of hpp_lasting.cpp: exceptions, readers that are moved, long inputs, and words
-// and facts that no input has. It prints nothing, and an error if there is one.
+// Tries what wkb.hpp has beside the answers of hpp_lasting.cpp: exceptions, readers that are moved, long inputs, and
+// words and facts that no input has. It prints nothing, and an error if there is one.
 #include "test/hpp.h"
 
 #include "wkb_facts.hpp"

@@ -1,5 +1,5 @@
-//! Columns that lasting.rs doesn't have: bits and offsets that begin anywhere, are bad or are none; words that are no whole
-//! coordinates; facts of zeros of both signs, and of more rows than are taken at once.
+//! Columns that lasting.rs doesn't have: bits and offsets that begin anywhere, are bad or are none; words that are no
+//! whole coordinates; facts of zeros of both signs, and of more rows than are taken at once.
 use porchsorrel_wkb::*;
 
 fn point(x: f64, y: f64, order: Order) -> Vec<u8> {
