@@ -8,6 +8,7 @@
 enum { MOST = ASKED_MOST, FIRST_BIT = 5, ROOM = 512, UNTOUCHED = 0x5a };
 static const wkb_options NO_ORDER = {2, WKB_FORM_ISO, 4326}, NO_FORM = {WKB_ORDER_BIG, 4, 4326};
 static const wkb_kind KIND = WKB_KIND_MULTI_POINT;
+static const wkb_column NO_ROWS = {NULL, 0, NULL, 0, NULL, 0, 0};
 
 /* Four points, so many offsets over them, the rows that aren't null, and the status of each row. */
 static const char POINTS[] = "01 01000000 P 01 01000000 P 01 01000000 P 01 01000000 P";
@@ -134,7 +135,6 @@ static void null_is_allowed(void) {
 
 /* Without rows every pointer may be null, and without bytes that to them. */
 static void null_is_allowed_without_rows(void) {
-  static const wkb_column NO_ROWS = {NULL, 0, NULL, 0, NULL, 0, 0};
   static const wkb_levels NO_LEVELS = {NULL, 0, NULL, 0, NULL, 0, NULL, 0, NULL, 0};
   static const int64_t ZEROS[2] = {0, 0};
   const wkb_column empty = {NULL, 0, ZEROS, 8, NULL, 0, 1};
@@ -153,7 +153,6 @@ static void null_is_allowed_without_rows(void) {
 }
 
 static void null_is_allowed_in_collections(void) {
-  static const wkb_column NO_ROWS = {NULL, 0, NULL, 0, NULL, 0, 0};
   static const int64_t OFFSETS[3] = {0, 21, 41};
   const wkb_status no_room = WKB_STATUS_NO_ROOM;
   uint8_t data[84], out[51];

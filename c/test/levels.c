@@ -25,9 +25,6 @@ static const worked WORKED[] = {
     /* No ends: a point each. Of NaNs it is empty, and they are written as they are. */
     {"WX NN 010000000000f87f N YZ", WKB_KIND_POINT, WKB_DIM_XY, 4, 4, 4, NULL, NULL, NULL,
      {"01 01000000 WX", "01 01000000 NN", "01 01000000 010000000000f87f N", "01 01000000 YZ"}, {OK, OK, OK, OK}},
-    /* No ends in another dimension: as many words each as a coordinate has. */
-    {"WXYZ ZYXW", WKB_KIND_POINT, WKB_DIM_XYZM, 2, 2, 2, NULL, NULL, NULL, {"01 b90b0000 WXYZ", "01 b90b0000 ZYXW"},
-     {OK, OK}},
     /* Ends of rings alone; no coordinates are an empty line string. The last but one ends before it begins. */
     {"WXYZYX WXY", WKB_KIND_LINE_STRING, WKB_DIM_XYZ, 5, 5, 5, ENDS(2, 2, 3, 1, 3), NULL, NULL,
      {"01 ea030000 02000000 WXY ZYX", "01 ea030000 00000000", "01 ea030000 01000000 WXY", NULL, NULL},

@@ -24,7 +24,6 @@ static const auto POLYGONS = spelled(
     "000000000300000002" "00000001" "3ff00000000000004000000000000000" "00000000");
 
 constexpr wkb_options BIG{WKB_ORDER_BIG, WKB_FORM_ISO, 0}, LITTLE{WKB_ORDER_LITTLE, WKB_FORM_ISO, 0};
-constexpr wkb_options UNKNOWN{2, WKB_FORM_ISO, 0};
 
 // The text of what a call throws, or none. LOOK looks at what it throws.
 template <typename Exception>
@@ -56,12 +55,11 @@ static void exceptions() {
   };
   expect(thrown<wkb::refused>([] { wkb::bounds(wkb::bytes(POINT).first(20)); }, is_of_point) == cut, "bounds");
   expect(thrown<wkb::refused>([&] { wkb::write({}, BIG, out); }) == ended && out == POLYGONS, "what a refusal leaves");
-  const std::string unknown = thrown<std::invalid_argument>([&] { wkb::write(POINT, UNKNOWN, out); });
+  const std::string unknown = thrown<std::invalid_argument>([&] { wkb::write(POINT, {2, WKB_FORM_ISO, 0}, out); });
   expect(unknown == wkb_status_text(WKB_STATUS_UNKNOWN_OPTION) && out == POLYGONS, "what an unknown order leaves");
-  const auto is_first = [](const wkb::refused_of_two &it) { return it.which() == 1; };
-  const auto is_second = [](const wkb::refused_of_two &it) { return it.which() == 2; };
-  expect(thrown<wkb::refused_of_two>([] { wkb::same({}, POINT); }, is_first) == ended, "the first of two");
-  expect(thrown<wkb::refused_of_two>([] { wkb::same(POINT, {}); }, is_second) == ended, "the second of two");
+  const auto is = [](unsigned n) { return [=](const wkb::refused_of_two &it) { return it.which() == n; }; };
+  expect(thrown<wkb::refused_of_two>([] { wkb::same({}, POINT); }, is(1)) == ended, "the first of two");
+  expect(thrown<wkb::refused_of_two>([] { wkb::same(POINT, {}); }, is(2)) == ended, "the second of two");
   expect(reader.table().empty() && reader.read(POLYGONS).size() == 2 && reader.table().size() == 5, "a table");
   expect(thrown<wkb::refused>([&] { reader.read({}); }) == ended && reader.table().empty(), "no table");
 }

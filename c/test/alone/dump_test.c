@@ -6,7 +6,7 @@
 #include "../generated.h"
 #include "../lasting.h"
 
-enum { INPUTS = 20000, LINE_ROOM = 2048, CASES = 46 };
+enum { INPUTS = 20000, LINE_ROOM = 2048, CASES = 45 };
 
 static const wkb_dump_options LIMITS[] = {{3, 1000}, {0, 0}, {1, 1}, {2, 20}, {0, 40}, {4, 0}};
 enum { LIMITS_COUNT = sizeof LIMITS / sizeof LIMITS[0] };
