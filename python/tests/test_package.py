@@ -1,5 +1,4 @@
 """The package beside wkb.h, its extension, other processes, and the example of the pages."""
-import concurrent.futures
 import ctypes
 import importlib.util
 import inspect
@@ -17,7 +16,7 @@ import unittest
 from unittest import mock
 
 import porchsorrel_wkb as wkb
-from samples import ISO_POLYGON, POINT, POLYGON
+from samples import ISO_POLYGON
 from porchsorrel_wkb import Status, _records, _wkb
 
 try:
@@ -113,14 +112,17 @@ class Inside(unittest.TestCase):
     """The library is inside the extension, and no other library is looked for."""
 
     def test_environment(self):
-        """The package works anywhere, whatever WKB_LIBRARY names."""
+        """The package works anywhere, whatever WKB_LIBRARY names, and without ctypes, whose functions it would
+        share with other packages."""
         with tempfile.TemporaryDirectory() as folder:
             shutil.copytree(pathlib.Path(wkb.__file__).parent, f"{folder}/porchsorrel_wkb",
                             ignore=shutil.ignore_patterns("__pycache__"))
             environment = dict(os.environ, PYTHONPATH=folder, WKB_LIBRARY=f"{folder}/none.so")
-            program = "import porchsorrel_wkb as wkb; print(wkb.__file__, len(wkb.version()))"
+            program = ("import sys; sys.modules['ctypes'] = sys.modules['numpy'] = None\n"
+                       "import porchsorrel_wkb as wkb\n"
+                       "print(wkb.__file__, *wkb.Column.from_arrow(wkb.Column.of([b'']).write()).check())")
             ran = subprocess.run([sys.executable, "-c", program], env=environment, stdout=subprocess.PIPE, check=True)
-            self.assertEqual(ran.stdout.decode(), f"{folder}/porchsorrel_wkb/__init__.py 3\n")
+            self.assertEqual(ran.stdout.decode(), f"{folder}/porchsorrel_wkb/__init__.py 16\n")
 
     def test_names(self):
         """The extension shows its first function alone, so that a program may have another such library."""
@@ -150,15 +152,6 @@ class Tags(unittest.TestCase):
                 self.assertEqual(tag("it", "it"), wanted)
 
 
-class OtherProcesses(unittest.TestCase):
-    def test_pool(self):
-        """A rejected row raises its error here, and the pool goes on."""
-        with concurrent.futures.ProcessPoolExecutor(1) as pool:
-            jobs = [pool.submit(wkb.check, data) for data in (POINT, b"\2", POLYGON)]
-            self.assertEqual((jobs[0].result(), jobs[2].result()), (wkb.check(POINT), wkb.check(POLYGON)))
-            self.assertEqual(jobs[1].exception().status, Status.INVALID_BYTE_ORDER)
-
-
 @unittest.skipUnless((C / "examples/example.py").exists(), "only the repository has the example")
 class Example(unittest.TestCase):
     @unittest.skipUnless((TOP / "examples/thread_column.py").exists(), "only the repository has the example")
@@ -168,14 +161,6 @@ class Example(unittest.TestCase):
         seconds = r"\d+\.\d+ s \(\d+\.\d+\)"
         self.assertRegex(printed, "^" + "".join(f"{it}: {seconds} in one thread, {seconds} in 3\n"
                                                 for it in ("check", "bounds", "write")) + "$")
-
-    @unittest.skipUnless((TOP / "examples/dask_column.py").exists(), "only the repository has the example")
-    @unittest.skipUnless(importlib.util.find_spec("dask"), "Dask is not here")
-    def test_processes(self):
-        command = [sys.executable, TOP / "examples/dask_column.py", "1000", "3"]
-        printed = subprocess.run(command, stdout=subprocess.PIPE, check=True).stdout.decode()
-        self.assertEqual(printed.partition(", greatest=99.0, count=990), y=")[0],
-                         "1000 rows, 10 refused, 891 duplicates\nBox(x=Range(least=1.0")
 
     def test_output(self):
         ran = subprocess.run([sys.executable, C / "examples/example.py"], stdout=subprocess.PIPE, check=True)
