@@ -47,14 +47,28 @@ def pointers(addresses):
     return ctypes.cast(memory_of(struct.pack(f"={len(addresses)}Q", *(it or 0 for it in addresses))), POINTERS)
 
 
-def address_at_an_end(data):
-    """The address of these bytes, behind which nothing can be read."""
-    memory = mmap.mmap(-1, 2 * mmap.PAGESIZE)
-    KEPT.append(memory)
-    end = ctypes.addressof(ctypes.c_char.from_buffer(memory)) + mmap.PAGESIZE
+def guarded(data):
+    """Memory with these bytes, which ends where a page begins that can't be read."""
+    size = -(-len(data) // mmap.PAGESIZE) * mmap.PAGESIZE
+    pages = mmap.mmap(-1, size + mmap.PAGESIZE)
+    KEPT.append(pages)
+    end = ctypes.addressof(ctypes.c_char.from_buffer(pages)) + size
     assert ctypes.CDLL(None).mprotect(ctypes.c_void_p(end), ctypes.c_size_t(mmap.PAGESIZE), 0) == 0
-    ctypes.memmove(end - len(data), data, len(data))
-    return end - len(data)
+    memory = (ctypes.c_char * len(data)).from_address(end - len(data))
+    memory.raw = data
+    return memory
+
+
+class Again:
+    """What hands out the same capsules each time."""
+
+    def __init__(self, capsules):
+        self.capsules = capsules
+
+    def __arrow_c_array__(self, requested_schema=None):
+        return self.capsules
+
+    __arrow_c_stream__ = __arrow_c_array__
 
 
 NOWHERE = 8  # an address that can't be read

@@ -4,6 +4,11 @@ import struct
 
 from porchsorrel_wkb import Status
 
+try:
+    import numpy
+except ImportError:
+    numpy = None
+
 # (1, 2) in either byte order; a polygon of one ring of one point, with an SRID, in EWKB and as it is written; a
 # multi point of (1, 2) and an empty point; a line string with z of (1, 2, 3) and (5, NaN, -7).
 POINT = bytes.fromhex("0101000000000000000000f03f0000000000000040")
@@ -25,6 +30,10 @@ def rows_of(*rows):
     for row in rows:
         offsets.append(offsets[-1] + len(row))
     return b"".join(rows), array.array("q", offsets)
+
+
+def statuses(column):
+    return list(column.check())
 
 
 def geometry(kind, dimension=0, order="<", form=1000):

@@ -6,8 +6,8 @@ import pickle
 import struct
 import unittest
 
-from capsules import SHORT, Arrow, Records, Stream, Views, address_at_an_end, memory_of, new_capsule
-from samples import BIG_POINT, ISO_POLYGON, POINT, POLYGON, ROWS, STATUSES
+from capsules import SHORT, Arrow, Records, Stream, Views, guarded, memory_of, new_capsule
+from samples import BIG_POINT, ISO_POLYGON, POINT, POLYGON, ROWS, STATUSES, statuses
 from porchsorrel_wkb import Column, Status
 
 try:
@@ -16,18 +16,7 @@ except ImportError:
     gdal = ogr = None
 
 
-def statuses(column):
-    return list(column.check())
-
-
 class FromArrow(unittest.TestCase):
-    def test_kinds(self):
-        for kind in (b"z", b"Z"):
-            column = Column.from_arrow(Arrow(kind))
-            self.assertEqual(list(column.check()), STATUSES)
-            self.assertEqual(bytes(column.write().data), POINT + ISO_POLYGON)
-            self.assertEqual(list(Column.from_arrow(Arrow(kind, [POINT, BIG_POINT])).check()), [0, 0])
-
     def test_slices(self):
         """Every slice of 17 rows, whose bits are in three bytes."""
         rows = [None if i % 3 == 1 else b"\2" if i % 5 == 2 else POINT for i in range(17)]
@@ -77,6 +66,14 @@ class FromArrow(unittest.TestCase):
             source.memory[1][4:] = struct.pack("=3i", *ends[:2], min(ends[2], 63))
             column = Column.from_arrow(source)
             self.assertEqual(statuses(pickle.loads(pickle.dumps(column))), statuses(column), ends)
+
+    def test_ones(self):
+        """Validity of ones is no null row, whether the nulls are counted or not."""
+        for count in (-1, 0):
+            validity = memory_of(b"\xff")
+            source = Arrow(rows=[POINT, POLYGON], null_count=count)
+            source.array.buffers[0] = ctypes.addressof(validity)
+            self.assertEqual(list(Column.from_arrow(source).check()), [0, 0])
 
     def test_no_rows(self):
         for source in (Arrow(rows=[]), Arrow(rows=[], buffers=[None] * 3), Arrow(offset=5), Arrow(length=0)):
@@ -128,22 +125,18 @@ class FromViews(unittest.TestCase):
                 self.assertEqual(source.released, ["schema", "array"])
                 self.assertEqual(statuses(column), expected[offset : offset + length])
         source = Views(rows, 3)
-        source.array.buffers[0] = address_at_an_end(source.memory[0][:1])  # eight rows need no more
+        source.array.buffers[0] = ctypes.addressof(guarded(source.memory[0][:1]))  # eight rows need no more
         self.assertEqual(statuses(Column.from_arrow(source)), expected)
         self.assertEqual(bytes(Column.from_arrow(Views(rows, 3)).write().data), POINT + ISO_POLYGON + POINT)
         self.assertEqual(statuses(Column.from_arrow(Views([b"\2", None], 0))), [STATUSES[4], Status.NULL_ROW])
 
     def test_hostile(self):
-        """Views that say of a row that it is elsewhere."""
-        for length, buffer, offset in (
-            (21, 1, 0), (21, -1, 0), (21, 0, 1), (21, 0, -1), (22, 0, 0), (2**31 - 1, 0, 2**31 - 1)
-        ):
-            source = Views([POINT], 1)
-            source.memory[1][:] = struct.pack("=4i", length, 0, buffer, offset)
-            self.assertRaisesRegex(ValueError, "row 0 .* is not where its view says", Column.from_arrow, source)
-        source = Views([POINT], 1)
-        source.memory[1][:] = struct.pack("=4i", -1, 0, 0, 0)
-        self.assertEqual(statuses(Column.from_arrow(source)), [Status.SHORT_HEADER])
+        """A view that says of a row that it is elsewhere, and one of a length below zero."""
+        elsewhere, below = Views([POINT], 1), Views([POINT], 1)
+        for source, length in ((elsewhere, 22), (below, -1)):
+            source.memory[1][:] = struct.pack("=4i", length, 0, 0, 0)
+        self.assertRaisesRegex(ValueError, "row 0 .* is not where its view says", Column.from_arrow, elsewhere)
+        self.assertEqual(statuses(Column.from_arrow(below)), [Status.SHORT_HEADER])
 
 
 def batch(**changes):
@@ -175,7 +168,7 @@ class FromRecords(unittest.TestCase):
     def test_null_records(self):
         """Every slice of 16 records, whose bits are two bytes and no more, is taken unless a record in it is null."""
         for null in (0, 7, 8, 15):
-            bits = address_at_an_end((2**16 - 1 - 2**null).to_bytes(2, "little"))
+            bits = ctypes.addressof(guarded((2**16 - 1 - 2**null).to_bytes(2, "little")))
             for offset, length in ((i, n) for i in range(17) for n in range(17 - i)):
                 source = Records(Arrow(name=b"shape", rows=16 * [POINT]), offset=offset, length=length, validity=bits)
                 if offset <= null < offset + length:

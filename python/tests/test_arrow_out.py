@@ -3,7 +3,6 @@ import array
 import ctypes
 import gc
 import itertools
-import math
 import mmap
 import pickle
 import struct
@@ -11,15 +10,10 @@ import threading
 import unittest
 
 import porchsorrel_wkb as wkb
-from capsules import Arrow, Array, Lists, Schema, address_of, memory_of
-from samples import BIG_POINT, EMPTY_POINT, ISO_POLYGON, POINT, POLYGON, ROWS, STATUSES
+from capsules import Again, Arrow, Array, Lists, Schema, address_of, memory_of
+from samples import BIG_POINT, ISO_POLYGON, POINT, POLYGON, ROWS, STATUSES, numpy
 from porchsorrel_wkb import Column, Dimension, Form, Kind, Order, Status, column_from_coordinates
 
-try:
-    import numpy
-    import pandas
-except ImportError:
-    numpy = pandas = None
 try:
     import shapely
     import shapely.wkb
@@ -67,18 +61,21 @@ def items_of(schema, it, are_rows=True):
     return [item if is_there else None for item, is_there in zip(found[it.offset :], present)]
 
 
-def extension_of(schema):
-    """The name of an extension in a type's metadata; None if it has none."""
+def texts_of(schema):
+    """The texts in a type's metadata: each name, and what it says."""
     at = ctypes.c_void_p.from_address(ctypes.addressof(schema) + Schema.metadata.offset).value
-    if not at:
-        return None
-    (count,), texts, at = numbers_at(at, "i", 1), [], at + 4
+    (count,), texts, at = numbers_at(at, "i", 1) if at else (0,), [], (at or 0) + 4
     for _ in range(2 * count):
         (size,) = numbers_at(at, "i", 1)
         texts.append(ctypes.string_at(at + 4, size).decode())
         at += 4 + size
-    assert dict(zip(texts[::2], texts[1::2])).keys() == {"ARROW:extension:name", "ARROW:extension:metadata"}
-    return texts[1]
+    assert texts[::2] in ([], ["ARROW:extension:name", "ARROW:extension:metadata"])
+    return texts
+
+
+def extension_of(schema):
+    """The name of an extension in a type's metadata; None if it has none."""
+    return texts_of(schema)[1] if texts_of(schema) else None
 
 
 def read(of, asked=None):
@@ -122,13 +119,6 @@ class RowsOfBytes(unittest.TestCase):
         self.assertEqual(list(Column.of(rows).write().rows), rows)
         self.assertEqual(Column.of(rows).write(Order.BIG).rows[4090:4100],
                          [row and BIG_POINT for row in rows[4090:4100]])
-
-    @unittest.skipUnless(pandas, "pandas or numpy is not here")
-    def test_pandas(self):
-        frame = pandas.DataFrame({"wkb": ROWS})
-        frame["wkb"] = list(Column.of(frame.wkb).write().rows)
-        self.assertEqual(frame.wkb.tolist(), self.expected)
-        self.assertEqual(frame.wkb.isna().tolist(), [False, True, True, False, True])
 
     @unittest.skipUnless(shapely and numpy, "shapely or numpy is not here")
     def test_shapely(self):
@@ -270,14 +260,6 @@ class Coordinates(unittest.TestCase):
             self.assertIsNone(extension_of(schema))
             self.assertEqual((schema.format, len(items_of(schema, it))), (b"+l", len(rows)))
 
-    def test_dimensions(self):
-        for dimension in Dimension:
-            rows = Column.of([POINT, EMPTY_POINT]).coordinates(dimension)
-            (first, empty), names, _ = read(rows)
-            self.assertEqual(names, [(f"+w:{dimension.width}", ""), ("g", dimension.name.lower())])
-            self.assertEqual((first[:2], len(first), all(map(math.isnan, empty))), ([1.0, 2.0], dimension.width, True))
-            self.assertEqual(list(column_from_coordinates(Kind.POINT, rows).statuses), [0, 0])
-
 
 class FromGeoArrow(unittest.TestCase):
     def test_round_trip(self):
@@ -286,9 +268,7 @@ class FromGeoArrow(unittest.TestCase):
             rows = [None, *rows, None, rows[0], b"\2", *10 * [rows[1]]]
             for asked in (None, asked_for(b"+L")):
                 levels = Column.of(rows).coordinates()
-                capsules = levels.__arrow_c_array__(asked)
-                once = type("Once", (), {"__arrow_c_array__": lambda self: capsules})()
-                it = column_from_coordinates(kind, once)
+                it = column_from_coordinates(kind, Again(levels.__arrow_c_array__(asked)))
                 self.assertEqual(list(it.rows), [None if row == b"\2" else row for row in rows])
                 self.assertEqual(list(it.statuses), [0 if row else Status.NULL_ROW for row in it.rows])
 
@@ -352,18 +332,6 @@ class FromGeoArrow(unittest.TestCase):
             gc.collect()
             self.assertEqual(sorted(source.released), ["array", "schema"])
 
-    def test_refused_inside(self):
-        for depth, name, value, text in (
-            (1, "length", 1, "fewer items"), (1, "offset", -1, "can't begin"), (2, "length", 3, "fewer items"),
-            (2, "n_buffers", 3, "can't have 3 buffers"), (2, "offset", -1, "can't begin"),
-            (1, "release", None, "released"), (1, "null_count", 1, "no validity"), (1, "n_children", 0, "children"),
-            (2, "buffers", None, "no list"),
-        ):
-            source = Lists([(0, 2)], [(1.0, 2.0, 3.0, 4.0)])
-            setattr(source.deep(depth), name, value)
-            with self.subTest((depth, name)), self.assertRaisesRegex(ValueError, text):
-                column_from_coordinates(Kind.LINE_STRING, source)
-
     def test_nulls_inside(self):
         """Items inside rows may have validity, where it says that all are there."""
         for bits, is_right in ((b"\x07", True), (b"\xff", True), (b"\x05", False)):
@@ -396,31 +364,3 @@ class FromGeoArrow(unittest.TestCase):
                                    dimension=other)
         it = column_from_coordinates(Kind.LINE_STRING, make(), dimension=Dimension.XY, form=Form.EWKB_WITH_SRID, srid=7)
         self.assertEqual(wkb.check(it.rows[0]).srid, 7)
-
-
-class Tried(unittest.TestCase):
-    """What people try first."""
-
-    def test_srid(self):
-        """An SRID without a form is one of EWKB."""
-        with_srid = wkb.write(POINT, form=Form.EWKB_WITH_SRID, srid=4326)
-        self.assertEqual(wkb.write(POINT, srid=4326), with_srid)
-        self.assertEqual(wkb.write(POINT, Order.BIG, srid=4326), wkb.write(BIG_POINT, Order.BIG, srid=4326))
-        self.assertEqual(Column.of([POINT]).write(srid=4326).rows[0], with_srid)
-        self.assertRaisesRegex(ValueError, "from 0 to 4294967295", wkb.write, POINT, srid=-1)
-
-    def test_hexadecimal(self):
-        """Text is rejected by errors that say what to call."""
-        for call in (wkb.check, wkb.bounds, wkb.write, wkb.parts, lambda it: wkb.same(POINT, it)):
-            self.assertRaisesRegex(TypeError, "bytes.fromhex", call, POINT.hex())
-        self.assertRaisesRegex(TypeError, "row 0 is of type str.*bytes.fromhex", Column.of, [POINT.hex()])
-
-    def test_ones(self):
-        """Validity of ones is no null row, whether the nulls are counted or not."""
-        for count in (-1, 0):
-            validity = memory_of(b"\xff")
-            source = Arrow(rows=[POINT, POLYGON], null_count=count)
-            source.array.buffers[0] = ctypes.addressof(validity)
-            self.assertEqual(list(Column.from_arrow(source).check()), [0, 0])
-
-

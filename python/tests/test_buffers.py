@@ -2,9 +2,6 @@
 import array
 import ctypes
 import gc
-import mmap
-import struct
-import tempfile
 import unittest
 
 import porchsorrel_wkb as wkb
@@ -69,15 +66,6 @@ class Buffers(unittest.TestCase):
         validity.clear()
         self.assertRaises(ValueError, column.check)
 
-    def test_mapped_file(self):
-        with tempfile.TemporaryFile() as file:
-            file.write(POINT)
-            file.flush()
-            for access in (mmap.ACCESS_READ, mmap.ACCESS_WRITE):
-                mapped = mmap.mmap(file.fileno(), 0, access=access)
-                self.assertEqual(wkb.check(mapped).size, 21)
-                mapped.close()
-
     def test_any_buffer(self):
         twice = bytes(byte for byte in POINT for _ in range(2))
         for data in (
@@ -92,12 +80,3 @@ class Buffers(unittest.TestCase):
             self.assertEqual(raised.exception.status, Status.SHORT_HEADER)
         for wrong in ("0101", None, 1, [1, 2]):
             self.assertRaises(TypeError, wkb.check, wrong)
-
-    def test_no_byte_after(self):
-        """A rejected length is that of the buffer, whatever lies after it in memory."""
-        data = memoryview(POINT + POINT)[:20]
-        with self.assertRaises(Refused) as raised:
-            wkb.check(data)
-        self.assertEqual((raised.exception.fault.end, raised.exception.fault.len), (21, 20))
-        offsets = memoryview(struct.pack("=3i", 0, 21, 42)).cast("i")[:2]
-        self.assertEqual(len(Column(POINT + POINT, offsets)), 1)

@@ -6,13 +6,8 @@ import sys
 import unittest
 
 import porchsorrel_wkb as wkb
-from samples import BIG_POINT, EMPTY_POINT, ISO_POLYGON, LINE, POINT, POINTS, POLYGON, rows_of, values_of
+from samples import BIG_POINT, EMPTY_POINT, ISO_POLYGON, LINE, POINT, POINTS, POLYGON, numpy, rows_of, values_of
 from porchsorrel_wkb import Dimension, Form, Kind, Order, Part, Refused, Status
-
-try:
-    import numpy
-except ImportError:
-    numpy = None
 
 
 class Calls(unittest.TestCase):
@@ -27,12 +22,10 @@ class Calls(unittest.TestCase):
             self.assertRaises(IndexError, lambda: table[index])
 
     def test_well_formed(self):
-        """One geometry and nothing after it: what lacks a byte, or has one more, is none, and raises nothing."""
-        for data in (POINT, BIG_POINT, EMPTY_POINT, LINE, POINTS, POLYGON, ISO_POLYGON):
-            self.assertIs(wkb.well_formed(data), True)
-            self.assertIs(wkb.well_formed(bytearray(data)), True)
-            for other in (b"", data[:-1], data + b"\0", b"GP\0\1" + bytes(4) + data, data.hex().encode()):
-                self.assertIs(wkb.well_formed(other), False)
+        """What has a byte more, or is of another format, raises nothing."""
+        self.assertIs(wkb.well_formed(bytearray(POINT)), True)
+        for other in (b"", POINT + b"\0", b"GP\0\1" + bytes(4) + POINT, POINT.hex().encode()):
+            self.assertIs(wkb.well_formed(other), False)
         for other in (None, POINT.hex(), 1):
             self.assertRaises(TypeError, wkb.well_formed, other)
 
@@ -46,10 +39,8 @@ class Calls(unittest.TestCase):
             self.assertEqual(str(pickle.loads(pickle.dumps(raised.exception))), str(raised.exception))
 
     def test_coordinates(self):
-        whole, ring = wkb.parts(POLYGON)
-        self.assertEqual(wkb.coordinates(POLYGON, ring), [(1.0, 2.0)])
-        first, last = wkb.coordinates(LINE, wkb.parts(LINE)[0])
-        self.assertEqual((first, last[0], last[2]), ((1.0, 2.0, 3.0), 5.0, -7.0))
+        self.assertEqual(repr(wkb.coordinates(LINE, wkb.check(LINE))), "[(1.0, 2.0, 3.0), (5.0, nan, -7.0)]")
+        whole, _ = wkb.parts(POLYGON)
         for call in (wkb.coordinates, wkb.view) if numpy else (wkb.coordinates,):
             with self.assertRaisesRegex(ValueError, "a POLYGON has no coordinates of its own, but 1 rings or members"):
                 call(POLYGON, whole)
@@ -86,14 +77,13 @@ class Calls(unittest.TestCase):
         self.assertRaises(ImportError, wkb.view, POINT, wkb.parts(POINT)[0])
 
     def test_write(self):
-        self.assertEqual(wkb.write(POLYGON), ISO_POLYGON)
+        """An SRID without a form is one of EWKB."""
         self.assertEqual(wkb.write(POLYGON + b"....", Order.BIG, Form.EWKB_OWN_SRID), POLYGON)
-        with_srid = wkb.write(POINT, form=Form.EWKB_WITH_SRID, srid=2**32 - 1)
-        self.assertEqual(with_srid, b"\1\1\0\0\x20" + b"\xff" * 4 + POINT[5:])
-        self.assertEqual(wkb.write(with_srid, form=Form.EWKB_WITHOUT_SRID), POINT)
-        self.assertEqual((wkb.check(with_srid).srid, wkb.parts(with_srid)[0].srid), (2**32 - 1, 2**32 - 1))
-        least = wkb.write(POINT, srid=2**31)
-        self.assertEqual((least, wkb.check(least).srid), (b"\1\1\0\0\x20\0\0\0\x80" + POINT[5:], 2**31))
+        for srid, word in ((2**32 - 1, b"\xff\xff\xff\xff"), (2**31, b"\0\0\0\x80")):
+            row = b"\1\1\0\0\x20" + word + POINT[5:]
+            self.assertEqual([wkb.write(POINT, form=Form.EWKB_WITH_SRID, srid=srid), wkb.write(POINT, srid=srid),
+                              wkb.Column.of([POINT]).write(srid=srid).rows[0]], 3 * [row])
+            self.assertEqual((wkb.check(row).srid, wkb.parts(row)[0].srid), (srid, srid))
 
     def test_write_large(self):
         """Inputs that are long, and one that is longer than its geometry."""
@@ -110,11 +100,11 @@ class Calls(unittest.TestCase):
             self.assertRaises(ValueError, wkb.write, POINT, *options)
             self.assertRaises(ValueError, wkb.Column(*rows_of(POINT)).write, *options)
         self.assertRaises(TypeError, wkb.write, POINT, 0, 2, 4326.0)
+        self.assertRaisesRegex(ValueError, "from 0 to 4294967295", wkb.write, POINT, srid=-1)
         for form in Form:
             srid = None if form == Form.EWKB_WITH_SRID else 4326
             for call in (wkb.Column(*rows_of(POINT)).write, lambda *it: wkb.write(POINT, *it)):
                 self.assertRaisesRegex(ValueError, "an SRID is written in", call, Order.LITTLE, form, srid)
-        self.assertRaises(ValueError, wkb.Column(*rows_of(POINT)).coordinates, 4)
 
     def test_same(self):
         self.assertIs(wkb.same(POINT, BIG_POINT), True)
@@ -127,20 +117,18 @@ class Calls(unittest.TestCase):
         self.assertEqual(str(raised.exception), f"the second input: {text}, at byte 0 (part 0)")
 
     def test_refused(self):
-        for data, status, numbers, end in (
-            (POLYGON[:-1], Status.SHORT_LINEAR_RING, (1, 13, 20, 19, 0), "13 (part 1): it needs 20 bytes and has 19"),
-            (b"\1\21\0\0\0", Status.CODE_OUT_OF_RANGE, (0, 0, 0, 0, 17),
+        for data, status, end in (
+            (POLYGON[:-1], Status.SHORT_LINEAR_RING, "at byte 13 (part 1): it needs 20 bytes and has 19"),
+            (b"\1\21\0\0\0", Status.CODE_OUT_OF_RANGE,
              "unknown geometry type code 17, a triangle, which this library does not read, at byte 0 (part 0)"),
-            (b"\1\22\0\0\0", Status.CODE_OUT_OF_RANGE, (0, 0, 0, 0, 18), "code 18, at byte 0 (part 0)"),
-            (b"\2", Status.INVALID_BYTE_ORDER, (0, 0, 0, 0, 0), "at byte 0 (part 0)"),
+            (b"\1\22\0\0\0", Status.CODE_OUT_OF_RANGE, "code 18, at byte 0 (part 0)"),
+            (b"\2", Status.INVALID_BYTE_ORDER, "at byte 0 (part 0)"),
         ):
-            for call in (wkb.check, wkb.write, wkb.parts, wkb.bounds):
-                with self.assertRaises(Refused) as raised:
-                    call(data)
-                refused, fault = raised.exception, wkb.Fault(*numbers, status)
-                self.assertEqual((refused.status, refused.fault, refused.which), (status, fault, 1))
-                self.assertTrue(str(refused).startswith(wkb.status_text(status)), str(refused))
-                self.assertTrue(str(refused).endswith(end), str(refused))
+            with self.assertRaises(Refused) as raised:
+                wkb.check(data)
+            refused, text = raised.exception, str(raised.exception)
+            self.assertEqual((refused.status, refused.fault.status, refused.which), (status, status, 1))
+            self.assertTrue(text.startswith(wkb.status_text(status)) and text.endswith(end), text)
 
     def test_texts(self):
         self.assertEqual(".".join(map(str, wkb.version())), wkb.__version__)
@@ -176,7 +164,8 @@ class Calls(unittest.TestCase):
         self.assertEqual((len(table), table[0].next, table[count].end), (count + 1, count + 1, 9 * count + 9))
 
     def test_geometries(self):
-        """An object with an attribute wkb, as shapely's geometries, is told where its bytes are; it is not asked."""
+        """An object with an attribute wkb, as shapely's geometries, is told where its bytes are; it is not asked. Text
+        is told what makes bytes of it."""
         class Geometry:
             @property
             def wkb(self):
@@ -186,6 +175,7 @@ class Calls(unittest.TestCase):
         for call in (*calls, lambda it: wkb.Column.of([it])):
             self.assertRaisesRegex(TypeError, "attribute wkb has the bytes", call, Geometry())
             self.assertRaisesRegex(TypeError, "bytes", call, 1)
+            self.assertRaisesRegex(TypeError, "bytes.fromhex", call, POINT.hex())
 
 
 class Records(unittest.TestCase):

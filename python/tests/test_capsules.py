@@ -6,7 +6,6 @@ and each list of pointers ends where a page begins that can't be read.
 import ctypes
 import gc
 import json
-import mmap
 import os
 import resource
 import struct
@@ -17,26 +16,13 @@ from functools import partial
 from typing import Any, Callable, NamedTuple
 
 import capsules
-from capsules import FILL, Arrow, Lists, Records, Stream, Views, pointer, pointers
+from capsules import FILL, KEPT, Again, Arrow, Lists, Records, Stream, Views, guarded, pointer, pointers
 from samples import POINT, POLYGON, ROWS, STATUSES
 from porchsorrel_wkb import Column, Kind, column_from_coordinates
 
-LOW, HIGH, HUGE, PAGE = -(2**63), 2**63 - 1, 2**62, mmap.PAGESIZE
+LOW, HIGH, HUGE = -(2**63), 2**63 - 1, 2**62
 # The errors that calls document, each for what it is raised.
 WRONG, NOT_BINARY, FAILED = "ValueError", "TypeError", "OSError"
-KEPT = []
-
-
-def guarded(data):
-    """Memory with these bytes, which ends where a page begins that can't be read."""
-    size = -(-len(data) // PAGE) * PAGE
-    pages = mmap.mmap(-1, size + PAGE)
-    KEPT.append(pages)
-    address = ctypes.addressof(ctypes.c_char.from_buffer(pages))
-    assert ctypes.CDLL(None).mprotect(ctypes.c_void_p(address + size), ctypes.c_size_t(PAGE), 0) == 0
-    memory = (ctypes.c_char * len(data)).from_address(address + size - len(data))
-    memory.raw = data
-    return memory
 
 
 class Change(NamedTuple):
@@ -290,18 +276,6 @@ def list_cases():
         yield Case(f"lists: {it.name}", partial(changed, lists, it, coordinates), it.expected)
 
 
-class Exports:
-    """An object whose methods of Arrow return this."""
-
-    def __init__(self, it):
-        self.it = it
-
-    def __arrow_c_array__(self):
-        return self.it
-
-    __arrow_c_stream__ = __arrow_c_array__
-
-
 def changed_stream(fault=None, **changes):
     it = Stream(Arrow(), [Arrow()], fault)
     for name, value in changes.items():
@@ -326,11 +300,11 @@ def stream_cases():
 
 
 def exported_array(it):
-    return [Column.from_arrow(Exports(it))]
+    return [Column.from_arrow(Again(it))]
 
 
 def exported_stream(it):
-    return Column.chunks_from_arrow(Exports(it))
+    return Column.chunks_from_arrow(Again(it))
 
 
 def export_cases():

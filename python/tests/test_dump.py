@@ -12,20 +12,9 @@ from samples import POINT
 # The tests of the library are beside the package in the repository, above it in the source package.
 TOP = pathlib.Path(__file__).resolve().parents[2]
 TESTS = (TOP / "c" if (TOP / "c").exists() else TOP) / "test"
-DUMP = """\
-       0  01                                    little endian
-       1  01 00 00 00                           code 1: point, xy
-       5  00 00 00 00 00 00 f0 3f               x 1
-      13  00 00 00 00 00 00 00 40               y 2
-      21  the end
-"""
 
 
 class Dump(unittest.TestCase):
-    def test_point(self):
-        self.assertEqual(wkb.dump(POINT), DUMP)
-        self.assertEqual(wkb.dump(memoryview(bytearray(POINT))), DUMP)
-
     @unittest.skipUnless(TESTS.exists(), "only the repository and the source package have the cases")
     def test_cases(self):
         cases = re.split(r"(?m)^> ", (TESTS / "dump.cases").read_text(encoding="utf-8"))[1:]
@@ -34,7 +23,7 @@ class Dump(unittest.TestCase):
             _, items, lines, text = head.split(" ", 3)
             data = bytes.fromhex(re.sub(r"^\s*(\\x|0x)", "", text))
             with self.subTest(head):
-                self.assertEqual(wkb.dump(data, int(items), int(lines)), expected)
+                self.assertEqual(wkb.dump(memoryview(data), int(items), int(lines)), expected)
         self.assertGreater(len(cases), 20)
 
     def test_arguments(self):

@@ -8,13 +8,8 @@ import unittest
 
 import porchsorrel_wkb as wkb
 from capsules import Arrow
-from porchsorrel_wkb import Column, Dimension, Kind, Order, Range
-from samples import BIG_POINT, EMPTY_POINT, LINE, POINT, POINTS, POLYGON, ROWS, STATUSES, geometry
-
-try:
-    import numpy
-except ImportError:
-    numpy = None
+from porchsorrel_wkb import Column, Dimension, Kind, Range
+from samples import BIG_POINT, EMPTY_POINT, LINE, POINT, POINTS, POLYGON, ROWS, STATUSES, geometry, numpy
 
 NONE = Range(math.inf, -math.inf, 0)
 Z_POINT = geometry(1, 1)
@@ -24,10 +19,7 @@ class Found(unittest.TestCase):
     def test_rows(self):
         statuses, found = Column.of(ROWS).found()
         self.assertEqual(list(statuses), STATUSES)
-        self.assertEqual((found[0], found[3]), (wkb.check(POINT), wkb.check(POLYGON)))
-        point = wkb.Found(21, 1, 1, 5, 1, None, Kind.POINT, Dimension.XY, Order.LITTLE)
-        polygon = wkb.Found(33, 2, 1, 13, 1, 4326, Kind.POLYGON, Dimension.XY, Order.BIG)
-        self.assertEqual((found[0], found[3], len(found)), (point, polygon, 5))
+        self.assertEqual((found[0], found[3], len(found)), (wkb.check(POINT), wkb.check(POLYGON), 5))
         self.assertEqual(bytes(found._memory[64:192]), bytes(128))  # null and rejected rows are zeros
 
     def test_none(self):
@@ -77,12 +69,6 @@ class Together(unittest.TestCase):
                 self.assertEqual((joined, repr(joined.box)), (column.facts(), repr(column.facts().box)))
         self.assertEqual(wkb.Facts.joined([]), Column.of([]).facts())
 
-    def test_srids(self):
-        """0 is an SRID, in any order of the rows."""
-        rows = POINT, wkb.write(POINT, srid=0), wkb.write(POINT, srid=2**32 - 1)
-        for some in itertools.permutations(rows):
-            self.assertEqual(Column.of(some).facts().srids, {None, 0, 2**32 - 1})
-
     def test_signs(self):
         """-0 is below +0, and NaNs don't count, in each order of the rows."""
         point = lambda x: struct.pack("<BI2d", 1, 1, x, 0)
@@ -90,11 +76,6 @@ class Together(unittest.TestCase):
             self.assertEqual(str(Column.of(map(point, zeros)).facts().box.x), str(Range(-0.0, 0.0, 2)))
         for others in itertools.permutations((1.0, math.nan, -math.inf, math.inf)):
             self.assertEqual(Column.of(map(point, others)).facts().box.x, Range(-math.inf, math.inf, 3))
-
-    def test_each_type(self):
-        for kind in list(Kind)[1:]:
-            for dimension in Dimension:
-                self.assertEqual(Column.of([geometry(kind, dimension)]).facts().types, [(kind, dimension)])
 
 
 class Whole(unittest.TestCase):

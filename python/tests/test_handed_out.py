@@ -6,20 +6,9 @@ import unittest
 import weakref
 
 import porchsorrel_wkb as wkb
-from capsules import Arrow, Lists, Records
-from samples import POINT, ROWS
+from capsules import Again, Arrow, Lists, Records
+from samples import POINT, ROWS, numpy
 from porchsorrel_wkb import Column, Dimension, Kind, column_from_coordinates
-
-try:
-    import numpy
-except ImportError:
-    numpy = None
-
-
-def handed_out_twice(source):
-    """An object that hands out the same capsules again."""
-    pair = source.__arrow_c_array__()
-    return type("Twice", (), {"__arrow_c_array__": lambda self: pair})()
 
 
 class Twice(unittest.TestCase):
@@ -28,13 +17,13 @@ class Twice(unittest.TestCase):
     def test_arrays(self):
         written = Column.of([POINT]).write()
         for source in (Arrow(), Records(Arrow(name=b"shape"), length=len(ROWS)), written):
-            name, it = "shape" if isinstance(source, Records) else None, handed_out_twice(source)
+            name, it = "shape" if isinstance(source, Records) else None, Again(source.__arrow_c_array__())
             Column.from_arrow(it, name)
             self.assertRaisesRegex(ValueError, "is released already", Column.from_arrow, it, name)
 
     def test_coordinates(self):
         for source in (Lists([], [(1.0, 2.0)]), Column.of([POINT]).coordinates()):
-            it = handed_out_twice(source)
+            it = Again(source.__arrow_c_array__())
             self.assertEqual(list(column_from_coordinates(Kind.POINT, it).rows), [POINT])
             self.assertRaisesRegex(ValueError, "is released already", column_from_coordinates, Kind.POINT, it)
 
@@ -66,19 +55,15 @@ class Changed(unittest.TestCase):
     def test_offsets(self):
         for offsets in ([0, 21], [0, 21, 43], [0, 22, 21], [-1, 21, 42], [1, 0, 42], [0, 2**62, 42], []):
             self.refused(self.ENCODINGS._replace(offsets=array.array("q", offsets)))
-        for code in "iB":
-            self.refused(self.ENCODINGS._replace(offsets=array.array(code, [0, 21, 42, 0, 0, 0])))
         kept = self.ENCODINGS._replace(offsets=array.array("q", [0, 21, 42, 42]))
         self.assertEqual(list(Column.from_arrow(kept).check()), [0, 0])
 
-    def test_lengths(self):
-        self.refused(self.ENCODINGS._replace(data=bytes(41)))
-        self.refused(self.ENCODINGS._replace(statuses=bytes(3)))
-        self.refused(self.LINE._replace(coordinates=array.array("d", [])))
-
-    def test_types(self):
-        for code in "fi":
-            self.refused(self.LINE._replace(coordinates=array.array(code, [0] * 8)))
+    def test_lengths_and_types(self):
+        offsets = [self.ENCODINGS._replace(offsets=array.array(code, [0, 21, 42, 0, 0, 0])) for code in "iB"]
+        words = [self.LINE._replace(coordinates=array.array(code, [0] * 8)) for code in "fi"]
+        for it in (self.ENCODINGS._replace(data=bytes(41)), self.ENCODINGS._replace(statuses=bytes(3)),
+                   self.LINE._replace(coordinates=array.array("d", [])), *offsets, *words):
+            self.refused(it)
 
     def test_pieces(self):
         """What isn't in one piece has no address that lasts."""
@@ -134,8 +119,7 @@ class Held(unittest.TestCase):
         """Of the package's own memory no object of Python is held."""
         result = Column.of(ROWS).write()
         capsules, watched = result.__arrow_c_array__(), weakref.ref(result.data.base)
-        handed_out = type("HandedOut", (), {"__arrow_c_array__": lambda self: capsules})()
         del result
         gc.collect()
         self.assertIsNone(watched())
-        self.assertEqual(list(Column.from_arrow(handed_out).check()), [0, 16, 16, 0, 16])
+        self.assertEqual(list(Column.from_arrow(Again(capsules)).check()), [0, 16, 16, 0, 16])

@@ -1,4 +1,5 @@
-"""The inputs of c/test/lasting.rows, whose answers are those of a model: one by one, and as a column with null rows."""
+"""The inputs of c/test/lasting.rows, whose answers are those of a model: one by one, and as a slice of a column with
+null rows."""
 import array
 import pathlib
 import struct
@@ -63,12 +64,15 @@ class Lasting(unittest.TestCase):
     def setUpClass(cls):
         cls.rows = [Row.of(it) for it in FILE.read_text().splitlines() if not it.startswith("#")]
         cls.accepted = [it for it in cls.rows if it.sums]
-        cls.column = Column.of([data for it in cls.rows for data in (it.data, None)])
+        rows = [data for it in cls.rows for data in (it.data, None)]
+        cls.column = Column.of([cls.rows[0].data, None, b"\2", *rows, cls.rows[0].data])[3:-1]
 
     def test_check(self):
         self.assertGreater(len(self.accepted), 1000)
         for it in self.rows:
             self.assertEqual(answer_of(wkb.check, it.data), it.answer, it.data.hex())
+            is_whole = bool(it.sums) and it.answer.size == len(it.data)
+            self.assertIs(wkb.well_formed(it.data), is_whole, it.data.hex())
 
     def test_refused(self):
         for it in self.rows:
@@ -101,6 +105,18 @@ class Lasting(unittest.TestCase):
         for it, entry in zip(self.rows, found[::2]):
             self.assertTrue(entry == it.answer or not it.sums, it.data.hex())
         self.assertEqual(list(self.column.check()), list(statuses))
+        faults = {2 * i: it.answer for i, it in enumerate(self.rows) if not it.sums}
+        self.assertEqual(self.column.faults(), faults)
+
+    def test_facts(self):
+        facts, count = self.column.facts(), len(self.rows)
+        refused = count - len(self.accepted)
+        self.assertEqual((facts.rows, facts.accepted, facts.nulls), (2 * count, count - refused, count))
+        self.assertEqual((facts.refused, facts.srids), (refused, {it.answer.srid for it in self.accepted}))
+        for it in self.accepted:
+            own = Column.of([it.data]).facts()
+            self.assertEqual((own.types, own.srids), ([(it.answer.kind, it.answer.dimension)], {it.answer.srid}))
+            self.assertEqual(summed(packed(own.box)), it.sums[8], it.data.hex())
 
     def test_writing_of_a_column(self):
         for number, options in enumerate(OPTIONS):

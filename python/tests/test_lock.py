@@ -77,23 +77,23 @@ def flip(seconds):
     thread.join()
 
 
+def calls(data, column, levels):
+    """The calls over a long input, a column, and the coordinates of points."""
+    return (lambda: wkb.check(data), lambda: wkb.bounds(data), lambda: wkb.write(data), lambda: wkb.same(LONG, data),
+            lambda: wkb.same(data, LONG), lambda: wkb.parts(data), column.check, column.bounds, column.parts,
+            column.write, column.coordinates, lambda: collect(column, Kind.MULTI_POINT),
+            lambda: column_from_coordinates(Kind.POINT, levels))
+
+
 class Lock(unittest.TestCase):
     def test_given_back(self):
-        for call in (lambda: wkb.check(LONG), lambda: wkb.bounds(LONG), lambda: wkb.write(LONG),
-                     lambda: wkb.same(LONG, LONG), lambda: wkb.same(POINT, LONG), lambda: wkb.parts(LONG),
-                     COLUMN.check, COLUMN.bounds, COLUMN.parts, COLUMN.write, COLUMN.coordinates,
-                     lambda: collect(COLUMN, Kind.MULTI_POINT),
-                     lambda: _wkb.column_coordinates(COLUMN._arguments(), 0, ROOMS),
-                     lambda: column_from_coordinates(Kind.POINT, LEVELS)):
+        for call in (*calls(LONG, COLUMN, LEVELS), lambda: wkb.same(POINT, LONG),
+                     lambda: _wkb.column_coordinates(COLUMN._arguments(), 0, ROOMS)):
             self.assertEqual(order_of(call, 1_000), ["begin", "meanwhile", "end"])
 
     def test_kept_over_what_may_change(self):
         """Two passes over memory that another thread writes between them would write past their results."""
-        for call in (lambda: wkb.check(WRITABLE), lambda: wkb.bounds(WRITABLE), lambda: wkb.write(WRITABLE),
-                     lambda: wkb.same(LONG, WRITABLE), lambda: wkb.same(WRITABLE, LONG), lambda: wkb.parts(WRITABLE),
-                     COPY.check, COPY.bounds, COPY.parts, COPY.write, COPY.coordinates,
-                     lambda: collect(COPY, Kind.MULTI_POINT),
-                     lambda: column_from_coordinates(Kind.POINT, memoryview(NUMBERS).cast("d"))):
+        for call in calls(WRITABLE, COPY, memoryview(NUMBERS).cast("d")):
             self.assertEqual(order_of(call, 20), ["begin", "end", "meanwhile"])
 
     def test_written_meanwhile(self):

@@ -12,7 +12,7 @@ import tracemalloc
 import unittest
 
 import porchsorrel_wkb as wkb
-from capsules import KEPT, Arrow, Records, Stream, Views
+from capsules import KEPT, Again, Arrow, Records, Stream, Views
 from samples import LINE, POINT, POINTS, POLYGON, ROWS
 from porchsorrel_wkb import Column, Dimension, Form, Kind, collect, column_from_coordinates
 
@@ -28,17 +28,9 @@ COLUMN, COLUMN_OF_POINTS = Column.of(ROWS), Column.of([POINT, POINT])
 TABLE = wkb.parts(POLYGON)
 
 
-class Ready:
+def ready(source):
     """What hands out capsules that are made already."""
-
-    def __init__(self, source):
-        is_stream = isinstance(source, Stream)
-        self.source, self.capsules = source, source.__arrow_c_stream__() if is_stream else source.__arrow_c_array__()
-
-    def __arrow_c_array__(self, requested_schema=None):
-        return self.capsules
-
-    __arrow_c_stream__ = __arrow_c_array__
+    return Again(source.__arrow_c_stream__() if isinstance(source, Stream) else source.__arrow_c_array__())
 
 
 def rows_in(source, name=None):
@@ -106,7 +98,7 @@ CALLS = {
     "the values of a record": lambda: (repr(TABLE[0]), hash(TABLE[0]), TABLE[0] == TABLE[1], TABLE[0].__reduce__()),
     "a record of wrong values": lambda: wkb.Fault(0, 0, 0, 0, 0, 256),
 }
-ALL = {name: (lambda make=make: Ready(make()), take) for name, (make, take) in GIVEN.items()}
+ALL = {name: (lambda make=make: ready(make()), take) for name, (make, take) in GIVEN.items()}
 ALL.update((name, (tuple, lambda _, call=call: call())) for name, call in CALLS.items())
 FEW, MANY, TRIES = 100, 500, 8
 

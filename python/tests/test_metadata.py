@@ -1,5 +1,6 @@
 """What GeoArrow's types say of their rows stays with them, in and out; coordinates go out interleaved or separated, and
 boxes as records."""
+import itertools
 import json
 import math
 import pickle
@@ -10,7 +11,7 @@ import unittest
 from capsules import Arrow, Lists, Records, Stream, Views
 from porchsorrel_wkb import Column, Dimension, Form, Kind, column_from_coordinates
 from samples import EMPTY_POINT, LINE, POINT, ROWS, geometry
-from test_arrow_out import Schema, asked_for, ctypes, extension_of, items_of, numbers_at, read, structs_of
+from test_arrow_out import asked_for, extension_of, items_of, numbers_at, read, structs_of, texts_of
 
 CRS = b'{"crs": "EPSG:3857", "edges": "spherical"}'
 
@@ -28,22 +29,11 @@ def told_of(source, name=None, metadata=None):
     return source
 
 
-def metadata_of(of, asked=None):
+def metadata_of(of):
     """What the type of an array that goes out says of its rows: its name, and the text."""
-    capsules = of.__arrow_c_array__(asked)
-    schema, _ = structs_of(capsules)
-    at = ctypes.c_void_p.from_address(ctypes.addressof(schema) + Schema.metadata.offset).value
-    texts = texts_at(at) if at else 4 * [b""]
-    return texts[1].decode(), texts[3]
-
-
-def texts_at(at):
-    (count,), texts, at = numbers_at(at, "i", 1), [], at + 4
-    for _ in range(2 * count):
-        (size,) = numbers_at(at, "i", 1)
-        texts.append(ctypes.string_at(at + 4, size))
-        at += 4 + size
-    return texts
+    capsules = of.__arrow_c_array__()
+    texts = texts_of(structs_of(capsules)[0]) or 4 * [""]
+    return texts[1], texts[3].encode()
 
 
 class Metadata(unittest.TestCase):
@@ -59,9 +49,8 @@ class Metadata(unittest.TestCase):
         for name, expected in ((b"geoarrow.wkb", CRS), (b"ogc.wkb", CRS), (b"arrow.uuid", None), (b"geoarrow", None)):
             found = Column.from_arrow(told_of(Arrow(), metadata=encoded(name))).metadata
             self.assertEqual(found, expected and expected.decode())
-        for held in (struct.pack("=i", 0), struct.pack("=i", -1), struct.pack("=ii", 1, -5),
-                     struct.pack("=ii", 1, 2**31 - 1)):
-            self.assertIsNone(Column.from_arrow(told_of(Arrow(), metadata=held)).metadata)
+        for count in (0, -1):
+            self.assertIsNone(Column.from_arrow(told_of(Arrow(), metadata=struct.pack("=i", count))).metadata)
         self.assertIsNone(Column.from_arrow(Arrow()).metadata)
         for name in (b"geoarrow.wkt", b"geoarrow.point"):
             self.assertRaisesRegex(TypeError, "is not WKB", Column.from_arrow, told_of(Arrow(), metadata=encoded(name)))
@@ -86,8 +75,6 @@ class Metadata(unittest.TestCase):
 
     def test_set(self):
         column = Column.of([POINT])
-        column.metadata = '{"crs": 1}'
-        self.assertEqual(metadata_of(column.write()), ("geoarrow.wkb", b'{"crs": 1}'))
         column.metadata = '{"crs": "S\u00e3o \u6771"}'
         self.assertEqual(metadata_of(column.write()), ("geoarrow.wkb", b'{"crs": "S\xc3\xa3o \xe6\x9d\xb1"}'))
         self.assertEqual(Column.from_arrow(column.write()).metadata, column.metadata)
@@ -122,28 +109,16 @@ def nested(kind, value):
 
 class Coordinates(unittest.TestCase):
     def test_each_dimension(self):
-        """Each kind, with the codes of ISO and the flags of EWKB, in each dimension that is asked for."""
-        for kind in range(1, 7):
-            for dimension in Dimension:
-                for order in "><":
-                    for form in (0, 1000):
-                        row = geometry(kind, dimension, order, form)
-                        values, names, extension = read(Column.of([row]).coordinates(dimension))
-                        name = Kind(kind).name.lower().replace("_", "")
-                        self.assertEqual(extension, f"geoarrow.{name}", (row, dimension))
-                        self.assertEqual(values, [nested(kind, [1.0, 2.0, 3.0, 4.0][: dimension.width])])
-                        self.assertEqual(names[-1], ("g", dimension.name.lower()))
-
-    def test_separated(self):
-        for kind in range(1, 7):
-            for dimension in Dimension:
-                levels = Column.of([geometry(kind, dimension)]).coordinates(dimension)
-                self.check_separated(levels.separated().__arrow_c_array__(), kind, dimension)
-                for it in (levels, levels.separated()):
-                    again = column_from_coordinates(Kind(kind), it)
-                    self.assertEqual(list(again.rows), [geometry(kind, dimension)])
-                names = [f"+w:{dimension.width}", "g"]
-                self.assertEqual([form for form, _ in read(levels)[1]][-2:], names)  # the first one is as it was
+        """Each kind, with the codes of ISO and the flags of EWKB, in each dimension, interleaved and separated."""
+        for kind, dimension, order, form in itertools.product(list(Kind)[1:7], Dimension, "><", (0, 1000)):
+            levels = Column.of([geometry(kind, dimension, order, form)]).coordinates(dimension)
+            self.check_separated(levels.separated().__arrow_c_array__(), kind, dimension)
+            values, names, extension = read(levels)
+            self.assertEqual(extension, f"geoarrow.{kind.name.lower().replace('_', '')}")
+            self.assertEqual(values, [nested(kind, [1.0, 2.0, 3.0, 4.0][: dimension.width])])
+            self.assertEqual((names[-2][0], names[-1]), (f"+w:{dimension.width}", ("g", dimension.name.lower())))
+            for it in (levels, levels.separated()):
+                self.assertEqual(list(column_from_coordinates(kind, it).rows), [geometry(kind, dimension)])
 
     def check_separated(self, capsules, kind, dimension):
         schema, it = structs_of(capsules)
@@ -166,19 +141,16 @@ class Coordinates(unittest.TestCase):
         together = Lists([(0, 1)], [(1.0, 2.0)]).__arrow_c_array__()[0]
         self.assertEqual(read(line, together)[1], [("+l", ""), ("+w:2", "vertices"), ("g", "xy")])
 
-    def test_words_of_null_rows(self):
-        """A null row of points has NaNs."""
-        capsules = Column.of([POINT, None, b"\2"]).coordinates().__arrow_c_array__()
+    def test_null_rows(self):
+        """A null row of points has NaNs; separated it is null too."""
+        levels = Column.of([POINT, None, b"\2"]).coordinates()
+        capsules = levels.__arrow_c_array__()
         schema, it = structs_of(capsules)
         words = type(it).from_address(it.children[0])
         numbers = numbers_at(words.buffers[1], "d", words.length)
         self.assertEqual((schema.format, *map(str, numbers)), (b"+w:2", "1.0", "2.0", "nan", "nan", "nan", "nan"))
-
-    def test_null_rows(self):
-        for rows in ([POINT, None], [None, EMPTY_POINT, b"\2"]):
-            capsules = Column.of(rows).coordinates().separated().__arrow_c_array__()
-            values = items_of(*structs_of(capsules))
-            self.assertEqual([it is None for it in values], [row in (None, b"\2") for row in rows])
+        capsules = levels.separated().__arrow_c_array__()
+        self.assertEqual(items_of(*structs_of(capsules)), [(1.0, 2.0), None, None])
 
 
 class Boxes(unittest.TestCase):

@@ -4,13 +4,9 @@ import ctypes
 import pickle
 import unittest
 
-from samples import ISO_POLYGON, POINT, POLYGON, ROWS, STATUSES
-from porchsorrel_wkb import Column, Status
+from samples import ISO_POLYGON, POINT, POLYGON, ROWS, STATUSES, numpy
+from porchsorrel_wkb import Column
 
-try:
-    import numpy
-except ImportError:
-    numpy = None
 try:
     import pandas
 except ImportError:
@@ -29,15 +25,6 @@ class Of(unittest.TestCase):
         twice = bytes(byte for byte in POINT for _ in range(2))
         self.is_right([memoryview(twice)[::2], None, array.array("d"), bytearray(POLYGON), memoryview(b"\2")])
         self.is_right([(ctypes.c_int16 * 1).from_buffer_copy(b"\2\0") if it == b"\2" else it for it in ROWS])
-
-    def test_sizes(self):
-        """Every pattern of null rows, in up to ten rows."""
-        self.assertEqual(len(Column.of([])), 0)
-        for count in range(1, 11):
-            for pattern in range(2**count):
-                present = [pattern >> i & 1 for i in range(count)]
-                found = list(Column.of([POINT if it else None for it in present]).check())
-                self.assertEqual(found, [0 if it else Status.NULL_ROW for it in present])
 
     def test_copies(self):
         row = bytearray(POINT)

@@ -30,8 +30,6 @@ class Stream:
 def wrong(part: wkb.Part, column: wkb.Column) -> None:
     """Each line is rejected."""
     wkb.check("text")  # type: ignore[arg-type]
-    wkb.check(5)  # type: ignore[arg-type]
-    wkb.check(None)  # type: ignore[arg-type]
     wkb.bounds([1, 2])  # type: ignore[arg-type]
     wkb.well_formed("text")  # type: ignore[arg-type]
     column.metadata = {"crs": 1}  # type: ignore[assignment]
