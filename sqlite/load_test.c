@@ -77,6 +77,11 @@ static sqlite3 *opened(void) {
   return db;
 }
 
+static void closed(sqlite3 *db, int at) {
+  expect(sqlite3_close(db) == SQLITE_OK, "the connection is not closed", at);
+  expect(sqlite3_memory_used() == 0, "memory is not freed", at);
+}
+
 /* Asks a query for a number; SQLITE_ROW says that there is one. */
 static int ask(sqlite3 *db, const char *text, int *number) {
   sqlite3_stmt *query;
@@ -128,8 +133,7 @@ static void go_on(sqlite3 *db, bool again, int at) {
     expect(load(db, &text) == SQLITE_OK, "the load after one that failed fails", at);
     expect(answers(db), "the functions don't answer after a second load", at);
   }
-  expect(sqlite3_close(db) == SQLITE_OK, "the connection is not closed", at);
-  expect(sqlite3_memory_used() == 0, "memory is not freed", at);
+  closed(db, at);
 }
 
 /* Lets the Nth allocation of a load fail. Returns whether it had as many. */
@@ -198,8 +202,7 @@ static void try_beside(int n) {
   expect(holds(db, "select ST_MaxX(x'0101000000000000000000f03f0000000000000040') = 1.0"), "there is no ST_MaxX", n);
   sqlite3_create_function(db, "ST_MaxX", 1, SQLITE_UTF8, NULL, nothing, NULL, NULL);
   expect(!holds(db, "select ST_MaxX(x'0101000000000000000000f03f0000000000000040') = 1.0"), "ST_MaxX stays", n);
-  expect(sqlite3_close(db) == SQLITE_OK, "the connection is not closed", n);
-  expect(sqlite3_memory_used() == 0, "memory is not freed", n);
+  closed(db, n);
 }
 
 /* Lets the Nth allocation of a load fail beside another extension's function for any number of arguments, which stays
@@ -215,7 +218,7 @@ static bool try_beside_without_memory(int n) {
   expect(holds(db, "select ST_MinX(x'0101000000000000000000f03f0000000000000040') is null"),
          "a load without memory replaces a function", n);
   sqlite3_free(text);
-  expect(sqlite3_close(db) == SQLITE_OK, "the connection is not closed", n);
+  closed(db, n);
   return was_refused;
 }
 
@@ -269,9 +272,10 @@ static void try_before(const char *name) {
   expect(sqlite3_create_function(db, name, 1, SQLITE_UTF8, NULL, nothing, NULL, NULL) == SQLITE_OK, name, 0);
   sqlite3_finalize(open);
   expect(holds(db, query), "the function of another extension is not called", 0);
-  expect(sqlite3_close(db) == SQLITE_OK, "the connection is not closed", 0);
-  expect(sqlite3_memory_used() == 0, "memory is not freed", 0);
+  closed(db, 0);
 }
+
+static const char *const TRIGGER_NAMES[] = {"ST_IsEmpty", "ST_MinX", "ST_MaxX", "ST_MinY", "ST_MaxY"};
 
 /* The default entry point defines no name that begins with ST_. */
 static void try_default_alone(void) {
@@ -280,7 +284,7 @@ static void try_default_alone(void) {
   expect(holds(db, "select count(*) > 0 from pragma_function_list where name like 'wkb@_%' escape '@'") &&
              holds(db, "select count(*) = 0 from pragma_function_list where name like 'st@_%' escape '@'"),
          "the default entry point defines other names than those with wkb_", 0);
-  expect(sqlite3_close(db) == SQLITE_OK, "the connection is not closed", 0);
+  closed(db, 0);
 }
 
 int main(int count, char **words) {
@@ -292,11 +296,7 @@ int main(int count, char **words) {
   for (int n = 1; try_beside_without_memory(n); n++) {}
   try_default_alone();
   try_pages();
-  try_before("ST_IsEmpty");
-  try_before("ST_MinX");
-  try_before("ST_MaxX");
-  try_before("ST_MinY");
-  try_before("ST_MaxY");
+  for (size_t i = 0; i < 5; i++) try_before(TRIGGER_NAMES[i]);
   for (int again = 0; again <= 1; again++) {
     try_with_statement("wkb_same", 2, again);
     try_with_statement("wkb_well_formed", 1, again);
