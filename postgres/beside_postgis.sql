@@ -1,20 +1,6 @@
--- The functions beside PostGIS, over its geometries. Returns those for which the two differ, which is none.
-create table shapes as select st_geomfromewkt(shape) as geom from unnest(array[
-  'POINT (1 2)', 'SRID=4326;POINT Z (1 2 3)', 'LINESTRING M (0 0 1, 5 -6 2)',
-  'POLYGON ((0 0, 4 0, 4 4, 0 0), (1 1, 2 1, 2 2, 1 1))', 'MULTIPOINT (1 2, -3 4)',
-  'SRID=3857;GEOMETRYCOLLECTION ZM (MULTIPOLYGON ZM (((0 0 1 2, 9 0 1 2, 9 9 3 4, 0 0 1 2))), POINT ZM (1 1 1 1))'])
-  as shape;
-create index shapes_box on shapes using spgist (wkb_box(geom::bytea));
-create index shapes_geom on shapes using gist (geom);
-select st_asewkt(geom) from shapes where not wkb_well_formed(geom::bytea) or
-  (wkb_xmin(geom::bytea), wkb_xmax(geom::bytea), wkb_ymin(geom::bytea), wkb_ymax(geom::bytea)) is distinct from
-    (st_xmin(geom), st_xmax(geom), st_ymin(geom), st_ymax(geom)) or wkb_box(geom::bytea)::text <> box(geom)::text or
-  wkb_kind(geom::bytea) <> lower(substr(st_geometrytype(geom), 4)) or
-  coalesce(wkb_srid(geom::bytea), 0) <> st_srid(geom) or
-  wkb_ewkb(geom::bytea) <> st_asewkb(geom, 'NDR') or wkb_canonical(geom::bytea) <> st_asbinary(geom, 'NDR') or
-  (wkb_box(geom::bytea) && box '((-9, 0), (0, 9))') <> (geom && st_makeenvelope(-9, 0, 0, 9, st_srid(geom)));
--- What is in a geometry, of each kind and dimension, in each encoding that PostGIS writes, also without a cast. For an
--- empty point PostGIS counts no coordinate, and of what has no members one geometry, or none.
+-- The functions beside PostGIS, over its geometries of each kind and dimension, in each encoding that it writes, also
+-- without a cast. Returns those for which the two differ, which is none. For an empty point PostGIS counts no
+-- coordinate, and of what has no members one geometry, or none.
 create table forms as select unnest(array[geom, st_force3dz(geom), st_force3dm(geom), st_force4d(geom)]) as geom
   from (select st_geomfromewkt(shape) from unnest(array[
     'POINT (1 2)', 'SRID=999999;LINESTRING (0 0, 5 -6, 1 1)', 'POLYGON ((0 0, 4 0, 4 4, 0 0), (1 1, 2 1, 2 2, 1 1))',
@@ -24,11 +10,15 @@ create table forms as select unnest(array[geom, st_force3dz(geom), st_force3dm(g
     as shape) as plain (geom);
 select st_asewkt(geom) from (select geom, unnest(array[st_asbinary(geom, 'NDR'), st_asbinary(geom, 'XDR'),
     st_asewkb(geom, 'NDR'), st_asewkb(geom, 'XDR')]) as wkb from forms) as encodings
-  where (wkb_ndims(wkb), wkb_zmflag(wkb), wkb_num_coordinates(wkb), wkb_num_members(wkb)) is distinct from
-    (st_ndims(geom), st_zmflag(geom), st_npoints(geom),
-      case when st_geometrytype(geom) ~ 'Multi|Collection' then st_numgeometries(geom) else 0 end) or
-    (wkb_kind(geom), wkb_ndims(geom), wkb_ewkb(geom)) is distinct from
-      (lower(substr(st_geometrytype(geom), 4)), st_coorddim(geom)::int, st_asewkb(geom, 'NDR'));
+  where not wkb_well_formed(wkb) or wkb_canonical(wkb) <> st_asbinary(geom, 'NDR') or
+    (wkb_ndims(wkb), wkb_zmflag(wkb), wkb_num_coordinates(wkb), wkb_num_members(wkb)) is distinct from
+      (st_ndims(geom), st_zmflag(geom), st_npoints(geom),
+        case when st_geometrytype(geom) ~ 'Multi|Collection' then st_numgeometries(geom) else 0 end) or
+    (wkb_xmin(wkb), wkb_xmax(wkb), wkb_ymin(wkb), wkb_ymax(wkb)) is distinct from
+      (st_xmin(geom), st_xmax(geom), st_ymin(geom), st_ymax(geom)) or wkb_box(wkb)::text <> box(geom)::text or
+    (wkb_box(wkb) && box '((-9, 0), (0, 9))') <> (geom && st_makeenvelope(-9, 0, 0, 9, st_srid(geom))) or
+    (wkb_kind(geom), wkb_ndims(geom), coalesce(wkb_srid(geom), 0), wkb_ewkb(geom)) is distinct from
+      (lower(substr(st_geometrytype(geom), 4)), st_coorddim(geom)::int, st_srid(geom), st_asewkb(geom, 'NDR'));
 select count(*) from forms having count(*) <> 28;
 select shape from (values ('POINT EMPTY', 0, 0, 1, 0), ('POINT (1 2)', 1, 1, 1, 0), ('POLYGON EMPTY', 0, 0, 0, 0),
     ('MULTIPOINT (EMPTY, 1 2)', 1, 2, 2, 2), ('GEOMETRYCOLLECTION (POINT EMPTY)', 0, 0, 1, 1))
