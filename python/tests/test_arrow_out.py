@@ -10,7 +10,7 @@ import threading
 import unittest
 
 import porchsorrel_wkb as wkb
-from capsules import Again, Arrow, Array, Lists, Schema, address_of, memory_of
+from capsules import Again, Arrow, Array, Lists, Schema, address_of, memory_of, pointers
 from samples import BIG_POINT, ISO_POLYGON, POINT, POLYGON, ROWS, STATUSES, numpy
 from porchsorrel_wkb import Column, Dimension, Form, Kind, Order, Status, column_from_coordinates
 
@@ -283,6 +283,8 @@ class FromGeoArrow(unittest.TestCase):
         it = Lists([(0, 1, 3), (0, 2, 3, 3)], [(1, 2, 3, 4, 5, 6)], offset=1)
         (row,) = column_from_coordinates(Kind.MULTI_LINE_STRING, it).rows
         self.assertEqual(row, part(5, [OTHER, part(2, [])]))
+        without = Lists([(0,)], [(1.0, 2.0)], buffers=pointers([None, None]))  # no rows have no offsets
+        self.assertEqual(list(column_from_coordinates(Kind.LINE_STRING, without).rows), [])
 
     def test_slices_inside(self):
         """Coordinates, and their numbers, that begin behind the front of an array."""

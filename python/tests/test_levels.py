@@ -92,6 +92,7 @@ class Taken(unittest.TestCase):
             (ValueError, r"shape \(1, 1, 2\) have not 2 numbers",
              (1, memoryview(words(1, 2)).cast("d", (1, 1, 2))), {}),
             (ValueError, "begin with 0, and not with 1", (2, numbers, offsets(1, 1)), {}),
+            (ValueError, "begin with 0, and not with 2", (2, numbers, offsets(2)), {}),
             (TypeError, "raw bytes need offset_size", (2, numbers, bytes(16)), {}),
             (ValueError, "7 bytes are after the last offset", (2, numbers, bytes(23)), {"offset_size": 8}),
             (ValueError, "4 bytes are after the last offset", (2, numbers, bytes(20)), {"offset_size": 8}),
