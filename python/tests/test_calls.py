@@ -109,12 +109,12 @@ class Calls(unittest.TestCase):
     def test_same(self):
         self.assertIs(wkb.same(POINT, BIG_POINT), True)
         self.assertIs(wkb.same(POINT, EMPTY_POINT), False)
-        for first, second, which in ((b"\2", b"", 1), (POINT, b"", 2)):
+        for first, second, which in ((b"\2", b"", 1), (POINT, b"POINT", 2)):
             with self.assertRaises(Refused) as raised:
                 wkb.same(first, second)
             self.assertEqual(raised.exception.which, which)
-        text = wkb.status_text(Status.SHORT_HEADER)
-        self.assertEqual(str(raised.exception), f"the second input: {text}, at byte 0 (part 0)")
+        text = wkb.status_text(Status.INVALID_BYTE_ORDER)
+        self.assertEqual(str(raised.exception), f"the second input: {text}, at byte 0 (part 0); this is text")
 
     def test_refused(self):
         for data, status, end in (
