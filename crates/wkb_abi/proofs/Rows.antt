@@ -20,18 +20,14 @@ statuses_more Q statuses i s there above own =
 pub shown_more : {A : Type 0} {Shows : List ℕ → A → Type 0} {none : A} {c : Column} {statuses : List ℕ} {items : List A}
     (i s : ℕ) (a : A) → i < length statuses → i < length items → RowsShow Shows none c i statuses items
     → RowShows Shows none c i s a → RowsShow Shows none c (i + 1) (set statuses i s) (set items i a)
-shown_more {A = A} {Shows} {none} {c} {statuses} {items} i s a there room above own = record {
+shown_more {Shows = Shows} {none} {c} {statuses} {items} i s a there room above own = record {
   each =
-      below_more (λ j. Q j (slice_index (set statuses i s) j) (slice_index_or (set items i a) j none)) i
+      statuses_more (λ j told. RowShows Shows none c j told (slice_index_or (set items i a) j none)) statuses i s there
       (λ j below.
-      let other : j ≡ i → ⊥ = λ same. omega (arith, same, below) in
-      subst (λ T. T) (λ k. Q j (sym (get_or-set_other statuses i j s 0 other) k)
-      (sym (get_or-set_other items i j a none other) k)) (above.each j below))
-      (subst (λ T. T) (λ k. Q i (sym (get_or-set_same statuses i s 0 there) k)
-      (sym (get_or-set_same items i a none room) k)) own);
-} where
-  Q : ℕ → ℕ → A → Type 0
-  Q = RowShows Shows none c
+      let other = get_or-set_other items i j a none (λ same. omega (arith, same, below)) in
+      subst (RowShows Shows none c j (slice_index statuses j)) (sym other) (above.each j below))
+      (subst (RowShows Shows none c i s) (sym (get_or-set_same items i a none room)) own);
+}
 
 -- the status of a row whose item shows that it is accepted
 pub status_shown : {A : Type 0} {Shows : List ℕ → A → Type 0} {none : A} {c : Column} {i status : ℕ} {item : A}
