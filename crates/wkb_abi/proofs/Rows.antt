@@ -1,5 +1,5 @@
 -- The statuses of a column's rows, and their items where each row has one.
-use Rattle.wkb_abi.proofs.Common.{◌≡◌, ℕ, ◌+◌, ◌<◌, List, length, slice_index, refl, sym, subst, arith, set, IsAccepted}
+use Rattle.wkb_abi.proofs.Common.{ℕ, ◌+◌, ◌<◌, List, length, slice_index, refl, sym, subst, arith, set, IsAccepted}
 use Rattle.wkb_abi.proofs.Common.{Column}
 use borrow.Author.Count.{below_more}
 use Rattle.std.specs.Prelude.{slice_index_or}

@@ -17,10 +17,9 @@ use Rattle.wkb_check.specs.Public.{member_room}
 use Rattle.wkb_rewrite.proofs.Encodings.{encoded_apart}
 use Rattle.wkb_rewrite.specs.Targets.{encoding_for}
 use Rattle.wkb_c.specs.Collections.{AreRowMembers, HaveMembers, IsCollected, part_of}
-use Rattle.wkb_c.specs.Collections.{front_of, inside_of, IsWhole, IsFirstUnfit}
-use Rattle.wkb_c.specs.Collections.{IsAsked, IsFirstUnfitFor}
+use Rattle.wkb_c.specs.Collections.{front_of, inside_of, IsWhole}
+use Rattle.wkb_c.specs.Collections.{IsAsked}
 use Rattle.wkb_c.specs.declared.collect.CollectTarget.{CollectTarget}
-use Rattle.wkb_abi.specs.declared.fault.WkbFault.{WkbFault}
 use Rattle.wkb_abi.specs.declared.column.Column.{Column}
 use Rattle.wkb_abi.specs.declared.options.Options.{Options}
 
@@ -154,15 +153,6 @@ module _ {c : Column} {rows k n : ℕ} {o : Options} {target : CollectTarget} (a
             ∙ sym (whole_encoded order form v.value (omega (arith, low, v.kind_is)))
             ∙ ap (λ z. encoding_for z v.value) a.options_are;
       }
-
-pub first_unfit_for : {c : Column} {rows k n i status : ℕ} {o : Options} {target : CollectTarget} {fault : WkbFault}
-    → IsAsked k n o target → IsFirstUnfit c (part_of target) rows i status fault
-    → IsFirstUnfitFor k n c rows i status fault
-first_unfit_for {c} {rows} {i = i} {status} {target = target} {fault} a first = record {
-  named = target.dimension;
-  named_is = a.named;
-  first = subst (λ z. IsFirstUnfit c (member_part z target.dimension) rows i status fault) a.kind_is first;
-}
 
 pub whole_collected : {c : Column} {rows k n : ℕ} {o : Options} {target : CollectTarget}
     → IsAsked k n o target → (encoding : List ℕ) → IsWhole c target rows encoding

@@ -1,25 +1,19 @@
 -- The members that rows begin with, row by row.
 use Rattle.wkb_abi.proofs.Common.{◌≡◌, ℕ, suc, ◌+◌, ◌≤◌, ◌<◌, List, ◌++◌, length, drop, ◌⊎◌, inl, inr, refl, sym, ap}
 use Rattle.wkb_abi.proofs.Common.{subst, ◌∙◌, arith, append_assoc, length-append, Spelling, Value, Values, member}
-use Rattle.wkb_abi.proofs.Common.{no_members, kind, collection, Dimension, is_some, None, srid_size, drop-drop, false}
+use Rattle.wkb_abi.proofs.Common.{no_members, kind, collection, is_some, None, srid_size, drop-drop, false}
 use Rattle.wkb_abi.proofs.Common.{◌-◌, sets, sets-eq, length-sets, Endianness, encoding, geometry_of, Summary}
 use Rattle.wkb_abi.proofs.Common.{IsAccepted, RowHas, IsRow, Reach}
-use Rattle.std.specs.Prelude.{take, nat_lt, Result, Ok, Err, IfErr}
-use Rattle.std.proofs.Common.{length-drop, ltb-false}
-use Rattle.std.proofs.lemmas.Bool.{cond_both}
+use Rattle.std.specs.Prelude.{take, Result, Ok, Err, IfErr}
+use Rattle.std.proofs.Common.{length-drop}
 use Rattle.std.proofs.lemmas.List.{length-take}
-use denote.Enum.Bare.{sameb}
-use Rattle.wkb_geom.specs.contracts.common.Dimension.{the_type}
-use Rattle.wkb_geom.specs.declared.common.Dimension.TheVariants.{Xy}
 use Rattle.wkb_geom.specs.declared.common.Form.{Form}
 use Rattle.wkb_geom.specs.declared.common.Form.TheVariants.{Iso, Ewkb}
-use Rattle.wkb_geom.specs.declared.code.WkbType.{WkbType}
-use Rattle.wkb_geom.specs.declared.code.WkbType.TheVariants.{Point}
 use Rattle.wkb_geom.specs.Encodings.{inner, form_srid, IsRewriting}
 use Rattle.wkb_geom.specs.Fronts.{FrontWithin}
 use Rattle.wkb_geom.specs.Numbers.{AreBytes}
 use Rattle.wkb_geom.specs.Reading.{type_kind, type_dimension}
-use Rattle.wkb_geom.specs.Spellings.{Wanted, part, any, member_part, IsPart}
+use Rattle.wkb_geom.specs.Spellings.{Wanted, IsPart}
 use Rattle.wkb_geom.specs.Values.{count, nest}
 use Rattle.wkb_laws.proofs.OneFront.{one_spelling}
 use Rattle.wkb_check.specs.Public.{DescribesFrontWithin, Checks, member_room}
@@ -171,26 +165,6 @@ found_measured {target} {row} {f} {size} o b d o_is wanted size_is =
       short =
           omega (arith, long, at_most_inside target.options.endianness target.options.form row (there begins) b);
     }
-
--- a type that is no part that is wanted
-some_kind : (t : WkbType) → 1 ≤ type_kind t
-some_kind (Point d) = omega arith
-some_kind _ = omega arith
-
-pub no_part : (k : ℕ) (d : Dimension) (t : WkbType) → k < 7
-    → (type_kind t + 3 ≡ k → type_dimension t ≡ d → ⊥)
-    → IsPart (member_part k d) (type_kind t) (type_dimension t) false → ⊥
-no_part k d t low differ =
-    cond_both (nat_lt k 7) (part (k - 3) d) any (λ w. IsPart w (type_kind t) (type_dimension t) false → ⊥)
-    (λ t_is is. differ (omega (arith, is.0, some_kind t)) is.1)
-    (λ f is. absurd (omega (arith, low, ltb-false k 7 f)))
-
-pub same_self : (x y : Dimension) → x ≡ y → sameb the_type x y ≡ false → ⊥
-same_self x y e other = own x (ap (λ z. sameb the_type x z) e ∙ other)
-  where
-    own : (x : Dimension) → sameb the_type x x ≡ false → ⊥
-    own Xy e = absurd cc
-    own _ e = absurd cc
 
 -- ---- how long they are
 

@@ -1,12 +1,6 @@
 use Rattle.wkb_abi.proofs.Common.{arith, ◌∙◌}
-use Rattle.wkb_c.proofs.Gathering.{measured_more, all_measured, have_before, reach_inside}
+use Rattle.wkb_c.proofs.Gathering.{measured_more, all_measured, have_before}
 use Rattle.wkb_c.proofs.collect.measure_members.Goals as goal
-
-pub overflow_add-size : goal.overflow_add-size
-overflow_add-size c =
-    let l = c.loop-i.invariant in
-    let inside = reach_inside c.args.column.now c.measure_row.ensures.reach in
-    omega (arith, (measured_more l.reaches c.measure_row.ensures.reach l.measured c.in-Ok.ensures.measured).fits)
 
 pub loop-i-preserved : goal.loop-i-preserved
 loop-i-preserved c =

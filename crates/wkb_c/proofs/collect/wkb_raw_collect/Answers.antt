@@ -1,4 +1,4 @@
-use Rattle.wkb_c.proofs.Collecting.{whole_collected, first_unfit_for}
+use Rattle.wkb_c.proofs.Collecting.{whole_collected}
 use Rattle.wkb_c.proofs.RowItems.{written_as, no_room_as}
 use Rattle.wkb_c.proofs.collect.wkb_raw_collect.Goals as goal
 
@@ -9,7 +9,3 @@ returns-in-Ok-clause-written c = λ told.
 pub returns-in-Ok-clause-no_room : goal.returns-in-Ok-clause-no_room
 returns-in-Ok-clause-no_room c = λ told.
     no_room_as (whole_collected c.in-Some.ensures.asked) (c.write_collected.ensures.no_room told)
-
-pub returns-in-Err-clause-refused : goal.returns-in-Err-clause-refused
-returns-in-Err-clause-refused c = λ told.
-    first_unfit_for c.in-Some.ensures.asked c.in-Err.ensures.unfit

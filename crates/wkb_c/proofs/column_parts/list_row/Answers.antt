@@ -1,11 +1,8 @@
 use Rattle.wkb_abi.proofs.Common.{refl}
-use Rattle.wkb_abi.specs.RowItems.{nothing, fails, has_no_row}
+use Rattle.wkb_abi.specs.RowItems.{nothing, fails}
 use Rattle.wkb_c.proofs.Called.{list_step}
 use Rattle.wkb_c.proofs.RowItems.{lent_rest}
 use Rattle.wkb_c.proofs.column_parts.list_row.Goals as goal
-
-pub returns-in-Err-clause-step : goal.returns-in-Err-clause-step
-returns-in-Err-clause-step c = nothing (has_no_row c.in-Err.ensures.none) refl refl
 
 pub returns-in-Err-check_row-clause-step : goal.returns-in-Err-check_row-clause-step
 returns-in-Err-check_row-clause-step c =

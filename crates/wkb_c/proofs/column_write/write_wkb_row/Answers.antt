@@ -1,11 +1,7 @@
 use Rattle.wkb_abi.proofs.Common.{refl}
-use Rattle.wkb_abi.specs.RowItems.{nothing, has_no_row}
 use Rattle.wkb_c.proofs.Encodings.{asked_step, any_step}
 use Rattle.wkb_c.proofs.RowItems.{lent_rest}
 use Rattle.wkb_c.proofs.column_write.write_wkb_row.Goals as goal
-
-pub returns-in-Err-clause-step : goal.returns-in-Err-clause-step
-returns-in-Err-clause-step c = nothing (has_no_row c.in-Err.ensures.none) refl refl
 
 pub returns-in-Some-clause-step : goal.returns-in-Some-clause-step
 returns-in-Some-clause-step c =

@@ -8,10 +8,6 @@ returns-then-out-wanted c =
     (lacks_room _ c.requires.here c.options_for-options.ensures (λ i. (c.type_inv.buf i).fits)
     (c.size_with_own_srid-wanted.ensures.size _ (here c.requires.here)) (omega (arith, c.if-out-wanted.true)))
 
-pub lay_one_piece-requires-clause-room : goal.lay_one_piece-requires-clause-room
-lay_one_piece-requires-clause-room c = λ g.
-    omega (arith, c.size_with_own_srid-wanted.ensures.size c.options_for-options.result.endianness g)
-
 pub returns : goal.returns
 returns c =
     let there = here c.requires.here in
