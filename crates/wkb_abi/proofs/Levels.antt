@@ -3,7 +3,7 @@ use Rattle.wkb_abi.proofs.Common.{◌≡◌, ℕ, zero, suc, ◌+◌, ◌*◌, �
 use Rattle.wkb_abi.proofs.Common.{length, drop, Some, None, slice_index, refl, ap, sym, subst, ◌∙◌, arith, append_assoc}
 use Rattle.wkb_abi.proofs.Common.{append-nil, length-append, drop-drop, Dimension, width, number, Coordinate, Spelling}
 use Rattle.wkb_abi.proofs.Common.{node, Spellings, no_spellings, spelling, Value, Values, point, line_string, polygon}
-use Rattle.wkb_abi.proofs.Common.{no_members, member, members, dimension, set, sets, length-sets, Endianness}
+use Rattle.wkb_abi.proofs.Common.{no_members, member, members, dimension, sets, length-sets, Endianness}
 use Rattle.wkb_abi.proofs.Common.{HasGeometry, Piece, levels_of, Totals, Subject, subjects, subjects_of_each}
 use Rattle.std.specs.Prelude.{sum, flat_map, nat_lt, ◌&&◌, if◌then◌else◌}
 use Rattle.std.proofs.lemmas.Grind.{common_steps}
@@ -38,21 +38,6 @@ coordinate_word order d from n at row h is =
 asked_length : (asked own : Dimension) (c : Coordinate) → length (words_asked asked own c) ≡ width asked
 asked_length Xy own c = refl
 asked_length _ own c = refl
-
--- a store after a store is a store of both
-pub two_laid : (out : List ℕ) (at : ℕ) {a b x y : ℕ} → a ≡ x → b ≡ y
-    → set (set out at a) (at + 1) b ≡ sets out at (x ∷ y ∷ [])
-two_laid out at p q = let one : at + 1 ≡ suc at = omega arith in λ i. set (set out at (p i)) (one i) (q i)
-
-pub three_laid : (out : List ℕ) (at : ℕ) {a b c x y z : ℕ} → a ≡ x → b ≡ y → c ≡ z
-    → set (set (set out at a) (at + 1) b) (at + 2) c ≡ sets out at (x ∷ y ∷ z ∷ [])
-three_laid out at p q r =
-    let two : at + 2 ≡ suc (suc at) = omega arith in λ i. set (two_laid out at p q i) (two i) (r i)
-
-pub four_laid : (out : List ℕ) (at : ℕ) {a b c d x y z w : ℕ} → a ≡ x → b ≡ y → c ≡ z → d ≡ w
-    → set (set (set (set out at a) (at + 1) b) (at + 2) c) (at + 3) d ≡ sets out at (x ∷ y ∷ z ∷ w ∷ [])
-four_laid out at p q r s =
-    let three : at + 3 ≡ suc (suc (suc at)) = omega arith in λ i. set (three_laid out at p q r i) (three i) (s i)
 
 -- n coordinates are still to be written
 pub record WordsLeft (asked own : Dimension) (order : Endianness) (row all : List ℕ) (n from at : ℕ) (out : List ℕ)

@@ -1,5 +1,5 @@
 use Rattle.wkb_abi.proofs.Common.{arith}
-use Rattle.wkb_abi.proofs.Levels.{first_fits, walk_begins, walk_ahead, next_fits, walk_goes_on, walk_ends}
+use Rattle.wkb_abi.proofs.Levels.{first_fits, walk_begins, next_fits, walk_goes_on, walk_ends}
 use Rattle.wkb_abi.proofs.level_slices.lay_walked.Goals as goal
 
 pub lay_piece_levels-requires : goal.lay_piece_levels-requires
@@ -14,9 +14,6 @@ pub loop-piece-init : goal.loop-piece-init
 loop-piece-init c =
     walk_begins c.args.out.now (omega arith) (omega arith) (omega arith) c.behind-pieces.ensures c.requires.room
     c.with-at.ensures c.lay_piece_levels.ensures.laid c.lay_piece_levels.ensures.same_slices
-
-pub next-requires : goal.next-requires
-next-requires c = walk_ahead c.loop-piece.invariant c.requires.here
 
 pub lay_piece_levels-requires-in-Some : goal.lay_piece_levels-requires-in-Some
 lay_piece_levels-requires-in-Some c = next_fits c.loop-piece.invariant c.in-Some.ensures.steps c.requires.here

@@ -15,11 +15,6 @@ loop-piece-init c =
       inside = behind.inside.inside;
     }
 
-pub next-requires : goal.next-requires
-next-requires c =
-    let left = c.loop-piece.invariant.left c.requires.here in
-    record { pieces = left.ps; are = left.ahead }
-
 pub loop-piece-preserved : goal.loop-piece-preserved
 loop-piece-preserved c = record {
   left = λ g.
