@@ -1,4 +1,4 @@
-//! What the clients return that read GeoPackage blobs and look for geometries in a box.
+//! What the clients return that read and write GeoPackage blobs and look for geometries in a box.
 
 use std::alloc::Global;
 use std::test::Fail;
@@ -7,7 +7,7 @@ use wkb::check::Range;
 use wkb_cases::spelled::bytes;
 use wkb_cases::support::{THREE, TWO};
 use wkb_clients::boxes::BoundingBox;
-use wkb_clients::geopackage::{Unread, read};
+use wkb_clients::geopackage::{Unread, read, write};
 use wkb_clients::windows::found_in;
 
 /// Twenty for a fault of the header, 30 for one of the envelope, 40 for one of the geometry, 50 for EWKB; else the
@@ -47,6 +47,31 @@ fn packages_read(rt: HostRuntime) -> Result<(), Fail> {
         "47500013 e6100000 000000000000f87f 000000000000f87f 000000000000f87f 000000000000f87f
         01 03000000 00000000";
     assert!(rt; outcome(alloc, polygon)? == 1);
+    Ok(())
+}
+
+/// Whether a blob's package is written as the blob.
+fn is_again(alloc: Global, text: &str) -> Result<bool, Fail> {
+    let blob = bytes(text)?;
+    let Ok(package) = read(alloc, blob.as_slice()) else {
+        return Ok(false);
+    };
+    match write(alloc, &package) {
+        Ok(Some(written)) => Ok(written.as_slice() == blob.as_slice()),
+        Ok(None) => Ok(false),
+        Err(error) => Err(Fail::new(error)),
+    }
+}
+
+// A point (1 2) without an envelope, in big endian; an empty polygon in an envelope of NaNs.
+#[test]
+fn packages_written(rt: HostRuntime) -> Result<(), Fail> {
+    let alloc = rt.alloc();
+    assert!(rt; is_again(alloc, "47500000 000010e6 01 01000000 P")?);
+    let polygon =
+        "47500013 e6100000 000000000000f87f 000000000000f87f 000000000000f87f 000000000000f87f
+        01 03000000 00000000";
+    assert!(rt; is_again(alloc, polygon)?);
     Ok(())
 }
 
