@@ -1,10 +1,9 @@
 -- All coordinates of a value as the points of one multi point.
-use Rattle.std.proofs.Common.{◌≡◌, ℕ, zero, suc, ◌<◌, ◌≤◌, List, [], ◌∷◌, ◌++◌, map, length, take, drop, Some, None}
-use Rattle.std.proofs.Common.{inl, inr, refl, sym, ap, subst, ◌∙◌, arith, append-nil}
+use Rattle.std.proofs.Common.{◌≡◌, ℕ, zero, suc, ◌<◌, List, [], ◌∷◌, map, length, drop, Some, None}
+use Rattle.std.proofs.Common.{inl, inr, refl, sym, ap, subst, arith, append-nil}
 use Rattle.std.specs.List.{AllByRecursion}
 use Rattle.std.specs.Prelude.{slice_index_or}
-use Rattle.std.proofs.lemmas.List.{length-map, take_all}
-use Rattle.std.proofs.lemmas.List.Concat.{flat_map-append}
+use Rattle.std.proofs.lemmas.List.{length-map}
 use Rattle.wkb.specs.Prelude.{Dimension, Dimensions, Xy, as_dimensions, written_dimension, WkbError}
 use Rattle.wkb.specs.Values.{Coordinate, Value, multi_point, dimension}
 use Rattle.wkb.specs.Geometries.{AreCoordinates, IsPoint, normal, normal_point}
@@ -14,7 +13,7 @@ use Rattle.wkb.specs.AllCoordinates.{refused_points_are_many}
 use Rattle.wkb.specs.ReadBack.{encoding_is_read}
 use Rattle.wkb.specs.Reads.{Item, values}
 use Rattle.wkb.specs.Writes.{WriteOptions, IsVecError}
-use Rattle.wkb.specs.Coordinates.{coordinates_of, words_of, HasOnly, HaveOnly}
+use Rattle.wkb.specs.Coordinates.{coordinates_of, HasOnly, HaveOnly}
 use Rattle.wkb_clients.specs.Coordinates.{points_meant, ArePoints, IsWantOfRoom}
 
 -- if all members have one dimension, each has it
@@ -27,12 +26,6 @@ each_has d (x ∷ ms) (suc i) m is inside all = each_has d ms i m is (omega (ari
 -- the geometries before an index have it: with those from it on, all have
 pub record HaveOnlyBefore (d : Dimension) (ms : List Item) (i : ℕ) : Type 0 where
   pub left : HaveOnly d (values (drop i ms)) → HaveOnly d (values ms)
-
--- the words of a coordinate follow those of the ones before
-pub words_follow : (old new : List ℕ) (c : Coordinate) (n : ℕ) → new ≡ old ++ take n c → length c ≤ n
-    → (before : List Coordinate) → old ≡ words_of before → new ≡ words_of (before ++ c ∷ [])
-words_follow old new c n is end before of =
-    is ∙ (λ i. of i ++ (take_all n c end ∙ sym (append-nil c)) i) ∙ sym (flat_map-append (λ x. x) before (c ∷ []))
 
 -- ---- the multi point
 

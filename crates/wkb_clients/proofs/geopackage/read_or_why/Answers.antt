@@ -1,14 +1,10 @@
-use Rattle.std.proofs.Common.{◌⊎◌, inr, sym, subst, arith}
-use Rattle.wkb.specs.Bridges.{memory_or, refused_for}
+use Rattle.std.proofs.Common.{◌⊎◌, sym, subst, arith}
+use Rattle.wkb.specs.Bridges.{memory_or}
 use Rattle.wkb.specs.Checks.{BoundsFront}
 use Rattle.wkb.specs.Prelude.{IsMemory}
 use Rattle.wkb.specs.Reads.{IsRefusal}
 use Rattle.wkb_clients.proofs.Packages.{as_said, holds}
 use Rattle.wkb_clients.proofs.geopackage.read_or_why.Goals as goal
-
-pub returns-then-is_ewkb-clause-why : goal.returns-then-is_ewkb-clause-why
-returns-then-is_ewkb-clause-why c =
-    record { header = c.in-Some.header; is_header = c.in-Some.ensures; ewkb = cc }
 
 pub returns-then-not-envelope_around-clause-why : goal.returns-then-not-envelope_around-clause-why
 returns-then-not-envelope_around-clause-why c =
@@ -18,15 +14,6 @@ returns-then-not-envelope_around-clause-why c =
       bounds = c.in-Ok.found;
       front = subst (λ l. BoundsFront l c.in-Ok.found) c.body_of-body.ensures c.in-Ok.ensures.front;
       wrong = sym (as_said c.args.blob.now c.in-Some.header c.in-Ok.found _ c.in-Some.ensures (grind arith));
-    }
-
-pub returns-in-Err-clause-why : goal.returns-in-Err-clause-why
-returns-in-Err-clause-why c =
-    let refusal = refused_for c.in-Err.refused c.from.result c.in-Err.ensures.refused.refusal c.from.ensures in
-    record {
-      header = c.in-Some.header;
-      is_header = c.in-Some.ensures;
-      why = inr (subst (λ l. IsRefusal l c.from.result) c.body_of-body.ensures refusal);
     }
 
 pub returns-in-Ok-read_wkb-clause-ok : goal.returns-in-Ok-read_wkb-clause-ok
