@@ -23,8 +23,8 @@ FOLDER = pathlib.Path(os.environ.get("XDG_CACHE_HOME") or "~/.cache").expanduser
 DAYS = 60
 # What scripts may read besides themselves, c/ and examples/. A command without a row may read all.
 PYTHON, RUST, SYSTEMS = "python/* LICENSE-*", "rust/* Cargo.toml LICENSE-*", "checks/systems/* tools/version LICENSE-*"
-DIST = f"{PYTHON} {SYSTEMS} sqlite/* postgres/* crates/* crates.txt HANDLES tools/* LICENSES/* .reuse/* README.md " \
-    "SECURITY.md CHANGELOG.md docs/SYSTEMS.md docs/FORMAT.md docs/RECIPES.md docs/START_*.md"
+DIST = f"{PYTHON} {RUST} {SYSTEMS} sqlite/* postgres/* crates/* crates.txt HANDLES tools/* LICENSES/* .reuse/* " \
+    "README.md SECURITY.md CHANGELOG.md docs/SYSTEMS.md docs/FORMAT.md docs/RECIPES.md docs/START_*.md"
 QUERIES = f"docs/START_SQL.md checks/hosts/hostile.py {PYTHON}"
 READS = {
     "make c/test/alone/header_test checks/hosts/sanitize": "",
@@ -35,7 +35,7 @@ READS = {
     "checks/systems/cross_test": "docs/RECIPES.md",
     "checks/systems/wheels_test": f"{SYSTEMS} {PYTHON}",
     "checks/systems/dist_test": DIST,
-    "checks/pages/pages_test": f"{DIST} {RUST} wkb_hex",
+    "checks/pages/pages_test": f"{DIST} wkb_hex",
     "python/run": PYTHON,
     "rust/run rust/package_test": RUST,
     "sqlite/run": f"sqlite/* {QUERIES}",
