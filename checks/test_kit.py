@@ -44,6 +44,10 @@ class Kit(unittest.TestCase):
 
     def prove(self):
         """Run `rt ci`, which has to pass, and take its libraries."""
+        # A kit that stores none puts earlier ones in the place of those that it has proved.
+        if "class Kept" not in pathlib.Path(shutil.which("rt")).read_text():
+            for it in self.top.glob("crates/*/out"):
+                shutil.rmtree(it)
         status, printed = self.ran("rt", "ci")
         self.assertEqual(status, 0, printed)
         status, printed = self.ran("tools/kit.py", "take")

@@ -199,7 +199,7 @@ echo "$it" >>"$TOP/said"
         self.write("docs/it", "no part reads it")
         self.assertEqual(self.status(anew="")[1], self.HERE)
         self.write("rust/it", "some read it")
-        some = {"rust/run", "checks/hosts/cost", "checks/pages/pages_test"}
+        some = {"rust/run", "checks/hosts/cost", "checks/pages/pages_test", "checks/systems/dist_test"}
         self.assertEqual(self.status(anew="")[1], self.HERE | some)
         self.write("sqlite/run", "#!/bin/sh\necho left out: it\n", 0o755)
         self.assertEqual([self.status(anew="")[2].count("kept: sqlite/run") for _ in range(2)], [0, 0])
