@@ -283,7 +283,6 @@ NUMBER(num_parts, (sqlite3_int64)found.parts)
 static void written_behind(sqlite3_context *context, const input *in, const wkb_options *options,
                            const uint8_t *header, size_t length) {
   size_t size = 0;
-  if (in->fault != NULL) return;
   uint8_t *out = sqlite3_malloc64(length + in->size + 4);
   if (out == NULL) {
     sqlite3_result_error_nomem(context);
@@ -383,7 +382,6 @@ static void same(sqlite3_context *context, int n, sqlite3_value **values) {
   uint32_t equal = 0;
   if (has_null(n, values)) return;
   input a = input_of(values[0]), b = input_of(values[1]);
-  if (a.fault != NULL || b.fault != NULL) return;
   if (wkb_same(a.data, a.size, b.data, b.size, &equal, NULL, NULL) == WKB_STATUS_OK)
     sqlite3_result_int(context, (int)equal);
 }
