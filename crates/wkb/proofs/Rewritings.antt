@@ -18,7 +18,7 @@ use Rattle.wkb_check.specs.Public.{DescribesFront, DescribesOnlyFront, IsRefused
 use Rattle.wkb_check.specs.declared.answer.Refused.{Refused}
 use Rattle.wkb_check.specs.declared.answer.Summary.{Summary}
 use Rattle.wkb_read.specs.Reads.{IsRefusal}
-use Rattle.wkb_rewrite.proofs.Measured.{here}
+use Rattle.wkb_check.proofs.Ahead.{here}
 use Rattle.wkb.specs.Canonical.{IsAccepted, HaveOneValue, HaveTwoValues, OverflowsWithSrid}
 
 -- what was laid into a list of as many bytes is all that it then holds

@@ -13,7 +13,7 @@ use Rattle.wkb_geom.specs.Geometries.{geometry_of}
 use Rattle.wkb_geom.specs.Encodings.{encoding, IsRewriting}
 use Rattle.wkb_sink.specs.declared.options.WriteOptions.{WriteOptions}
 use Rattle.wkb_read.specs.Reads.{IsRefusal}
-pub use Rattle.wkb_rewrite.specs.Inputs.{IsAccepted, HaveOneValue, HaveTwoValues}
+pub use Rattle.wkb_check.specs.Inputs.{IsAccepted, HaveOneValue, HaveTwoValues}
 
 -- the error says that the encoding is too long
 abbrev pub IsSize : WkbError → Type 0

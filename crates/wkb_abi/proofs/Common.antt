@@ -28,6 +28,6 @@ pub use Rattle.wkb_check.specs.declared.pieces.Piece.{Piece}
 pub use Rattle.wkb_geom.specs.Encodings.{encoding}
 pub use Rattle.wkb_geom.specs.Geometries.{geometry_of}
 pub use Rattle.wkb_geom.specs.declared.common.Endianness.{Endianness}
-pub use Rattle.wkb_rewrite.proofs.Measured.{here}
-pub use Rattle.wkb_rewrite.specs.Inputs.{IsAccepted}
+pub use Rattle.wkb_check.proofs.Ahead.{here}
+pub use Rattle.wkb_check.specs.Inputs.{IsAccepted}
 pub use lib.Seq.{length-sets, sets, sets-eq}

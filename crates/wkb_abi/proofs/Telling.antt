@@ -10,7 +10,7 @@ use Rattle.wkb_geom.specs.declared.error.General.TheVariants.{InvalidByteOrder, 
 use Rattle.wkb_check.specs.Pieces.{leading, count_of, piece_of}
 use Rattle.wkb_check.specs.Public.{IsRefusedFor}
 use Rattle.wkb_check.specs.declared.answer.Refused.{Refused}
-use Rattle.wkb_rewrite.specs.Inputs.{HaveOneValue, HaveTwoValues}
+use Rattle.wkb_check.specs.Inputs.{HaveOneValue, HaveTwoValues}
 use Rattle.wkb_abi.specs.Checks.{IsFound}
 use Rattle.wkb_abi.specs.declared.found.Found.{Found}
 use Rattle.wkb_abi.specs.Classes.{IsRefusalStatus, IsShortStatus}

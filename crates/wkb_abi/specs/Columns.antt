@@ -3,7 +3,7 @@
 use Rattle.std.specs.Prelude.{◌≡◌, ◌⊎◌, ℕ, ◌+◌, ◌-◌, ◌*◌, ◌/◌, ◌%◌, ◌^◌, ◌<◌, ◌≤◌, Bool, true, false, List, length}
 use Rattle.std.specs.Prelude.{Option, Some, None, zero, suc, [], drop, slice_get, slice_range, slice_index}
 use Rattle.std.specs.Prelude.{slice_index_or, nat_eq}
-use Rattle.wkb_rewrite.specs.Inputs.{IsAccepted}
+use Rattle.wkb_check.specs.Inputs.{IsAccepted}
 use Rattle.wkb_geom.specs.Numbers.{number}
 use Rattle.wkb_geom.specs.declared.common.Endianness.TheVariants.{LittleEndian}
 use Rattle.wkb_abi.specs.declared.column.Column.{Column}

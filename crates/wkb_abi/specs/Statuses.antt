@@ -13,7 +13,7 @@ use Rattle.wkb_geom.specs.declared.error.Cause.TheVariants.{NestingDepthExceeded
 use Rattle.wkb_geom.specs.Refusals.{Refuses, left_in}
 use Rattle.wkb_check.specs.Public.{IsRefusedForWithin}
 use Rattle.wkb_check.specs.declared.answer.Refused.{Refused}
-use Rattle.wkb_rewrite.specs.Inputs.{IsAccepted, HaveOneValue, HaveTwoValues}
+use Rattle.wkb_check.specs.Inputs.{IsAccepted, HaveOneValue, HaveTwoValues}
 use Rattle.wkb_abi.specs.Classes.{IsRefusalStatus}
 use Rattle.wkb_abi.specs.declared.status.TheConstants.{OK, NO_ROOM, UNKNOWN_OPTION}
 use Rattle.wkb_abi.specs.declared.status.TheConstants.{SHORT_HEADER, INVALID_BYTE_ORDER, CODE_OUT_OF_RANGE}

@@ -3,7 +3,7 @@
 ghost use Rattle.std.specs.Prelude.{◌≡◌, ◌≢◌, ◌⊎◌, ◌↔◌, ◌+◌, ◌<◌, ◌≤◌, ◌^◌, length, true, false, None};
 ghost use Rattle.std.specs.Prelude.{IfSome, IfOk, IfErr};
 ghost use Rattle.wkb_check.specs.Public.{DescribesFrontWithin, member_room};
-ghost use Rattle.wkb_rewrite.specs.Inputs.{IsAccepted};
+ghost use Rattle.wkb_check.specs.Inputs.{IsAccepted};
 ghost use Rattle.wkb_rewrite.specs.Shares.{IsLaid};
 ghost use Rattle.wkb_rewrite.specs.Targets.{encoding_for};
 ghost use Rattle.wkb_sink.specs.Blocks.{LaysAt};

@@ -1,7 +1,7 @@
 //! Two inputs of one call: which of them is rejected, and whether they have one value.
 
 ghost use Rattle.std.specs.Prelude.{◌≡◌, ◌≢◌, None, IfSome};
-ghost use Rattle.wkb_rewrite.specs.Inputs.{IsAccepted};
+ghost use Rattle.wkb_check.specs.Inputs.{IsAccepted};
 ghost use Rattle.wkb_abi.specs.Statuses.{IsComparison, IsFault, IsRefusedInTurn};
 
 use crate::check::check_input;

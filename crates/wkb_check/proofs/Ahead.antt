@@ -23,6 +23,7 @@ use Rattle.wkb_check.specs.Pieces.{count_of, leading, piece_of, bare_head, Heade
 use Rattle.wkb_check.specs.declared.pieces.Piece.{Piece}
 use Rattle.wkb_check.proofs.Public.{geometry_opens}
 use Rattle.wkb_check.proofs.Bodies.{rest_smaller}
+use Rattle.wkb_check.proofs.Joining.{geometry_of_front}
 
 -- the count at the start of a body
 count_first : (order : Endianness) (n : ℕ) (x rest more : List ℕ) {front : List ℕ} → x ≡ front ++ rest
@@ -99,6 +100,10 @@ piece_is : (at : ℕ) (s : Spelling) (t : Value) {k : ℕ} {d : Dimension} {orde
     (record { kind = k; dimension = d; order = order; srid = srid; count = n; begin = at; offset = offset })
     (piece_of at s t)
 piece_is at (node h words ss) t is n offset count_is offset_is = cc
+
+-- what was found is at the start of the bytes
+abbrev pub here : {buf : List ℕ} {found : Summary} → DescribesFront buf found → HasGeometry buf
+here d = geometry_of_front d.front
 
 -- the check found what the header says
 pub found_header : {buf : List ℕ} {found : Summary} → DescribesFront buf found → {k : ℕ} {d : Dimension}

@@ -14,7 +14,7 @@ use Rattle.wkb_sink.specs.declared.options.WriteOptions.{WriteOptions}
 use Rattle.wkb_rewrite.specs.Shares.{Share, share_in, share_encoding, piece_encoding, HasRoomAt, IsLaid}
 use Rattle.wkb_rewrite.specs.Targets.{FrontFits, LaysFront, IsFrontSize, IsFrontEncoding}
 use Rattle.wkb_rewrite.proofs.Comparing.{encoded}
-use Rattle.wkb_rewrite.proofs.Measured.{here}
+use Rattle.wkb_check.proofs.Ahead.{here}
 use Rattle.wkb_rewrite.proofs.Encodings.{shares_encoding}
 use Rattle.wkb_rewrite.proofs.Spelled.{pieces_say}
 use Rattle.wkb_rewrite.proofs.Walks.{Rest, Next}

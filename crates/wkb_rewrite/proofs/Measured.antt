@@ -16,7 +16,7 @@ use Rattle.wkb_check.specs.Known.{HasGeometry}
 use Rattle.wkb_check.specs.Public.{DescribesFront}
 use Rattle.wkb_check.specs.Subjects.{Subject, rings_of, subjects, subjects_of_rings, subjects_of_each}
 use Rattle.wkb_check.specs.Pieces.{own_end, piece_of, ring_piece, piece_at, last_end, pieces_from, pieces_of}
-use Rattle.wkb_check.proofs.Ahead.{type_kind_is}
+use Rattle.wkb_check.proofs.Ahead.{here, type_kind_is}
 use Rattle.wkb_rewrite.proofs.Comparing.{same_spelling, value_good}
 use Rattle.wkb_rewrite.proofs.Laying.{most_srid}
 
@@ -85,15 +85,6 @@ own_srid_alone at (node h words ss) t x a p is low =
       ap (λ (q : Piece). srid_size (is_some q.srid)) is,
       srid_size_is (is_some h.srid),
     )
-
--- what was found is at the start of the bytes
-abbrev pub here : {buf : List ℕ} {found : Summary} → DescribesFront buf found → HasGeometry buf
-here d = record {
-  spelled = d.spelled;
-  value = d.value;
-  rest = d.rest;
-  begins = record { front = d.front.front; whole = d.front.whole; first = d.front.spelled };
-}
 
 -- whichever geometry is there, it has as many bytes
 pub long_of : {buf : List ℕ} {found : Summary} → DescribesFront buf found → (g : HasGeometry buf)

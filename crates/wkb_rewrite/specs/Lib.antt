@@ -2,4 +2,3 @@ pub mod Shares
 pub mod Targets
 pub mod Rewritings
 pub mod Copies
-pub mod Inputs

@@ -1,6 +1,6 @@
 use Rattle.std.proofs.Common.{sym, ◌∙◌}
 use Rattle.std.proofs.lemmas.Result.{IfOk-weaker}
-use Rattle.wkb_rewrite.proofs.Measured.{here}
+use Rattle.wkb_check.proofs.Ahead.{here}
 use Rattle.wkb.proofs.Rewritings.{filled, made}
 use Rattle.wkb.proofs.canon.rewritten.Goals as goal
 

@@ -1,4 +1,4 @@
-use Rattle.wkb_rewrite.proofs.Measured.{here}
+use Rattle.wkb_check.proofs.Ahead.{here}
 use Rattle.wkb.proofs.Rewritings.{compared}
 use Rattle.wkb.proofs.canon.same.Goals as goal
 

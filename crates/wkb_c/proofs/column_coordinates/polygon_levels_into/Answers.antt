@@ -1,6 +1,7 @@
 use Rattle.wkb_abi.proofs.Common.{refl, ◌∙◌}
 use Rattle.wkb_abi.specs.Coordinates.{written, no_room}
-use Rattle.wkb_rewrite.proofs.Measured.{here, kind_of}
+use Rattle.wkb_rewrite.proofs.Measured.{kind_of}
+use Rattle.wkb_check.proofs.Ahead.{here}
 use Rattle.wkb_c.proofs.column_coordinates.polygon_levels_into.Goals as goal
 
 pub returns-then-not-has_room-clause-laid : goal.returns-then-not-has_room-clause-laid

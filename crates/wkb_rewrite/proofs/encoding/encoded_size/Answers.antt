@@ -3,7 +3,8 @@ use Rattle.wkb_laws.specs.Prelude.{Endianness, LittleEndian, srid_size, encoding
 use Rattle.wkb_check.specs.Known.{HasGeometry}
 use Rattle.wkb_check.specs.Pieces.{IsAhead, pieces_of}
 use Rattle.wkb_check.proofs.Following.{given, all_given}
-use Rattle.wkb_rewrite.proofs.Measured.{srid_sizes, sizes_append, here, long_of, found_inside, measured}
+use Rattle.wkb_rewrite.proofs.Measured.{srid_sizes, sizes_append, long_of, found_inside, measured}
+use Rattle.wkb_check.proofs.Ahead.{here}
 use Rattle.wkb_rewrite.proofs.Laying.{most_srid}
 use Rattle.wkb_rewrite.proofs.encoding.encoded_size.Goals as goal
 use Rattle.wkb_rewrite.proofs.encoding.encoded_size.Goals.{After-into_iter-piece-iterator}

@@ -1,6 +1,6 @@
 use Rattle.std.proofs.Common.{arith, ap, sym, length, ◌∙◌}
 use Rattle.wkb_rewrite.proofs.Encoded.{alone_fits, alone_laid}
-use Rattle.wkb_rewrite.proofs.Measured.{here}
+use Rattle.wkb_check.proofs.Ahead.{here}
 use Rattle.wkb_rewrite.proofs.encoding.lay_encoding.Goals as goal
 
 pub lay_piece-requires : goal.lay_piece-requires

@@ -1,6 +1,7 @@
 use Rattle.std.proofs.Common.{◌≡◌, arith, lt-ltb, nat_lt, true}
 use Rattle.wkb_rewrite.proofs.Encoded.{alone_fits, alone_laid}
-use Rattle.wkb_rewrite.proofs.Measured.{here, kind_of}
+use Rattle.wkb_rewrite.proofs.Measured.{kind_of}
+use Rattle.wkb_check.proofs.Ahead.{here}
 use Rattle.wkb_rewrite.proofs.encoding.lay_one_piece.Goals as goal
 use Rattle.wkb_rewrite.proofs.encoding.lay_one_piece.Goals.{After-outermost-first}
 

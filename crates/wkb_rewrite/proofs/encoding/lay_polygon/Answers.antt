@@ -1,5 +1,6 @@
 use Rattle.std.proofs.Common.{◌≡◌, arith, ap, length}
-use Rattle.wkb_rewrite.proofs.Measured.{here, kind_of}
+use Rattle.wkb_rewrite.proofs.Measured.{kind_of}
+use Rattle.wkb_check.proofs.Ahead.{here}
 use Rattle.wkb_rewrite.proofs.encoding.lay_polygon.Goals as goal
 use Rattle.wkb_rewrite.proofs.encoding.lay_polygon.Goals.{After-polygon-first}
 

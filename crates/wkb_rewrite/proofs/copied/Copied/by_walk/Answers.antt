@@ -1,6 +1,7 @@
 use Rattle.std.proofs.Common.{◌+◌, arith}
 use Rattle.wkb_check.specs.Known.{HasGeometry}
-use Rattle.wkb_rewrite.proofs.Measured.{here, long_of, found_inside}
+use Rattle.wkb_rewrite.proofs.Measured.{long_of, found_inside}
+use Rattle.wkb_check.proofs.Ahead.{here}
 use Rattle.wkb_rewrite.proofs.Copying.{first_stands, one_more_stands, still_ahead, IsCopied, all_stand}
 use Rattle.wkb_rewrite.proofs.copied.Copied.by_walk.Goals as goal
 use Rattle.wkb_rewrite.proofs.copied.Copied.by_walk.Goals.{After-size_of_srid-start}

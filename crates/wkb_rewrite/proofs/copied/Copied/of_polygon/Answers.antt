@@ -1,7 +1,8 @@
 use Rattle.std.proofs.Common.{◌+◌, arith}
 use Rattle.wkb_check.specs.Known.{HasGeometry}
 use Rattle.wkb_check.specs.declared.pieces.Pieces.{Pieces}
-use Rattle.wkb_rewrite.proofs.Measured.{here, long_of, found_inside}
+use Rattle.wkb_rewrite.proofs.Measured.{long_of, found_inside}
+use Rattle.wkb_check.proofs.Ahead.{here}
 use Rattle.wkb_rewrite.proofs.Copying.{IsCopied, polygon_stands}
 use Rattle.wkb_rewrite.proofs.copied.Copied.of_polygon.Goals as goal
 use Rattle.wkb_rewrite.proofs.copied.Copied.of_polygon.Goals.{After-size_of_srid-start}
