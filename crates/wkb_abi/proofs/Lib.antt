@@ -1,6 +1,7 @@
 pub mod Common
 pub mod Telling
 pub mod Rows
+pub mod Entries
 pub mod Spans
 pub mod Levels
 pub mod KindTotals

@@ -9,7 +9,7 @@ use denote.Struct.Declared.{Declared, row}
 use denote.Struct.Values.{Values}
 use mir.Syntax.{Ty}
 use prog.Offsets.{Lies}
-use Rattle.wkb_check.specs.contracts.parts.Part.{the_type as part}
+use Rattle.wkb_abi.specs.contracts.parts.Part.{the_type as part}
 use Rattle.wkb_bounds.specs.contracts.range.Bounds.{the_type as bounds}
 use Rattle.wkb_bounds.specs.contracts.range.Range.{the_type as range}
 use Rattle.wkb_abi.specs.contracts.column.Column.{the_type as column}

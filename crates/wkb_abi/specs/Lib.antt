@@ -13,4 +13,5 @@ pub mod Room
 pub mod RowItems
 pub mod Statuses
 pub mod Subjects
+pub mod Tables
 pub mod Writings

@@ -6,7 +6,7 @@ use Rattle.wkb_abi.specs.declared.column.Column.{Column}
 use Rattle.wkb_abi.specs.Subjects.{HasTable}
 use Rattle.wkb_abi.specs.Writings.{HasEncoding, FailsToWrite}
 use Rattle.wkb_abi.specs.declared.options.Options.{Options}
-use Rattle.wkb_check.specs.declared.parts.Part.{Part}
+use Rattle.wkb_abi.specs.declared.parts.Part.{Part}
 use Rattle.wkb_levels.specs.Cuts.{start_at}
 use Rattle.wkb_abi.specs.declared.status.TheConstants.{OK, NO_ROOM}
 

@@ -6,8 +6,8 @@ use Rattle.wkb_geom.specs.Numbers.{number}
 use Rattle.wkb_geom.specs.Values.{Coordinate, Value, member_count}
 use Rattle.wkb_geom.specs.Spellings.{Spelling}
 use Rattle.wkb_check.specs.Subjects.{Subject, order_in, subject_coordinates, SpellsSubject, subjects}
-use Rattle.wkb_check.specs.Tables.{geometry_entries}
-use Rattle.wkb_check.specs.declared.parts.Part.{Part}
+use Rattle.wkb_abi.specs.Tables.{geometry_entries}
+use Rattle.wkb_abi.specs.declared.parts.Part.{Part}
 use Rattle.wkb_abi.specs.Room.{IsHeld}
 
 -- word n of coordinate i of the part is the number at its place in the input

@@ -3,7 +3,8 @@
 ghost use Rattle.wkb_check.specs.Public.{DescribesFront};
 ghost use Rattle.wkb_abi.specs.Checks.{IsFound};
 
-use wkb_check::{Piece, Summary, width_number};
+use crate::parts::width_number;
+use wkb_check::{Piece, Summary};
 
 /// The geometry at the start of some bytes.
 #[repr(C)]

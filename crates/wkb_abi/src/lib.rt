@@ -1,5 +1,5 @@
-//! What crosses to C, and what its calls share: statuses and refusals, options, the rows of a column and their levels.
-//! No call allocates.
+//! What crosses to C, and what its calls share: statuses and refusals, options, the table of parts, the rows of a column
+//! and their levels. No call allocates.
 #![tactic(auto)]
 
 pub mod column;
@@ -10,5 +10,6 @@ pub mod level_column;
 pub mod level_slices;
 pub mod numbers;
 pub mod options;
+pub mod parts;
 pub mod status;
 pub mod totals;

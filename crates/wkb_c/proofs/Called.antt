@@ -7,8 +7,8 @@ use Rattle.wkb_geom.specs.Fronts.{Front}
 use Rattle.wkb_check.specs.Known.{HasGeometries}
 use Rattle.wkb_check.specs.Pieces.{last_end, IsPieceAt}
 use Rattle.wkb_check.specs.Subjects.{whole}
-use Rattle.wkb_check.specs.Tables.{geometry_entries, FitGeometries, entry_at, entry_of}
-use Rattle.wkb_check.specs.declared.parts.Part.{Part}
+use Rattle.wkb_abi.specs.Tables.{geometry_entries, FitGeometries, entry_at, entry_of}
+use Rattle.wkb_abi.specs.declared.parts.Part.{Part}
 use Rattle.wkb_check.proofs.Placing.{spelled_end, alone}
 use Rattle.wkb_check.proofs.Joining.{geometry_of_front}
 use Rattle.wkb_abi.specs.Subjects.{IsTable, LacksEntries, HasTable, HasParts}

@@ -12,8 +12,9 @@ use Rattle.wkb_laws.proofs.Lengths.{coordinates_length}
 use Rattle.wkb_laws.proofs.Parts.{item_at}
 use Rattle.wkb_check.specs.Pieces.{own_end, piece_at}
 use Rattle.wkb_check.specs.Subjects.{whole, ring, order_in, subject_coordinates, SpellsSubject, rings_of}
-use Rattle.wkb_check.specs.Tables.{entry_at, entries_from, geometry_entries}
-use Rattle.wkb_check.proofs.Placing.{spelled_end, rings_many, as_many_entries}
+use Rattle.wkb_abi.specs.Tables.{entry_at, entries_from, geometry_entries}
+use Rattle.wkb_check.proofs.Placing.{spelled_end, rings_many}
+use Rattle.wkb_abi.proofs.Entries.{as_many_entries}
 use Rattle.wkb_check.proofs.Subjects.{Stands, ArePlaced, all_placed, IsPieceOf, says}
 use Rattle.wkb_abi.specs.Subjects.{HoldsWords, HoldsSubject, HoldEach}
 

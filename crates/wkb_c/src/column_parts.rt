@@ -7,7 +7,8 @@ ghost use Rattle.wkb_abi.specs.RowItems.{rows_of, AreTables, IsTableStep, KeepsR
 
 use crate::parts::list_parts;
 use wkb_abi::column::{Column, check_row};
-use wkb_check::{Part, check_plain};
+use wkb_abi::parts::Part;
+use wkb_check::check_plain;
 
 /// Lists the parts of each row of a column after those of the rows before it, as far as there is room: a status a row,
 /// and where its parts end.

@@ -8,8 +8,9 @@ ghost use Rattle.wkb_abi.specs.Subjects.{IsTable, LacksEntries};
 
 use crate::check::check_input;
 use wkb_abi::fault::WkbFault;
+use wkb_abi::parts::{Part, PartPlace, lay_geometries};
 use wkb_abi::status::{NO_ROOM, OK};
-use wkb_check::{Part, PartPlace, Piece, Summary, check_plain, lay_geometries};
+use wkb_check::{Piece, Summary, check_plain};
 
 /// Lists the parts of the geometry at the start of the bytes in preorder, and writes their number.
 ///

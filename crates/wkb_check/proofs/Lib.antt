@@ -9,6 +9,5 @@ pub mod Subjects
 pub mod Ahead
 pub mod Rings
 pub mod Placing
-pub mod Filling
 pub mod Following
 pub mod Joining

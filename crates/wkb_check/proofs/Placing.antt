@@ -1,9 +1,9 @@
--- Geometries one after another, from their bytes into a table.
+-- Geometries one after another, and what is inside each, by their bytes.
 use Rattle.std.proofs.Common.{◌≡◌, ◌≢◌, ℕ, zero, suc, ◌+◌, ◌<◌, ◌≤◌, List, [], ◌∷◌, ◌++◌, length, drop, set}
 use Rattle.std.proofs.Common.{refl, sym, ap, ◌∙◌, subst, arith, length-append, append-nil, length-drop}
-use Rattle.std.proofs.Common.{None, Some, is_some, true, false, nat_lt, le-ltb, ltb-false, add-one}
+use Rattle.std.proofs.Common.{None, Some, is_some, true, false, nat_lt, le-ltb, ltb-false}
 use Rattle.std.proofs.lemmas.Bool.{cond_both}
-use Rattle.std.proofs.lemmas.List.{drop-drop, set_comm}
+use Rattle.std.proofs.lemmas.List.{drop-drop}
 use lib.Seq.{sets}
 use Rattle.wkb_laws.specs.Prelude.{Endianness, Dimension, Begins, Coordinate, Value, Values}
 use Rattle.wkb_laws.specs.Prelude.{point, line_string, polygon, multi_point, multi_line_string, multi_polygon}
@@ -21,28 +21,16 @@ use Rattle.wkb_check.specs.Known.{HasGeometry, HasGeometries, AreWhole}
 use Rattle.wkb_check.specs.Subjects.{Subject, whole, ring, rings_of, subjects, subjects_of_rings, subjects_of_each}
 use Rattle.wkb_check.specs.Pieces.{count_of, leading, own_end, piece_of, ring_piece, piece_at, last_end, pieces_from}
 use Rattle.wkb_check.specs.Pieces.{pieces_of, first_rings, IsInside}
-use Rattle.wkb_check.specs.Tables.{entry_of, entry_at, entries_from, geometry_entries}
-use Rattle.wkb_check.specs.declared.parts.Part.{Part}
 use Rattle.wkb_check.specs.declared.pieces.Piece.{Piece}
 use Rattle.wkb_check.proofs.Bodies.{RingsFirst, rings_first, wanted_by_any, rest_smaller}
 
 -- ---- stores
 
 module _ {A : Type 0} where
-  pub set_first : (l : List A) (i j : ℕ) (a : A) (vs : List A) → i < j → set (sets l j vs) i a ≡ sets (set l i a) j vs
-  set_first l i j a [] h = refl
-  set_first l i j a (v ∷ vs) h =
-      set_first (set l j v) i (suc j) a vs (omega (arith, h))
-      ∙ ap (λ r. sets r (suc j) vs) (set_comm l j i v a (λ e. omega (arith, e, h)))
-
   pub sets_after : (l : List A) (i j : ℕ) (xs ys : List A) → j ≡ i + length xs
       → sets (sets l i xs) j ys ≡ sets l i (xs ++ ys)
   sets_after l i j [] ys e = ap (λ k. sets l k ys) (omega (arith, e))
   sets_after l i j (x ∷ xs) ys e = sets_after (set l i x) (suc i) j xs ys (omega (arith, e))
-
-  -- an item that is laid last, before others
-  pub laid_first : (l r : List A) (i : ℕ) (a : A) (vs : List A) → r ≡ sets l (i + 1) vs → set r i a ≡ sets l i (a ∷ vs)
-  laid_first l r i a vs e = rw (e, ← add-one i) (set_first l i (i + 1) a vs (omega arith))
 
 -- ---- where bytes stand
 
@@ -181,19 +169,6 @@ pub rings_many : (order : Endianness) (d : Dimension) (rings : List (List Coordi
     → length (subjects_of_rings order d rings) ≡ length rings
 rings_many order d [] = refl
 rings_many order d (cs ∷ rings) = omega (arith, rings_many order d rings)
-
-pub as_many_entries : (index at : ℕ) (xs : List Subject) → length (entries_from index at xs) ≡ length xs
-as_many_entries index at [] = refl
-as_many_entries index at (x ∷ xs) = omega (arith, as_many_entries (index + 1) (own_end (piece_at at x)) xs)
-
-pub entries_append : (index at next to : ℕ) (xs ys : List Subject) → next ≡ index + length xs → to ≡ last_end at xs
-    → entries_from index at xs ++ entries_from next to ys ≡ entries_from index at (xs ++ ys)
-entries_append index at next to [] ys n e =
-    let here : next ≡ index = omega (arith, n) in
-    λ i. entries_from (here i) (e i) ys
-entries_append index at next to (x ∷ xs) ys n e =
-    ap (λ es. entry_at index at x ∷ es)
-    (entries_append (index + 1) (own_end (piece_at at x)) next to xs ys (omega (arith, n)) e)
 
 -- ---- the first of some geometries
 
@@ -459,26 +434,3 @@ module _ (buf : List ℕ) (at : ℕ) (g : HasGeometry (drop at buf)) (p : Piece)
         let more : nat_lt (kind g.value) 4 ≡ false =
         le-ltb (kind g.value) 4 (omega (arith, kind_of, other, ltb-false p.kind 3 high)) in
         rw (ends, is) (has_members buf at g.spelled g.value g.rest g.begins more order d)
-
--- The entry of this geometry and of what is inside it are laid at this index, and the next place is the one after them.
-pub record IsLaid (parts new : List Part) (index at next to : ℕ) (s : Spelling) (t : Value) : Type 0 where
-  pub laid : new ≡ sets parts index (geometry_entries index at s t)
-  pub next_is : next ≡ index + length (subjects s t)
-  pub to_is : to ≡ last_end at (subjects s t)
-
--- so it is where the own entry is laid after those of what is inside
-pub item_laid : (index at : ℕ) (s : Spelling) (t : Value) (p : Piece) → p ≡ piece_of at s t
-    → (parts with : List Part) (from next to : ℕ) (e : Part) → from ≡ own_end p
-    → with ≡ sets parts (index + 1) (entries_from (index + 1) from (inner s t))
-    → next ≡ index + length (subjects s t) → to ≡ last_end at (subjects s t) → e ≡ entry_of p to next
-    → IsLaid parts (set with index e) index at next to s t
-item_laid index at s t p p-is parts with from next to e ends laid n b e-is = record {
-  laid =
-      laid_first parts with index e (entries_from (index + 1) from (inner s t)) laid
-      ∙ (λ j. sets parts index
-      ((e-is ∙ (λ k. entry_of (p-is k) (b k) (n k))) j
-      ∷ entries_from (index + 1) ((ends ∙ ap own_end p-is) j) (inner s t)))
-      ∙ ap (λ xs. sets parts index (entries_from index at xs)) (sym (itself_first s t));
-  next_is = n;
-  to_is = b;
-}

@@ -1,19 +1,16 @@
 //! A check of Well-Known Binary that allocates nothing. It accepts what the reader accepts, and reports why and where
 //! the reader rejects, by one walk over the bytes with a fixed stack of counts.
 //!
-//! Of bytes that it accepts, the pieces: a geometry, its rings and its members at every level, one after another; and
-//! the table of parts, which has an entry for each.
+//! Of bytes that it accepts, the pieces: a geometry, its rings and its members at every level, one after another.
 #![tactic(auto)]
 
 mod answer;
 mod head;
 mod nested;
-mod parts;
 mod pieces;
 mod skip;
 mod walk;
 
 pub use answer::{Refused, Summary, check, check_member, check_plain};
 pub use head::size_of_srid;
-pub use parts::{Part, PartPlace, lay_geometries, width_number};
 pub use pieces::{Piece, Pieces, RING};

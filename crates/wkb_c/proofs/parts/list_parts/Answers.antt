@@ -1,5 +1,5 @@
 use Rattle.wkb_abi.proofs.Common.{arith, ap, ◌∙◌, append-nil, sets, set, subjects}
-use Rattle.wkb_check.specs.Tables.{entries_from}
+use Rattle.wkb_abi.specs.Tables.{entries_from}
 use Rattle.wkb_c.proofs.Called.{fits_table, table_laid, one_geometry, whole_laid, parts_found}
 use Rattle.wkb_c.proofs.parts.list_parts.Goals as goal
 

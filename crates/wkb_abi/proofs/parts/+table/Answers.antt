@@ -4,15 +4,15 @@ use Rattle.wkb_geom.specs.declared.common.Dimension.TheVariants.{Xy}
 use Rattle.wkb_geom.specs.declared.common.Endianness.TheVariants.{BigEndian}
 use Rattle.wkb_check.specs.Pieces.{last_end}
 use Rattle.wkb_check.specs.Subjects.{Subject, subjects_of_each}
-use Rattle.wkb_check.specs.Tables.{entries_from}
-use Rattle.wkb_check.specs.declared.parts.Part.{Part}
-use Rattle.wkb_check.specs.declared.parts.PartPlace.{PartPlace}
-use Rattle.wkb_check.proofs.Filling.{left_first, left_next, here}
+use Rattle.wkb_abi.specs.Tables.{entries_from}
+use Rattle.wkb_abi.specs.declared.parts.Part.{Part}
+use Rattle.wkb_abi.specs.declared.parts.PartPlace.{PartPlace}
 use Rattle.wkb_check.proofs.Placing.{geometry_inside, onward, leaf_inside, rings_inside, members_inside, rings_alone}
-use Rattle.wkb_check.proofs.Placing.{item_laid, none_of, inside_many, inner_end}
-use Rattle.wkb_check.proofs.parts.+table.Goals as goal
-use Rattle.wkb_check.proofs.parts.+table.Goals.{then-has_coordinates, else-has_coordinates+then-piece-eq-POLYGON}
-use Rattle.wkb_check.proofs.parts.+table.Goals.{else-has_coordinates+else-piece-eq-POLYGON}
+use Rattle.wkb_check.proofs.Placing.{none_of, inside_many, inner_end}
+use Rattle.wkb_abi.proofs.Entries.{item_laid, left_first, left_next, here}
+use Rattle.wkb_abi.proofs.parts.+table.Goals as goal
+use Rattle.wkb_abi.proofs.parts.+table.Goals.{then-has_coordinates, else-has_coordinates+then-piece-eq-POLYGON}
+use Rattle.wkb_abi.proofs.parts.+table.Goals.{else-has_coordinates+else-piece-eq-POLYGON}
 
 pub loop-init : goal.loop-init
 loop-init t c = λ more all. left_first (omega arith)

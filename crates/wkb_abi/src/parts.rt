@@ -2,9 +2,9 @@
 
 ghost use Rattle.std.specs.Prelude.{◌≡◌, ◌+◌, ◌≤◌, length, drop};
 ghost use Rattle.wkb_geom.specs.Dimensions.{width};
-ghost use Rattle.wkb_check.specs.Tables.{entry_of, HasRingsFrom, LaysRings, FitGeometries, LaysFrom};
+ghost use Rattle.wkb_abi.specs.Tables.{entry_of, HasRingsFrom, LaysRings, FitGeometries, LaysFrom};
 
-use crate::pieces::Piece;
+use wkb_check::Piece;
 use wkb_geom::Dimension;
 use wkb_geom::code::POLYGON;
 
@@ -26,7 +26,7 @@ pub struct Part {
 }
 
 /// How many words a coordinate has.
-#[tactic(auto, using(crate::proofs::Rings::width_is_small))]
+#[tactic(auto, using(crate::proofs::Entries::width_is_small))]
 pub fn width_number(dimension: Dimension) -> u32
     ensures { result ≡ width dimension }
 {
