@@ -18,6 +18,7 @@ use Rattle.wkb_rewrite.specs.Shares.{share_in, share_encoding, own_words, is_emp
 use Rattle.wkb_sink.specs.Options.{header_of}
 use Rattle.wkb_sink.specs.declared.options.WriteOptions.{WriteOptions}
 use Rattle.wkb_rewrite.specs.Targets.{encoding_for}
+use Rattle.wkb_rewrite.specs.Copies.{IsCopied}
 use Rattle.wkb_rewrite.specs.Rewritings.{HasPassed}
 use Rattle.wkb_rewrite.proofs.Encodings.{shares_encoding, inner_twice}
 use Rattle.wkb_rewrite.proofs.Measured.{srid_sizes, measured}
@@ -103,13 +104,6 @@ module _ {buf : List ℕ} {order : Endianness} {form : Form} where
       }
 
 -- ---- the two parts
-
--- where all of them do, the encoding is a header, and the input's bytes behind its own header
-pub record IsCopied {buf : List ℕ} (options : WriteOptions) (first : Piece) (bytes start : ℕ) (g : HasGeometry buf)
-    : Type 0 where
-  pub inside : start ≤ bytes
-  pub is : encoding_for options g.value
-      ≡ header_of options (type_of first.kind first.dimension) ++ take (bytes - start) (drop start buf)
 
 pub all_stand : {buf : List ℕ} (options : WriteOptions) {inside : Form} {w : Pieces} {first : Piece} {bytes start : ℕ}
     {g : HasGeometry buf} → AreBytes buf → IsPieceAt buf 0 first → inside ≡ inner options.form

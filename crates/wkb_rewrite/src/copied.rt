@@ -3,13 +3,12 @@
 ghost use Rattle.std.specs.Prelude.{◌≡◌, ◌≢◌, ◌+◌, ◌-◌, ◌≤◌, List, length, take, drop, IfSome, None, []};
 ghost use Rattle.std.specs.Prelude.{true, false};
 ghost use Rattle.wkb_geom.specs.declared.header.TheConstants.{MEMBER_HEADER_SIZE, MAX_HEADER_SIZE};
-ghost use Rattle.wkb_geom.specs.declared.code.TheConstants.{POLYGON};
-ghost use Rattle.wkb_check.specs.Pieces.{own_end, IsPieceAt, IsAhead, HasAhead};
+ghost use Rattle.wkb_check.specs.Pieces.{own_end, IsAhead, HasAhead};
 ghost use Rattle.wkb_check.specs.Public.{DescribesFront};
 ghost use Rattle.wkb_check.specs.declared.pieces.TheConstants.{RING};
 ghost use Rattle.wkb_rewrite.specs.Shares.{IsLaid, is_empty_point};
 ghost use Rattle.wkb_rewrite.specs.Rewritings.{CodeStands, StandsAsWritten, HasPassed};
-ghost use Rattle.wkb_rewrite.specs.Copies.{copied_header, copied_encoding};
+ghost use Rattle.wkb_rewrite.specs.Copies.{copied_header, copied_encoding, StandsBehindHeader};
 ghost use Rattle.wkb_rewrite.specs.Targets.{IsFrontEncoding};
 
 use crate::lay::lay_type_header;
@@ -121,26 +120,19 @@ impl<'a> Copied<'a> {
                 return None;
             }
         }
-        let start = MEMBER_HEADER_SIZE + size_of_srid(first.srid);
-        Some(Copied {
-            options,
-            wkb_type: of_kind(first.kind, first.dimension),
-            rest: &buf[start..found.bytes],
-        })
+        Some(Copied::behind_header(buf, found, &first, options))
     }
 
-    /// As `of`, of a polygon that has the order of the options: its rings stand as they are written.
+    /// The encoding of the geometry that has this first piece, where all behind its header stands as it is written.
     #[inline(always)]
-    pub fn of_polygon(
+    pub fn behind_header(
         buf: &'a [u8],
         found: &Summary,
         first: &Piece,
         options: WriteOptions,
     ) -> Copied<'a>
         requires found { DescribesFront buf.now found.now }
-        requires first { IsPieceAt buf.now 0 first.now }
-        requires polygon { first.now.kind ≡ POLYGON }
-        requires order { first.now.order ≡ options.endianness }
+        requires stands { StandsBehindHeader buf.now found.now.bytes first.now options }
         ensures { IsFrontEncoding buf.now options (copied_encoding result) }
     {
         let start = MEMBER_HEADER_SIZE + size_of_srid(first.srid);

@@ -142,7 +142,7 @@ pub fn lay_polygon(buf: &[u8], found: &Summary, options: WriteOptions, out: &mut
             lay_rings(buf, &first, WriteOptions { endianness, form }, out);
         }
         _ => {
-            Copied::of_polygon(buf, found, &first, options).lay(out);
+            Copied::behind_header(buf, found, &first, options).lay(out);
         }
     }
 }

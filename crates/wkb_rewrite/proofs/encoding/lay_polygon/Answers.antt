@@ -1,6 +1,8 @@
-use Rattle.std.proofs.Common.{◌≡◌, arith, ap, length}
-use Rattle.wkb_rewrite.proofs.Measured.{kind_of}
+use Rattle.std.proofs.Common.{◌≡◌, arith, ap, length, refl, rules}
 use Rattle.wkb_check.proofs.Ahead.{here}
+use Rattle.wkb_check.specs.declared.pieces.Pieces.{Pieces}
+use Rattle.wkb_rewrite.proofs.Measured.{kind_of, long_of}
+use Rattle.wkb_rewrite.proofs.Copying.{polygon_stands}
 use Rattle.wkb_rewrite.proofs.encoding.lay_polygon.Goals as goal
 use Rattle.wkb_rewrite.proofs.encoding.lay_polygon.Goals.{After-polygon-first}
 
@@ -17,10 +19,23 @@ pub lay_rings-requires-in-LittleEndian-BigEndian-clause-polygon :
 lay_rings-requires-in-LittleEndian-BigEndian-clause-polygon c =
     polygon (goal.at.lay_rings-requires-in-LittleEndian-BigEndian-clause-polygon c).After-polygon-first
 
-pub of_polygon-requires-clause-polygon : goal.of_polygon-requires-clause-polygon
-of_polygon-requires-clause-polygon c = polygon (goal.at.of_polygon-requires-clause-polygon c).After-polygon-first
+pub behind_header-requires-clause-stands : goal.behind_header-requires-clause-stands
+behind_header-requires-clause-stands c = λ g.
+    let first = c.polygon-first.result in
+    let walk : Pieces =
+    record {
+      bytes = c.args.buf;
+      at = 0;
+      rings = 0;
+      geometries = 1;
+      order = first.order;
+      dimension = first.dimension;
+    } in
+    polygon_stands c.args.options walk (λ i. (c.type_inv.buf i).fits) c.polygon-first.ensures
+    (polygon (goal.at.behind_header-requires-clause-stands c).After-polygon-first) (search rules) g
+    (long_of c.requires.here g) refl
 
 pub lay-requires : goal.lay-requires
 lay-requires c =
     let g = here c.requires.here in
-    omega (arith, ap length (c.of_polygon.ensures g), c.requires.room g)
+    omega (arith, ap length (c.behind_header.ensures g), c.requires.room g)

@@ -1,28 +1,14 @@
-use Rattle.std.proofs.Common.{◌+◌, arith}
+use Rattle.std.proofs.Common.{◌+◌}
 use Rattle.wkb_check.specs.Known.{HasGeometry}
-use Rattle.wkb_check.specs.declared.pieces.Pieces.{Pieces}
-use Rattle.wkb_rewrite.proofs.Measured.{long_of, found_inside}
 use Rattle.wkb_check.proofs.Ahead.{here}
-use Rattle.wkb_rewrite.proofs.Copying.{IsCopied, polygon_stands}
-use Rattle.wkb_rewrite.proofs.copied.Copied.of_polygon.Goals as goal
-use Rattle.wkb_rewrite.proofs.copied.Copied.of_polygon.Goals.{After-size_of_srid-start}
+use Rattle.wkb_rewrite.specs.Copies.{IsCopied}
+use Rattle.wkb_rewrite.proofs.Measured.{found_inside}
+use Rattle.wkb_rewrite.proofs.copied.Copied.behind_header.Goals as goal
+use Rattle.wkb_rewrite.proofs.copied.Copied.behind_header.Goals.{After-size_of_srid-start}
 
--- the parts
 copied : (c : After-size_of_srid-start) (g : HasGeometry c.args.buf.now)
     → IsCopied c.args.options c.args.first.now c.args.found.now.bytes (5 + c.size_of_srid-start.result) g
-copied c g =
-    let first = c.args.first.now in
-    let walk : Pieces =
-    record {
-      bytes = c.args.buf;
-      at = 0;
-      rings = 0;
-      geometries = 1;
-      order = first.order;
-      dimension = first.dimension;
-    } in
-    polygon_stands c.args.options walk (λ i. (c.type_inv.buf i).fits) c.requires.first c.requires.polygon
-    c.requires.order g (long_of c.requires.found g) (omega (arith, c.size_of_srid-start.ensures))
+copied c g = rw c.size_of_srid-start.ensures (c.requires.stands g)
 
 pub slice_bounds-result-count : goal.slice_bounds-result-count
 slice_bounds-result-count c =

@@ -1,10 +1,8 @@
-use Rattle.std.proofs.Common.{◌+◌, arith}
-use Rattle.wkb_check.specs.Known.{HasGeometry}
-use Rattle.wkb_rewrite.proofs.Measured.{long_of, found_inside}
+use Rattle.std.proofs.Common.{arith, refl}
 use Rattle.wkb_check.proofs.Ahead.{here}
-use Rattle.wkb_rewrite.proofs.Copying.{first_stands, one_more_stands, still_ahead, IsCopied, all_stand}
+use Rattle.wkb_rewrite.proofs.Measured.{long_of}
+use Rattle.wkb_rewrite.proofs.Copying.{first_stands, one_more_stands, still_ahead, all_stand}
 use Rattle.wkb_rewrite.proofs.copied.Copied.by_walk.Goals as goal
-use Rattle.wkb_rewrite.proofs.copied.Copied.by_walk.Goals.{After-size_of_srid-start}
 
 pub behind-pieces-requires : goal.behind-pieces-requires
 behind-pieces-requires c = record { here = here c.requires; first = c.outermost-first.ensures }
@@ -24,10 +22,8 @@ loop-stands-preserved c = λ g.
     one_more_stands (λ i. (c.type_inv.buf i).fits) c.args.options.form c.inner-form.ensures
     (c.loop-stands.invariant g) c.in-Some.ensures.passed c.if-not-stands.false
 
--- the parts, where no piece is left
-copied : (c : After-size_of_srid-start) (g : HasGeometry c.args.buf.now)
-    → IsCopied c.args.options c.outermost-first.result c.args.found.now.bytes (5 + c.size_of_srid-start.result) g
-copied c g =
+pub behind_header-requires-clause-stands : goal.behind_header-requires-clause-stands
+behind_header-requires-clause-stands c = λ g.
     let l = c.loop-stands.invariant g in
     let inside = c.behind-pieces.ensures.inside in
     all_stand c.args.options (λ i. (c.type_inv.buf i).fits) c.outermost-first.ensures c.inner-form.ensures
@@ -35,18 +31,4 @@ copied c g =
     (c.pass_next.ensures.none c.in_default.is l.left l.ahead)
     (c.has_written_words.ensures.order c.if-not-has_written_words.false)
     (c.has_written_words.ensures.some c.if-not-has_written_words.false)
-    (omega (arith, inside.ends, inside.inside)) (omega (arith, c.size_of_srid-start.ensures))
-
-pub slice_bounds-result-count : goal.slice_bounds-result-count
-slice_bounds-result-count c =
-    (copied (goal.at.slice_bounds-result-count c).After-size_of_srid-start (here c.requires)).inside
-
-pub slice_bounds-result-start : goal.slice_bounds-result-start
-slice_bounds-result-start c =
-    (copied (goal.at.slice_bounds-result-start c).After-size_of_srid-start (here c.requires)).inside
-
-pub slice_bounds-result-end : goal.slice_bounds-result-end
-slice_bounds-result-end c = found_inside c.requires
-
-pub returns : goal.returns
-returns c = λ g. rw c.of_kind.ensures (copied (goal.at.returns c).After-size_of_srid-start g).is
+    (omega (arith, inside.ends, inside.inside)) refl
