@@ -89,7 +89,7 @@ module _ {buf : List ℕ} {order : Endianness} {form : Form} where
       let again : inner form ≡ form = ap inner is ∙ inner_twice outer ∙ sym is in
       let here = share_encoding order form (share_in buf p) in
       let there = there_span b (taken_there old b l.same l.ahead taken) none w
-      (omega (arith, passed.step.inside.ends, passed.step.inside.inside, ap length l.same)) in
+      (omega (arith, ap length l.same)) in
       record {
         others = l.others;
         left = taken.rest;
@@ -100,7 +100,7 @@ module _ {buf : List ℕ} {order : Endianness} {form : Form} where
         spans = span_on l.spans (subst (λ k. Spans buf old.at k here) (sym passed.step.inside.ends) there);
         whole = l.whole ∙ ap (λ ps. l.so_far ++ pieces_encoding buf order form ps) taken.first
             ∙ simp (again, append_assoc);
-        srids = omega (arith, l.srids, ap srid_sizes taken.first, ap (λ s. srid_size (is_some s)) w.plain);
+        srids = omega (arith, ap srid_sizes taken.first, ap (λ s. srid_size (is_some s)) w.plain);
       }
 
 -- ---- the two parts
@@ -129,16 +129,14 @@ all_stand {buf = buf} options {inside = inside} {w = w} {first = first} {bytes =
       append-nil,
       append_assoc,
     )) in
-    let at : first.begin + (5 + srid_size (is_some first.srid)) ≡ start = omega (arith, start_is, own.begins) in
+    let at : first.begin + (5 + srid_size (is_some first.srid)) ≡ start = omega arith in
     let stands : Spans buf start (own_end first) body = rw (← at, ← order_is) (own.body fits some) in
     let there : Spans buf start w.at tail = span_on stands l.spans in
     let ends : bytes ≡ start + length tail =
     omega (
       arith,
-      start_is,
       measured order form buf g b long,
       ap srid_sizes l.all,
-      l.srids,
       ap srid_sizes none,
       ap length parts,
       length-append head tail,
@@ -146,11 +144,11 @@ all_stand {buf = buf} options {inside = inside} {w = w} {first = first} {bytes =
           (type_dimension (type_of first.kind first.dimension)),
     ) in
     record {
-      inside = omega (arith, ends);
+      inside = omega arith;
       is = parts
           ∙ ap (λ z. head ++ z)
           (sym (ap (take (bytes - start)) there.is
-          ∙ take_front (bytes - start) tail (drop w.at buf) (omega (arith, ends))));
+          ∙ take_front (bytes - start) tail (drop w.at buf) (omega arith)));
     }
 
 -- ---- a polygon
@@ -189,10 +187,10 @@ rings_stand : {buf : List ℕ} {order : Endianness} (outer : Form) {first : Piec
     → StandSoFar buf order (inner outer) w first g
     → AllStand buf order (inner outer) first g
 rings_stand outer b zero w rings alone order_is l =
-    record { walk = w; so_far = l; none = none_ahead l.ahead (omega (arith, rings)) (omega (arith, alone)) }
+    record { walk = w; so_far = l; none = none_ahead l.ahead (omega arith) (omega arith) }
 rings_stand outer b (suc n) w rings alone order_is l =
-    rings_stand outer b n (past_ring w) (omega (arith, rings)) alone order_is
-    (one_more_stands b outer refl l (ring_passed w (still_ahead l) (omega (arith, rings)) order_is) refl)
+    rings_stand outer b n (past_ring w) (omega arith) alone order_is
+    (one_more_stands b outer refl l (ring_passed w (still_ahead l) (omega arith) order_is) refl)
 
 no_point : (buf : List ℕ) (p : Piece) → p.kind ≡ 3 → is_empty_point buf p ≡ false
 no_point buf p three = ap (λ k. (k == 1) && all_nan (own_words buf p)) three

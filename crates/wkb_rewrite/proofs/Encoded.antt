@@ -34,7 +34,7 @@ module _ {buf : List ℕ} {order : Endianness} {form : Form} {w : Pieces} {at : 
   pub left_none : l.shares ≡ [] → (at ≡ length whole) × (out ≡ sets before 0 whole)
   left_none none =
       let nothing : shares_encoding order form l.shares ≡ [] = ap (shares_encoding order form) none in
-      (omega (arith, l.size, ap length nothing), ap (sets out at) (sym nothing) ∙ l.laid)
+      (omega (arith, ap length nothing), ap (sets out at) (sym nothing) ∙ l.laid)
 
   module _ {new : Pieces} {p : Piece} (n : Next buf new l.shares p) where
     abbrev pub own : List ℕ
@@ -47,14 +47,14 @@ module _ {buf : List ℕ} {order : Endianness} {form : Form} {w : Pieces} {at : 
     all = ap (shares_encoding order form) n.first
 
     pub left_room : length whole ≤ length before → at + length own ≤ length out
-    left_room room = omega (arith, room, l.size, l.long, ap length all, length-append own others)
+    left_room room = omega (arith, ap length all, length-append own others)
 
     pub left_next : {to : ℕ} {with : List ℕ} → IsLaid out with at to own
         → Left buf order (inner form) new to with before whole
     left_next {to = to} p = record {
       shares = n.others;
       rest = n.left;
-      size = omega (arith, l.size, p.end_is, ap length all, length-append own others);
+      size = omega (arith, ap length all, length-append own others);
       laid = ap (λ z. sets z to others) p.laid ∙ sets_after out at to own others p.end_is ∙ ap (sets out at) (sym all)
           ∙ l.laid;
       long = laid_length p ∙ l.long;
@@ -77,7 +77,7 @@ module _ {buf : List ℕ} (order : Endianness) (form : Form) (g : HasGeometry bu
 
   pub first_room : (out : List ℕ) → length (encoding order form (geometry_of g.value)) ≤ length out
       → HasRoomAt out 0 (share_encoding order form (share_in buf p))
-  first_room out fits = omega (arith, fits, ap length first_all, length-append first_own first_others)
+  first_room out fits = omega (arith, ap length first_all, length-append first_own first_others)
 
   pub first_left : {to : ℕ} {out with : List ℕ} → w.bytes.now ≡ buf
       → IsLaid out with 0 to (share_encoding order form (share_in buf p))
@@ -115,6 +115,6 @@ module _ {buf : List ℕ} {found : Summary} (d : DescribesFront buf found) {p : 
   pub alone_laid : {out new : List ℕ} {end : ℕ} → IsLaid out new 0 end own_encoding
       → record { size : IsFrontSize buf options.endianness options.form end; laid : LaysFront buf options out new }
   alone_laid {out = out} p = record {
-    size = λ g. omega (arith, p.end_is, ap length (alone g));
+    size = λ g. omega (arith, ap length (alone g));
     laid = λ g. p.laid ∙ ap (sets out 0) (sym (alone g));
   }

@@ -44,8 +44,8 @@ pub words_held : (order : Endianness) (n : ℕ) (z : List ℕ) → AreBytes z �
 unfolding words_encoding
 words_held order zero z b long = record { fit = tt; is = refl }
 words_held order (suc n) z b long =
-    let first = number_held order 8 z b (omega (arith, long)) in
-    let others = words_held order n (drop 8 z) (taken_bytes 8 z b).1 (omega (arith, long, length-drop 8 z)) in
+    let first = number_held order 8 z b (omega arith) in
+    let others = words_held order n (drop 8 z) (taken_bytes 8 z b).1 (omega (arith, length-drop 8 z)) in
     record {
       fit = (first.0, others.fit);
       is = ap (λ k. take k z) (omega arith) ∙ take-add 8 (8 * n) z ∙ (λ i. first.1 i ++ others.is i);
@@ -60,9 +60,9 @@ pub own_held : (buf : List ℕ) (p : Piece) → AreBytes buf → own_end p ≤ l
     → Holds p.order (own_words buf p) (take (own_end p - p.offset) (drop p.offset buf))
 own_held buf p b inside =
     let long = own_end_is p in
-    subst (λ k. Holds p.order (own_words buf p) (take k (drop p.offset buf))) (omega (arith, long))
+    subst (λ k. Holds p.order (own_words buf p) (take k (drop p.offset buf))) (omega arith)
     (words_held p.order (word_count p) (drop p.offset buf) (taken_bytes p.offset buf b).1
-    (omega (arith, long, inside, length-drop p.offset buf)))
+    (omega (arith, length-drop p.offset buf)))
 
 -- as many bytes, and each word where it stands
 held_long : {order : Endianness} {words bytes : List ℕ} → Holds order words bytes → length bytes ≡ 8 * length words
@@ -77,23 +77,23 @@ word_is {order = order} {words = words} i h more =
 pub word_next : {order : Endianness} {words bytes : List ℕ} (i : ℕ) → Holds order words bytes → i < length bytes / 8
     → drop i words ≡ number order 8 (drop (8 * i) bytes) ∷ drop (i + 1) words
 word_next {words = words} i h more =
-    let within : i < length words = omega (arith, more, held_long h) in
+    let within : i < length words = omega (arith, held_long h) in
     drop_more words i 0 within ∙ ap (λ w. w ∷ drop (i + 1) words) (sym (word_is i h within))
 
 pub no_word_next : {order : Endianness} {words bytes : List ℕ} (i : ℕ) → Holds order words bytes
     → length bytes / 8 ≤ i → drop i words ≡ []
-no_word_next {words = words} i h over = drop_all i words (omega (arith, over, held_long h))
+no_word_next {words = words} i h over = drop_all i words (omega (arith, held_long h))
 
 pub all_words : {order : Endianness} {words bytes : List ℕ} (i : ℕ) → Holds order words bytes
     → length bytes / 8 ≤ i → take i words ≡ words
-all_words {words = words} i h over = take_all i words (omega (arith, over, held_long h))
+all_words {words = words} i h over = take_all i words (omega (arith, held_long h))
 
 -- the same bytes hold the same words
 same_held : {order : Endianness} {ws vs xs ys : List ℕ} → Holds order ws xs → Holds order vs ys → xs ≡ ys → ws ≡ vs
 same_held {order = order} {ws = ws} {vs = vs} h k e =
     let many : length ws ≡ length vs = omega (arith, held_long h, held_long k, ap length e) in
     ext_get_or 0 ws vs many (λ i more. sym (word_is i h more) ∙ ap (λ z. number order 8 (drop (8 * i) z)) e
-    ∙ word_is i k (omega (arith, more, many)))
+    ∙ word_is i k (omega arith))
 
 pub same_order : (x y : Endianness) → sameb the_type x y ≡ true → x ≡ y
 same_order BigEndian BigEndian e = refl
@@ -117,15 +117,15 @@ same_words {order = order} {xs = xs} {ys = ys} same h k is = (
 module _ {o q : Endianness} {ws vs xs ys : List ℕ} (i : ℕ) (h : Holds o ws xs) (k : Holds q vs ys)
     (long : length xs ≡ length ys) (more : i < length xs / 8) where
   first : number o 8 (drop (8 * i) xs) ≡ get_or ws i 0
-  first = word_is i h (omega (arith, more, held_long h))
+  first = word_is i h (omega (arith, held_long h))
 
   second : number q 8 (drop (8 * i) ys) ≡ get_or vs i 0
-  second = word_is i k (omega (arith, more, long, held_long k))
+  second = word_is i k (omega (arith, held_long k))
 
   pub words_on : number o 8 (drop (8 * i) xs) ≡ number q 8 (drop (8 * i) ys) → take i ws ≡ take i vs
       → take (i + 1) ws ≡ take (i + 1) vs
   words_on same before =
-      take_more_same ws vs i 0 (omega (arith, more, held_long h)) (omega (arith, more, long, held_long k)) before
+      take_more_same ws vs i 0 (omega (arith, held_long h)) (omega (arith, held_long k)) before
       (sym first ∙ same ∙ second)
 
   pub words_differ : number o 8 (drop (8 * i) xs) ≢ number q 8 (drop (8 * i) ys) → IsTrue false ↔ (ws ≡ vs)

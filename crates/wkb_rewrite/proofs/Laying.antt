@@ -21,9 +21,9 @@ use Rattle.wkb_rewrite.specs.Shares.{IsLaid, type_header, header_part}
 pub part_laid : (all part bytes : List ℕ) (at k end : ℕ) → at + length bytes ≤ length all → length bytes ≡ k
     → end ≡ at + k → part ≡ bytes → IsLaid all (put_mid at k all part) at end bytes
 part_laid all part bytes at k end room long ends is = record {
-  end_is = omega (arith, ends, long);
+  end_is = omega arith;
   laid = ap (put_mid at k all) is
-      ∙ ap (λ z. take at all ++ (bytes ++ z)) (drop-drop k at all ∙ ap (λ n. drop n all) (omega (arith, long)))
+      ∙ ap (λ z. take at all ++ (bytes ++ z)) (drop-drop k at all ∙ ap (λ n. drop n all) (omega arith))
       ∙ sym (append_assoc (take at all) bytes (drop (at + length bytes) all))
       ∙ sym (sets-eq bytes all at room);
 }
@@ -31,7 +31,7 @@ part_laid all part bytes at k end room long ends is = record {
 pub laid_on : {a b c : List ℕ} {i j k : ℕ} {xs ys : List ℕ} → IsLaid a b i j xs → IsLaid b c j k ys
     → IsLaid a c i k (xs ++ ys)
 laid_on {a = a} {i = i} {j = j} {xs = xs} {ys = ys} p q = record {
-  end_is = omega (arith, p.end_is, q.end_is, length-append xs ys);
+  end_is = omega (arith, length-append xs ys);
   laid = q.laid ∙ ap (λ z. sets z j ys) p.laid ∙ sets_after a i j xs ys p.end_is;
 }
 
@@ -49,7 +49,7 @@ nothing_laid out at = record { end_is = omega arith; laid = refl }
 -- at the start of a slice
 pub laid_front : {a b : List ℕ} {j : ℕ} {xs : List ℕ} → IsLaid a b 0 j xs → length xs ≤ length a → take j b ≡ xs
 laid_front {a = a} {j = j} {xs = xs} p room =
-    ap (take j) (p.laid ∙ sets-eq xs a 0 (omega (arith, room))) ∙ take_front j xs _ (omega (arith, p.end_is))
+    ap (take j) (p.laid ∙ sets-eq xs a 0 (omega arith)) ∙ take_front j xs _ (omega arith)
 
 -- ---- headers
 

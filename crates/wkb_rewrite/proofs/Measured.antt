@@ -81,7 +81,7 @@ own_srid_alone at (node h words ss) t x a p is low =
     omega (
       arith,
       srids_counted at (node h words ss) t x a,
-      none_inside h words ss t x a (omega (arith, low, ap (λ (q : Piece). q.kind) is)),
+      none_inside h words ss t x a (omega (arith, ap (λ (q : Piece). q.kind) is)),
       ap (λ (q : Piece). srid_size (is_some q.srid)) is,
       srid_size_is (is_some h.srid),
     )
@@ -90,10 +90,6 @@ own_srid_alone at (node h words ss) t x a p is low =
 pub long_of : {buf : List ℕ} {found : Summary} → DescribesFront buf found → (g : HasGeometry buf)
     → found.bytes ≡ length g.begins.front
 long_of d g = d.described.bytes_are ∙ ap length (same_spelling (here d) g refl).encoding
-
-pub found_inside : {buf : List ℕ} {found : Summary} → DescribesFront buf found → found.bytes ≤ length buf
-found_inside d =
-    omega (arith, d.described.bytes_are, ap length d.front.whole, length-append d.front.front d.rest)
 
 -- the encoding has the form's SRID, and not those that the pieces have
 pub measured : (order : Endianness) (form : Form) (buf : List ℕ) {bytes : ℕ} (g : HasGeometry buf) → AreBytes buf
@@ -104,7 +100,6 @@ measured order form buf g b long =
     let good = value_good g b in
     omega (
       arith,
-      long,
       srid_size_is (is_some (form_srid form)),
       srids_counted 0 g.spelled g.value g.begins.front g.begins.first,
       spelled_length g.spelled g.value g.begins.front g.begins.first,

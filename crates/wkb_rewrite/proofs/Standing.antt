@@ -58,21 +58,21 @@ pub data IsThere (buf : List ℕ) (at : ℕ) (p : Piece) : Type 0 where
   geometry : IsGeometry buf at p → IsThere buf at p
 
 some_kind : (t : Value) → kind t ≢ 0
-some_kind (point d c) e = omega (arith, e)
-some_kind _ e = omega (arith, e)
+some_kind (point d c) e = omega arith
+some_kind _ e = omega arith
 
 module _ {buf : List ℕ} (b : AreBytes buf) where
   taken_span : (at n to : ℕ) {bytes : List ℕ} → take n (drop at buf) ≡ bytes → to ≡ at + n → Spans buf at to bytes
   taken_span at n to e to-is =
       let after : drop n (drop at buf) ≡ drop to buf = drop-drop n at buf
-      ∙ ap (λ k. drop k buf) (omega (arith, to-is)) in
+      ∙ ap (λ k. drop k buf) (omega arith) in
       record { is = sym (take-append-drop n (drop at buf)) ∙ (λ i. e i ++ after i) }
 
   number_span : (order : Endianness) (at to : ℕ) → at + 4 ≤ length buf → to ≡ at + 4
       → Spans buf at to (number_bytes order 4 (number order 4 (drop at buf)))
   number_span order at to inside to-is =
       taken_span at 4 to
-      (number_held order 4 (drop at buf) (taken_bytes at buf b).1 (omega (arith, inside, length-drop at buf))).1 to-is
+      (number_held order 4 (drop at buf) (taken_bytes at buf b).1 (omega (arith, length-drop at buf))).1 to-is
 
   -- the own words of a piece
   words_span : (p : Piece) → own_end p ≤ length buf → is_empty_point buf p ≡ false
@@ -90,7 +90,7 @@ module _ {buf : List ℕ} (b : AreBytes buf) where
       record {
         none = refl;
         body = λ inside some.
-            span_on (number_span order at (at + 4) (omega (arith, inside, ends)) refl) (words_span p inside some);
+            span_on (number_span order at (at + 4) (omega arith) refl) (words_span p inside some);
       }
 
   pub geometry_there : (at : ℕ) (g : HasGeometry (drop at buf)) → IsGeometry buf at (piece_of at g.spelled g.value)
@@ -117,12 +117,12 @@ module _ {buf : List ℕ} (b : AreBytes buf) where
           count_span t begins =
               let opens = geometry_opens (drop at buf) (node h words ss) t g.rest begins in
               let said = says (drop at buf) (node h words ss) t g.rest begins _ opens.head in
-              let counted = said.counts (λ e. omega (arith, e)) in
+              let counted = said.counts (λ e. omega arith) in
               let start : ℕ = 5 + srid_size (is_some h.srid) in
               let is : number h.order 4 (drop (at + start) buf) ≡ count_of t =
               ap (number h.order 4) (sym (drop-drop start at buf)) ∙ counted.1 in
               subst (λ n. Spans buf (at + start) (piece_of at (node h words ss) t).offset (number_bytes h.order 4 n)) is
-              (number_span h.order (at + start) _ (omega (arith, counted.0, said.start_is, length-drop at buf))
+              (number_span h.order (at + start) _ (omega (arith, length-drop at buf))
               (omega arith))
 
   -- the next piece is there
@@ -161,7 +161,7 @@ module _ {buf : List ℕ} (b : AreBytes buf) where
           ap (λ o. number o 4 (drop (p.begin + 1) buf)) w.order_is ∙ w.code x.some in
           let header = bare_header p.order form (type_of p.kind p.dimension) _ code none
           ∙ sym (header_of_some p.order form p.kind p.dimension x.some) in
-          let number = number_span p.order (p.begin + 1) (p.begin + 5) (omega (arith, x.header)) (omega arith) in
+          let number = number_span p.order (p.begin + 1) (p.begin + 5) (omega arith) (omega arith) in
           let body = rw w.plain at (x.body inside w.some) in
           rw (← x.begins, ← header) (span_on (span_on x.order number) body)
 

@@ -40,7 +40,7 @@ pub next_taken : {buf : List ℕ} {old new : Pieces} {xs : List Share} {p : Piec
 next_taken {buf = buf} r s =
     let one = s.steps r.pieces r.ahead in
     record {
-      own = omega (arith, s.inside.ends, s.inside.inside, ap length r.bytes);
+      own = omega (arith, ap length r.bytes);
       others = map (share_in buf) one.rest;
       first = sym r.say ∙ ap (map (share_in buf)) one.first;
       left = record { pieces = one.rest; ahead = one.ahead; bytes = s.same ∙ r.bytes; say = refl };

@@ -15,9 +15,6 @@ loop-x-init c = λ g h. record {
   same = (λ e. e, λ e. e);
 }
 
-pub next-requires : goal.next-requires
-next-requires c = some_ahead (c.loop-x.invariant c.requires.first c.requires.second).firsts
-
 pub next-requires-in-Some : goal.next-requires-in-Some
 next-requires-in-Some c = some_ahead (c.loop-x.invariant c.requires.first c.requires.second).seconds
 

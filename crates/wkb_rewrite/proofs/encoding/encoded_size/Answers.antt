@@ -3,15 +3,10 @@ use Rattle.wkb_laws.specs.Prelude.{Endianness, LittleEndian, srid_size, encoding
 use Rattle.wkb_check.specs.Known.{HasGeometry}
 use Rattle.wkb_check.specs.Pieces.{IsAhead, pieces_of}
 use Rattle.wkb_check.proofs.Following.{given, all_given}
-use Rattle.wkb_rewrite.proofs.Measured.{srid_sizes, sizes_append, long_of, found_inside, measured}
+use Rattle.wkb_rewrite.proofs.Measured.{srid_sizes, sizes_append, long_of, measured}
 use Rattle.wkb_check.proofs.Ahead.{here}
-use Rattle.wkb_rewrite.proofs.Laying.{most_srid}
 use Rattle.wkb_rewrite.proofs.encoding.encoded_size.Goals as goal
 use Rattle.wkb_rewrite.proofs.encoding.encoded_size.Goals.{After-into_iter-piece-iterator}
-
-pub overflow_add-size : goal.overflow_add-size
-overflow_add-size c =
-    omega (arith, found_inside c.requires, c.size_of_srid.ensures, most_srid (is_some c.srid_of_form.result))
 
 -- the loop goes over the pieces of the geometry, and the first size is too much by their SRIDs
 ahead : (c : After-into_iter-piece-iterator) (g : HasGeometry c.args.buf.now)
@@ -24,7 +19,6 @@ over : (c : After-into_iter-piece-iterator) (order : Endianness) (g : HasGeometr
 over c order g =
     omega (
       arith,
-      c.size_of_srid.ensures,
       ap (λ o. srid_size (is_some o)) c.srid_of_form.ensures,
       measured order c.args.form c.args.buf.now g (λ i. (c.type_inv.buf i).fits) (long_of c.requires g),
     )
@@ -42,26 +36,17 @@ overflow_sub-size c =
     let k = given _ _ _ _ (ahead before g) c.loop-piece.yielded_by in
     omega (
       arith,
-      c.loop-piece.invariant.less,
       over before LittleEndian g,
       ap srid_sizes k.2,
       sizes_append c.loop-piece.yielded k.0,
       ap srid_sizes (c.in-Some.ensures.steps.steps k.0 k.1).first,
-      c.size_of_srid-size.ensures,
     )
 
 pub loop-piece-preserved : goal.loop-piece-preserved
 loop-piece-preserved c = record {
   can = c.in-Some.ensures.goes.keeps;
   finite = tt;
-  less =
-      omega (
-        arith,
-        c.loop-piece.invariant.less,
-        c.size_of_srid-size.ensures,
-        sizes_append c.loop-piece.yielded (c.in-Some.piece ∷ []),
-        overflow_sub-size c,
-      );
+  less = omega (arith, sizes_append c.loop-piece.yielded (c.in-Some.piece ∷ []), overflow_sub-size c);
 }
 
 pub returns-clause-size : goal.returns-clause-size
@@ -69,7 +54,6 @@ returns-clause-size c = λ order g.
     let before = (goal.at.returns-clause-size c).After-into_iter-piece-iterator in
     omega (
       arith,
-      c.loop-piece.invariant.less,
       over before order g,
       ap srid_sizes (all_given _ _ _ _ _ (ahead before g) c.loop-piece.yielded_by c.in-None.ensures.steps),
     )

@@ -8,7 +8,7 @@ use Rattle.wkb_rewrite.proofs.encoding.lay_one_piece.Goals.{After-outermost-firs
 low : (c : After-outermost-first) → nat_lt c.outermost-first.result.kind 3 ≡ true
 low c =
     let g = here c.requires.here in
-    lt-ltb _ 3 (omega (arith, c.requires.kind, kind_of c.requires.here g _ (c.outermost-first.ensures g)))
+    lt-ltb _ 3 (omega (arith, kind_of c.requires.here g _ (c.outermost-first.ensures g)))
 
 pub lay_piece_of-requires : goal.lay_piece_of-requires
 lay_piece_of-requires c =

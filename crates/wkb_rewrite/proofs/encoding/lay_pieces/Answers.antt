@@ -1,7 +1,7 @@
 use Rattle.std.proofs.Common.{arith, ap, length, refl}
 use lib.Seq.{sets}
 use Rattle.wkb_rewrite.proofs.Encodings.{shares_encoded}
-use Rattle.wkb_rewrite.proofs.Walks.{all_to_come, next_taken, none_taken, some_ahead}
+use Rattle.wkb_rewrite.proofs.Walks.{all_to_come, next_taken, none_taken}
 use Rattle.wkb_rewrite.proofs.Encoded.{left_room, left_next, left_none}
 use Rattle.wkb_rewrite.proofs.encoding.lay_pieces.Goals as goal
 
@@ -16,9 +16,6 @@ loop-piece-init c = λ g.
       laid = ap (sets c.args.out.now 0) all;
       long = refl;
     }
-
-pub next-requires : goal.next-requires
-next-requires c = some_ahead (c.loop-piece.invariant c.requires.here).rest
 
 pub lay_piece-at-requires : goal.lay_piece-at-requires
 lay_piece-at-requires c =

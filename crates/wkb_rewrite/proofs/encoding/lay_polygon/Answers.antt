@@ -9,7 +9,7 @@ use Rattle.wkb_rewrite.proofs.encoding.lay_polygon.Goals.{After-polygon-first}
 polygon : (c : After-polygon-first) → c.polygon-first.result.kind ≡ 3
 polygon c =
     let g = here c.requires.here in
-    omega (arith, c.requires.kind, kind_of c.requires.here g _ (c.polygon-first.ensures g))
+    omega (arith, kind_of c.requires.here g _ (c.polygon-first.ensures g))
 
 pub lay_rings-requires-clause-polygon : goal.lay_rings-requires-clause-polygon
 lay_rings-requires-clause-polygon c = polygon (goal.at.lay_rings-requires-clause-polygon c).After-polygon-first

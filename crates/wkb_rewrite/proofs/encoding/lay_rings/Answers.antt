@@ -1,23 +1,15 @@
-use Rattle.std.proofs.Common.{◌≡◌, ap, sym, ◌∙◌, arith}
+use Rattle.std.proofs.Common.{◌≡◌, ap, sym, ◌∙◌}
 use Rattle.wkb_laws.specs.Prelude.{inner}
 use Rattle.wkb_rewrite.proofs.Encodings.{inner_twice}
 use Rattle.wkb_rewrite.proofs.Walks.{next_taken, none_taken, some_ahead}
 use Rattle.wkb_rewrite.proofs.Encoded.{left_room, left_next, left_none, first_room, first_left}
 use Rattle.wkb_rewrite.proofs.encoding.lay_rings.Goals as goal
 
-pub behind-pieces-requires : goal.behind-pieces-requires
-behind-pieces-requires c = record { here = c.requires.here; first = c.requires.first }
-
-pub lay_piece-at-requires : goal.lay_piece-at-requires
-lay_piece-at-requires c =
+pub lay_piece-at-requires-clause-room : goal.lay_piece-at-requires-clause-room
+lay_piece-at-requires-clause-room c =
     let here = c.requires.here in
-    let behind = c.behind-pieces.ensures in
-    record {
-      inside = omega (arith, behind.inside.ends, behind.inside.inside);
-      room =
-          first_room c.args.options.endianness c.args.options.form here (behind.steps here) _
-          (c.requires.room here);
-    }
+    first_room c.args.options.endianness c.args.options.form here (c.behind-pieces.ensures.steps here) _
+    (c.requires.room here)
 
 pub loop-ring-init : goal.loop-ring-init
 loop-ring-init c =

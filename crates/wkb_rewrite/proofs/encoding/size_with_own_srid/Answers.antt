@@ -9,10 +9,8 @@ returns-clause-size c = λ order g.
     let first = c.outermost-first.ensures g in
     omega (
       arith,
-      c.size_of_srid.ensures,
-      c.size_of_srid-2.ensures,
       ap (λ o. srid_size (is_some o)) c.srid_of_form.ensures,
       measured order c.args.form c.args.buf.now g (λ i. (c.type_inv.buf i).fits) (long_of c.requires.here g),
       own_srid_alone 0 g.spelled g.value g.begins.front g.begins.first p first
-          (omega (arith, c.requires.kind, kind_of c.requires.here g p first)),
+          (omega (arith, kind_of c.requires.here g p first)),
     )

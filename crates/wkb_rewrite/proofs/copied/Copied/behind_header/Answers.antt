@@ -2,7 +2,6 @@ use Rattle.std.proofs.Common.{◌+◌}
 use Rattle.wkb_check.specs.Known.{HasGeometry}
 use Rattle.wkb_check.proofs.Ahead.{here}
 use Rattle.wkb_rewrite.specs.Copies.{IsCopied}
-use Rattle.wkb_rewrite.proofs.Measured.{found_inside}
 use Rattle.wkb_rewrite.proofs.copied.Copied.behind_header.Goals as goal
 use Rattle.wkb_rewrite.proofs.copied.Copied.behind_header.Goals.{After-size_of_srid-start}
 
@@ -17,9 +16,6 @@ slice_bounds-result-count c =
 pub slice_bounds-result-start : goal.slice_bounds-result-start
 slice_bounds-result-start c =
     (copied (goal.at.slice_bounds-result-start c).After-size_of_srid-start (here c.requires.found)).inside
-
-pub slice_bounds-result-end : goal.slice_bounds-result-end
-slice_bounds-result-end c = found_inside c.requires.found
 
 pub returns : goal.returns
 returns c = λ g. rw c.of_kind.ensures (copied (goal.at.returns c).After-size_of_srid-start g).is

@@ -4,9 +4,6 @@ use Rattle.wkb_rewrite.proofs.Measured.{long_of}
 use Rattle.wkb_rewrite.proofs.Copying.{first_stands, one_more_stands, still_ahead, all_stand}
 use Rattle.wkb_rewrite.proofs.copied.Copied.by_walk.Goals as goal
 
-pub behind-pieces-requires : goal.behind-pieces-requires
-behind-pieces-requires c = record { here = here c.requires; first = c.outermost-first.ensures }
-
 pub loop-stands-init : goal.loop-stands-init
 loop-stands-init c = λ g.
     let behind = c.behind-pieces.ensures in
@@ -25,10 +22,9 @@ loop-stands-preserved c = λ g.
 pub behind_header-requires-clause-stands : goal.behind_header-requires-clause-stands
 behind_header-requires-clause-stands c = λ g.
     let l = c.loop-stands.invariant g in
-    let inside = c.behind-pieces.ensures.inside in
     all_stand c.args.options (λ i. (c.type_inv.buf i).fits) c.outermost-first.ensures c.inner-form.ensures
     (long_of c.requires g) l
     (c.pass_next.ensures.none c.in_default.is l.left l.ahead)
     (c.has_written_words.ensures.order c.if-not-has_written_words.false)
     (c.has_written_words.ensures.some c.if-not-has_written_words.false)
-    (omega (arith, inside.ends, inside.inside)) refl
+    (omega arith) refl

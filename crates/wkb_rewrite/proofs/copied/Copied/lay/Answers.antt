@@ -7,5 +7,5 @@ pub returns : goal.returns
 returns c =
     let header = c.lay_type_header-start.ensures in
     let both = length-append (copied_header c.args.self.now) c.args.self.now.rest.now in
-    laid_on header (part_laid _ _ _ _ _ _ (omega (arith, c.requires, header.end_is, laid_length header, both))
-    (omega arith) (omega arith) c.copy_from_slice.ensures.after)
+    laid_on header
+    (part_laid _ _ _ _ _ _ (omega (arith, laid_length header)) (omega arith) (omega arith) c.copy_from_slice.ensures.after)
