@@ -267,7 +267,7 @@ class Tables(judge.Judge):
     controls = [
         ("ARCHITECTURE.md", "| `wkb_laws` | lemmas", "| `wkb_lost` | lemmas", "of the table differ"),
         ("ARCHITECTURE.md", "| `wkb_geom/src/error.rt` (", "| `wkb_view/src/error.rt` (", "no `wkb_view/src/error.rt`"),
-        ("ARCHITECTURE.md", "`Refusal`), `specs/Errors`", "`Refusal`), `specs/Pieces`", "has no `specs/Pieces`"),
+        ("ARCHITECTURE.md", "`Fault`), `specs/Errors`", "`Fault`), `specs/Pieces`", "has no `specs/Pieces`"),
         ("crates.txt", "wkb_geom: byteorder", "wkb_geom: wkb_read", "wkb_geom uses wkb_read"),
         ("c/package/package.md", "| `SUMS` |", "| `SUM` |", "no `SUM`"),
         ("CITATION.cff", 'title: "Porchsorrel', 'title: "Sorrel', "README's title"),

@@ -11,7 +11,7 @@ use Rattle.wkb.specs.Values.{Coordinate, Value, Values, point, line_string, poly
 use Rattle.wkb.specs.Values.{multi_polygon, collection, no_members, member}
 use Rattle.wkb.specs.Geometries.{AreCoordinates, IsPoint, IsGeometry, AreGeometries, geometry_of, geometries_of}
 use Rattle.wkb.specs.Geometries.{multi_point as points_of}
-use Rattle.wkb.specs.Encodings.{Fault, IsForm, fault, form_srid, refusal_of, or_else, dimensions_fault, count_fault}
+use Rattle.wkb.specs.Encodings.{Fault, IsForm, fault, form_srid, fault_of, or_else, dimensions_fault, count_fault}
 use Rattle.wkb.specs.Encodings.{size_fault}
 use Rattle.wkb.specs.Plain.{runs, coordinates_in}
 use Rattle.wkb.specs.Writes.{WriteOptions}
@@ -108,7 +108,7 @@ short _ n b few = grind arith
 -- A multi point of no more points than four bytes can count is written.
 pub few_points_are_written : (options : WriteOptions) (d : Dimension) (points : List (Option Coordinate))
     → IsForm options.form → AllByRecursion (IsPoint (as_dimensions d)) points → length points < 2 ^ 32
-    → refusal_of options (points_of (as_dimensions d) points) ≡ None
+    → fault_of options (points_of (as_dimensions d) points) ≡ None
 unfolding or_else size_fault
 few_points_are_written options d points fits lawful few =
     let none = no_fault d points few in
@@ -119,6 +119,6 @@ few_points_are_written options d points fits lawful few =
 -- So one that is rejected has more.
 pub refused_points_are_many : (options : WriteOptions) (d : Dimension) (points : List (Option Coordinate)) (f : Fault)
     → IsForm options.form → AllByRecursion (IsPoint (as_dimensions d)) points
-    → refusal_of options (points_of (as_dimensions d) points) ≡ Some f → 2 ^ 32 ≤ length points
+    → fault_of options (points_of (as_dimensions d) points) ≡ Some f → 2 ^ 32 ≤ length points
 refused_points_are_many options d points f fits lawful is =
     grind (arith, few_points_are_written options d points fits lawful)

@@ -14,7 +14,7 @@ use Rattle.wkb.specs.Values.{Coordinate, Value, Values, each, members, collectio
 use Rattle.wkb.specs.Spellings.{Spelling, node, Spellings, no_spellings, spelling, header, Front, max_nesting}
 use Rattle.wkb.specs.Spellings.{HasOptions}
 use Rattle.wkb.specs.Geometries.{Geometry, normal}
-use Rattle.wkb.specs.Encodings.{Fault, encoding, refusal, form_srid}
+use Rattle.wkb.specs.Encodings.{Fault, encoding, fault_under, form_srid}
 use Rattle.wkb.specs.Reads.{Item, spellings, values, IfRefused, IsRefusal, IsFront, IsCollectionOf}
 use Rattle.wkb.specs.Reads.{list_of_spellings}
 use Rattle.wkb.specs.Reads.{members_spelled, spelling_at, Listed, fitted_parts, fitted_members, fitted_line_string}
@@ -85,7 +85,7 @@ member_of w ms k m c is =
 -- a writer that returns Ok has appended the encoding, since nothing was rejected
 appended_by : (options : WriteOptions) (g : Geometry) (x : Unit {0}) (untouched : Type 0) (old new : Option (List ℕ))
     (failed : Bool)
-    (fails_by : Option Error → Type 0) (o : Option Fault) → refusal options.endianness options.form g ≡ o
+    (fails_by : Option Error → Type 0) (o : Option Fault) → fault_under options.endianness options.form g ≡ o
     → Writes options g (Ok x) untouched old new failed fails_by
     → Appends old new (encoding options.endianness options.form g)
 appended_by options g x untouched old new failed fails_by None is w = (w.written is).0.appended

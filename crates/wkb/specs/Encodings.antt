@@ -3,7 +3,7 @@ pub use Rattle.wkb_geom.specs.Encodings.{form_srid, inner, count_geometries, enc
 pub use Rattle.wkb_geom.specs.declared.error.Fault.{Fault}
 pub use Rattle.wkb_geom.specs.declared.error.Fault.TheVariants.{UnsupportedDimensions as unsupported_dimensions}
 pub use Rattle.wkb_geom.specs.declared.error.Fault.TheVariants.{Count as count_overflow, Size as size_overflow}
-pub use Rattle.wkb_geom.specs.Encodings.{coordinates_fault, rings_fault, fault, fault_each, refusal, IsWritable, IsForm}
+pub use Rattle.wkb_geom.specs.Encodings.{coordinates_fault, rings_fault, fault, fault_each, fault_under, IsWritable, IsForm}
 pub use Rattle.wkb_geom.specs.Encodings.{IsRewriting, IsRewritingWithSrid}
 unfoldable pub use
     Rattle.wkb_geom.specs.Encodings.{code_of, srid_encoding, header_encoding, words_encoding, coordinates_encoding}
@@ -17,4 +17,4 @@ unfoldable pub use
       dimensions_fault,
     }
 unfoldable pub use Rattle.wkb_geom.specs.Encodings.{count_fault, first_fault, size_fault}
-pub use Rattle.wkb_write.specs.Answers.{encoding_of, refusal_of}
+pub use Rattle.wkb_write.specs.Answers.{encoding_of, fault_of}

@@ -6,7 +6,7 @@ use Rattle.wkb.specs.Prelude.{Dimension, WkbError, all_nan}
 use Rattle.wkb.specs.Values.{Coordinate, Value, point, nest}
 use Rattle.wkb.specs.Spellings.{Front, max_nesting}
 use Rattle.wkb.specs.Geometries.{Geometry, IsGeometry, normal, normal_point}
-use Rattle.wkb.specs.Encodings.{IsForm, encoding_of, refusal_of}
+use Rattle.wkb.specs.Encodings.{IsForm, encoding_of, fault_of}
 use Rattle.wkb.specs.Writes.{WriteOptions, Writes}
 use Rattle.wkb.specs.Reads.{Item, IsOnlyFront, point_of}
 use Rattle.wkb.specs.Bridges.{read_again}
@@ -16,7 +16,7 @@ pub use Rattle.wkb.specs.Terms.{IsReadBefore}
 -- An encoding that other bytes follow is read before them.
 pub encoding_is_read : (rest : List ℕ) (options : WriteOptions) (g : Geometry) (encoding bytes : List ℕ)
     → IsForm options.form → IsGeometry g → encoding ≡ encoding_of options g
-    → refusal_of options g ≡ None → bytes ≡ encoding ++ rest → IsReadBefore rest options g bytes
+    → fault_of options g ≡ None → bytes ≡ encoding ++ rest → IsReadBefore rest options g bytes
 encoding_is_read rest options g encoding bytes fits lawful is fine whole shallow =
     let read = writable_is_read options.endianness options.form g rest fits lawful fine shallow in
     let same = whole ∙ ap (λ l. l ++ rest) is in

@@ -83,11 +83,11 @@ pub use Rattle.wkb.specs.Levels.{single_meant, row_meant, rings_meant, kind_mean
 pub use Rattle.wkb.specs.Levels.{HasRowEncoding, IsRowWrite}
 pub use Rattle.wkb.specs.Encodings.{form_srid, inner, count_geometries, encoding, encodings, Fault}
 pub use Rattle.wkb.specs.Encodings.{unsupported_dimensions, count_overflow, size_overflow, coordinates_fault}
-pub use Rattle.wkb.specs.Encodings.{rings_fault, fault, fault_each, refusal, IsWritable, IsForm, IsRewriting}
+pub use Rattle.wkb.specs.Encodings.{rings_fault, fault, fault_each, fault_under, IsWritable, IsForm, IsRewriting}
 pub use Rattle.wkb.specs.Encodings.{IsRewritingWithSrid, code_of, srid_encoding, header_encoding, words_encoding}
 pub use Rattle.wkb.specs.Encodings.{coordinates_encoding, point_words, point_encoding, line_string_encoding}
 pub use Rattle.wkb.specs.Encodings.{polygon_encoding, members_encoding, or_else, dimensions_fault, count_fault}
-pub use Rattle.wkb.specs.Encodings.{first_fault, size_fault, encoding_of, refusal_of}
+pub use Rattle.wkb.specs.Encodings.{first_fault, size_fault, encoding_of, fault_of}
 pub use Rattle.wkb.specs.Reads.{Item, spellings, values, point_of, line_string_of, polygon_of, coordinate, coordinates}
 pub use Rattle.wkb.specs.Reads.{ring_in, geometry_at, Listed, whole_of, value_code, rings_code, polygons_code}
 pub use Rattle.wkb.specs.Reads.{item_code, listed_code, HasNoFront, IsFront, IsOnlyFront, IsRefusal, TellsEach}

@@ -7,7 +7,7 @@ use Rattle.std.proofs.lemmas.List.{length-map}
 use Rattle.wkb.specs.Prelude.{Dimension, Dimensions, Xy, as_dimensions, written_dimension, WkbError}
 use Rattle.wkb.specs.Values.{Coordinate, Value, multi_point, dimension}
 use Rattle.wkb.specs.Geometries.{AreCoordinates, IsPoint, normal, normal_point}
-use Rattle.wkb.specs.Encodings.{encoding_of, refusal_of, IsForm}
+use Rattle.wkb.specs.Encodings.{encoding_of, fault_of, IsForm}
 use Rattle.wkb.specs.Spellings.{Front}
 use Rattle.wkb.specs.AllCoordinates.{refused_points_are_many}
 use Rattle.wkb.specs.ReadBack.{encoding_is_read}
@@ -47,7 +47,7 @@ module _ (options : WriteOptions) (t : Value) (form : IsForm options.form)
     (fit : AreCoordinates (as_dimensions (dimension t)) (coordinates_of t)) where
   -- what was written is the encoding of that multi point, and is read as it
   pub are_points : (bytes : List ℕ) → bytes ≡ encoding_of options (points_meant t)
-      → refusal_of options (points_meant t) ≡ None → ArePoints options t bytes
+      → fault_of options (points_meant t) ≡ None → ArePoints options t bytes
   are_points bytes is fine =
       let read = encoding_is_read [] options (points_meant t) bytes bytes form
       (points_lawful (as_dimensions (dimension t)) (coordinates_of t) fit) is fine (sym (append-nil bytes)) (omega arith) in

@@ -8,7 +8,7 @@ use Rattle.wkb.specs.Coordinates.{coordinates_of, HasOnly}
 use Rattle.wkb.specs.Spellings.{Spelling, Front}
 use Rattle.wkb.specs.Geometries.{Geometry, normal_point}
 use Rattle.wkb.specs.Geometries.{multi_point as points_of}
-use Rattle.wkb.specs.Encodings.{encoding_of, refusal_of}
+use Rattle.wkb.specs.Encodings.{encoding_of, fault_of}
 use Rattle.wkb.specs.Writes.{WriteOptions, Reports}
 
 -- a collection in the value has a member of another dimension
@@ -34,7 +34,7 @@ FindsPoints options t found = MatchOption found (HasOther t) (λ bytes. ArePoint
 -- there are more points than a count of four bytes can say, and the error is the one of the writer
 pub record HasTooMany (options : WriteOptions) (t : Value) (e : WkbError) : Type 0 where
   pub many : 2 ^ 32 ≤ length (coordinates_of t)
-  pub reports : Reports e (refusal_of options (points_meant t))
+  pub reports : Reports e (fault_of options (points_meant t))
 
 -- an allocation failed, or there are too many points
 abbrev pub IsWantOfRoom : WriteOptions → Value → WkbError → Type 0

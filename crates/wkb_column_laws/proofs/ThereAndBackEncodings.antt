@@ -11,7 +11,7 @@ use Rattle.std.proofs.Common.{lt-ltb}
 use Rattle.std.proofs.lemmas.List.{length-map}
 use Rattle.wkb_geom.specs.Dimensions.{as_dimensions, written_dimension}
 use Rattle.wkb_geom.specs.Encodings.{encoding, point_encoding, point_words, fault}
-use Rattle.wkb_geom.specs.Encodings.{or_else, size_fault, refusal, inner, form_srid}
+use Rattle.wkb_geom.specs.Encodings.{or_else, size_fault, fault_under, inner, form_srid}
 use Rattle.wkb_geom.specs.Geometries.{geometry_of, normal, IsGeometry, IsCoordinate, IsPoint}
 use Rattle.wkb_geom.specs.Grammar.{IsEach}
 use Rattle.wkb_geom.specs.Numbers.{AreBytes, IsWord}
@@ -87,7 +87,7 @@ at_most_one false = omega arith
 
 -- it is no longer than the bytes and an SRID
 pub spelled_writable : (order : Endianness) (form : Form) (s : Spelling) (t : Value) (bytes : List ℕ) → AreBytes bytes
-    → length bytes < 2 ^ 63 → Spells s t bytes → refusal order form (as_spelled s t) ≡ None
+    → length bytes < 2 ^ 63 → Spells s t bytes → fault_under order form (as_spelled s t) ≡ None
 unfolding size_fault or_else
 spelled_writable order form s t bytes b small spelled =
     let good = spelled_good s t bytes b spelled in

@@ -2,8 +2,8 @@
 
 ghost use Rattle.std.specs.Prelude.{◌≡◌};
 ghost use Rattle.wkb_geom.specs.declared.error.WkbError.TheVariants.{IOError, Memory};
-ghost use Rattle.wkb_geom.specs.declared.error.Refusal.TheVariants as refusals;
-ghost use Rattle.wkb_geom.specs.Errors.{IsMemory, Tells, TellsFault, TellsRefusal};
+ghost use Rattle.wkb_geom.specs.declared.error.ReadError.TheVariants as read_errors;
+ghost use Rattle.wkb_geom.specs.Errors.{IsMemory, Tells, TellsFault, TellsReadError};
 
 use std::alloc::{AllocError, AllocFailed};
 use std::io;
@@ -53,7 +53,7 @@ pub enum Cause {
 
 /// Why a reader stops: the bytes are rejected, or an allocation failed.
 #[derive(Clone, Copy)]
-pub enum Refusal {
+pub enum ReadError {
     Cause(Cause),
     Memory,
 }
@@ -136,20 +136,20 @@ impl<T: Drop> From<AllocFailed<T>> for WkbError {
 }
 
 /// Bytes that are rejected stop the reader.
-impl From<Cause> for Refusal {
-    ghost from_gives = { λ cause refusal. refusal ≡ refusals.Cause cause };
+impl From<Cause> for ReadError {
+    ghost from_gives = { λ cause error. error ≡ read_errors.Cause cause };
 
-    fn from(cause: Cause) -> Refusal {
-        Refusal::Cause(cause)
+    fn from(cause: Cause) -> ReadError {
+        ReadError::Cause(cause)
     }
 }
 
 /// An allocation failure stops the reader.
-impl From<AllocError> for Refusal {
-    ghost from_gives = { λ e refusal. refusal ≡ refusals.Memory };
+impl From<AllocError> for ReadError {
+    ghost from_gives = { λ e error. error ≡ read_errors.Memory };
 
-    fn from(_: AllocError) -> Refusal {
-        Refusal::Memory
+    fn from(_: AllocError) -> ReadError {
+        ReadError::Memory
     }
 }
 
@@ -183,13 +183,13 @@ impl From<Fault> for WkbError {
 }
 
 /// The error that reports why a reader stopped.
-impl From<Refusal> for WkbError {
-    ghost from_gives = { λ refusal e. TellsRefusal e refusal };
+impl From<ReadError> for WkbError {
+    ghost from_gives = { λ error e. TellsReadError e error };
 
-    fn from(refusal: Refusal) -> WkbError {
-        match refusal {
-            Refusal::Cause(cause) => cause.into(),
-            Refusal::Memory => WkbError::Memory(AllocError),
+    fn from(error: ReadError) -> WkbError {
+        match error {
+            ReadError::Cause(cause) => cause.into(),
+            ReadError::Memory => WkbError::Memory(AllocError),
         }
     }
 }

@@ -15,7 +15,7 @@ use Rattle.wkb_laws.specs.Prelude.{Spelling, node, Spellings, no_spellings, spel
 use Rattle.wkb_laws.specs.Prelude.{SpellsCoordinates, SpellsBody, Wanted, part, member_part, Spells, SpellsEach}
 use Rattle.wkb_laws.specs.Prelude.{srid_count, srid_count_each, Front, srid_size, Geometry, IsGeometry, normal}
 use Rattle.wkb_laws.specs.Prelude.{geometry_of, or_else, size_fault, number_bytes, srid_encoding, header_encoding}
-use Rattle.wkb_laws.specs.Prelude.{form_srid, inner, encoding, fault, refusal, IsForm, IsWritable, size, as_dimensions}
+use Rattle.wkb_laws.specs.Prelude.{form_srid, inner, encoding, fault, fault_under, IsForm, IsWritable, size, as_dimensions}
 use Rattle.wkb_laws.specs.Prelude.{geometries_of}
 use Rattle.wkb_laws.specs.Written.{written, HasOptions, AllHaveOptions}
 use Rattle.wkb_laws.specs.Encodings.{IsRewritable, SpelledIsWritable}
@@ -205,7 +205,7 @@ length_of_front_lem order input s t rest b f =
 
 -- a good value is rejected for its length only
 size_refused : (order : Endianness) (form : Form) (t : Value) → Good t
-    → refusal order form (geometry_of t) ≡ size_fault (length (encoding order form (geometry_of t)))
+    → fault_under order form (geometry_of t) ≡ size_fault (length (encoding order form (geometry_of t)))
 unfolding or_else
 size_refused order form t good = ap (λ z. or_else z (size_fault (length (encoding order form (geometry_of t))))) good.1
 

@@ -6,7 +6,7 @@ use Rattle.wkb_laws.specs.Prelude.{count, nest, nest_each, member_count, member_
 use Rattle.wkb_laws.specs.Prelude.{Spellings, Spells, SpellsEach, Wanted, any, srid_count, header, Front, max_nesting}
 use Rattle.wkb_laws.specs.Prelude.{ShortPoint, ShortLineString, ShortLinearRing, ShortMultiPoint, Cause, end_of_input}
 use Rattle.wkb_laws.specs.Prelude.{general, slots_asked, OpensCounted, Refuses, named, as_dimensions, Geometry}
-use Rattle.wkb_laws.specs.Prelude.{IsGeometry, normal, geometry_of, byte_size, encoding, fault, size_fault, refusal}
+use Rattle.wkb_laws.specs.Prelude.{IsGeometry, normal, geometry_of, byte_size, encoding, fault, size_fault, fault_under}
 use Rattle.wkb_laws.specs.Prelude.{form_srid, IsForm, IsWritable, IsRewriting, IsRewritingWithSrid, Reading, rejection}
 use Rattle.wkb_laws.specs.Prelude.{Item, geometry_at, left_in}
 use Rattle.wkb_laws.specs.Written.{HasOptions}
@@ -184,7 +184,7 @@ abbrev pub SizeIsRefused : Type 0
 SizeIsRefused =
     (order : Endianness) (form : Form) (input : List ℕ) (s : Spelling) (t : Value) (rest : List ℕ) → AreBytes input
     → Front input s t rest
-    → refusal order form (geometry_of t) ≡ size_fault (length (encoding order form (geometry_of t)))
+    → fault_under order form (geometry_of t) ≡ size_fault (length (encoding order form (geometry_of t)))
 
 -- The SRID of its outermost geometry fits four bytes, and with it the value can be written.
 abbrev pub OwnSridIsWritable : Type 0

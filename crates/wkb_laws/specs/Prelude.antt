@@ -35,7 +35,7 @@ pub use Rattle.wkb_geom.specs.Geometries.{normal, normal_each, normal_point, geo
 pub use Rattle.wkb_geom.specs.Geometries.{triangle_ring, line, rectangle, triangle}
 pub use Rattle.wkb_geom.specs.Encodings.{encoding, encodings, form_srid, inner, count_geometries, IsForm, IsWritable}
 pub use Rattle.wkb_geom.specs.Encodings.{IsRewriting, IsRewritingWithSrid, fault, fault_each, coordinates_fault}
-pub use Rattle.wkb_geom.specs.Encodings.{rings_fault, refusal}
+pub use Rattle.wkb_geom.specs.Encodings.{rings_fault, fault_under}
 unfoldable pub use Rattle.wkb_geom.specs.Encodings.{code_of, or_else, dimensions_fault, count_fault, first_fault}
 unfoldable pub use Rattle.wkb_geom.specs.Encodings.{size_fault, point_words, srid_encoding, header_encoding}
 unfoldable pub use

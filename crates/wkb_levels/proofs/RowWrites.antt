@@ -5,7 +5,7 @@ use Rattle.wkb_geom.specs.declared.common.Dimensions.{Dimensions}
 use Rattle.wkb_geom.specs.declared.error.WkbError.{WkbError}
 use Rattle.wkb_geom.specs.Geometries.{Geometry}
 use Rattle.wkb_sink.specs.declared.options.WriteOptions.{WriteOptions}
-use Rattle.wkb_write.specs.Prelude.{encoding_of, refusal_of, IsInFront, IsSliceError, Reports}
+use Rattle.wkb_write.specs.Prelude.{encoding_of, fault_of, IsInFront, IsSliceError, Reports}
 use Rattle.wkb_levels.specs.declared.levels.Levels.{Levels}
 use Rattle.wkb_levels.specs.declared.row.Kind.{Kind}
 use Rattle.wkb_levels.specs.declared.write.Written.TheVariants as written
@@ -17,7 +17,7 @@ module _ (l : Levels) (kind : Kind) (d : Dimensions) (o : WriteOptions) (i : ℕ
       → IsRowWrite l kind d o i before after written.Unfit
   no_row differ kept = unfit (λ bytes has. differ has.geometry has.row) refl kept
 
-  pub row_put : (g : Geometry) (n : ℕ) → IsLevelRow l kind d i g → refusal_of o g ≡ None
+  pub row_put : (g : Geometry) (n : ℕ) → IsLevelRow l kind d i g → fault_of o g ≡ None
       → IsInFront before after (encoding_of o g) n → IsRowWrite l kind d o i before after (written.Whole n)
   row_put g n row fine front =
       put (encoding_of o g) (record { geometry = g; row = row; writable = fine; is = refl })
@@ -25,7 +25,7 @@ module _ (l : Levels) (kind : Kind) (d : Dimensions) (o : WriteOptions) (i : ℕ
       (front.whole ∙ ap (λ k. encoding_of o g ++ drop k before) front.len)
 
   pub row_lacks : (g : Geometry) (n : ℕ) (e : WkbError) → IsLevelRow l kind d i g → IsSliceError o g before e
-      → (refusal_of o g ≡ None) × (n ≡ length (encoding_of o g)) → after ≡ before
+      → (fault_of o g ≡ None) × (n ≡ length (encoding_of o g)) → after ≡ before
       → IsRowWrite l kind d o i before after (written.LacksRoom n)
   row_lacks g n e row why sized kept =
       lacks (encoding_of o g) (record { geometry = g; row = row; writable = sized.0; is = refl })
@@ -34,12 +34,12 @@ module _ (l : Levels) (kind : Kind) (d : Dimensions) (o : WriteOptions) (i : ℕ
         short (inl refused) = absurd (none-some _ (sym sized.0 ∙ refused.is))
         short (inr grown) = grown.short
 
-  pub row_refused : (g : Geometry) (e : WkbError) → IsLevelRow l kind d i g → Reports e (refusal_of o g)
+  pub row_refused : (g : Geometry) (e : WkbError) → IsLevelRow l kind d i g → Reports e (fault_of o g)
       → after ≡ before → IsRowWrite l kind d o i before after written.Unfit
   row_refused g e row refused kept =
       unfit
       (λ bytes has.
-      let one = one_row has.geometry has.row in none-some _ (sym has.writable ∙ ap (refusal_of o) one ∙ refused.is))
+      let one = one_row has.geometry has.row in none-some _ (sym has.writable ∙ ap (fault_of o) one ∙ refused.is))
       refl kept where
         one_row : (h : Geometry) → IsLevelRow l kind d i h → h ≡ g
         one_row h other = same_Some h g (sym other.meant ∙ row.meant)

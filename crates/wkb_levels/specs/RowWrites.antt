@@ -3,7 +3,7 @@ use Rattle.std.specs.Prelude.{◌≡◌, ℕ, ◌<◌, ◌++◌, List, None, len
 use Rattle.wkb_geom.specs.declared.common.Dimensions.{Dimensions}
 use Rattle.wkb_geom.specs.Geometries.{Geometry}
 use Rattle.wkb_sink.specs.declared.options.WriteOptions.{WriteOptions}
-use Rattle.wkb_write.specs.Prelude.{encoding_of, refusal_of}
+use Rattle.wkb_write.specs.Prelude.{encoding_of, fault_of}
 use Rattle.wkb_levels.specs.declared.levels.Levels.{Levels}
 use Rattle.wkb_levels.specs.declared.row.Kind.{Kind}
 use Rattle.wkb_levels.specs.declared.write.Written.{Written}
@@ -15,7 +15,7 @@ pub record HasRowEncoding (l : Levels) (kind : Kind) (d : Dimensions) (o : Write
     : Type 0 where
   pub geometry : Geometry
   pub row : IsLevelRow l kind d i geometry
-  pub writable : refusal_of o geometry ≡ None
+  pub writable : fault_of o geometry ≡ None
   pub is : bytes ≡ encoding_of o geometry
 
 -- what was told of row i, and what became of the bytes

@@ -1,5 +1,5 @@
 -- How a collection begins.
-use Rattle.wkb_read.specs.Prelude.refusals
+use Rattle.wkb_read.specs.Prelude.read_errors
 use Rattle.wkb_read.proofs.Prelude.{◌≡◌, ℕ, suc, ◌+◌, ◌-◌, ◌≤◌, ◌<◌, List, [], length, drop, false, ltb, refl, sym, ap}
 use Rattle.wkb_read.proofs.Prelude.{◌∙◌, arith, drop-drop, number, Item, Cost, ◌⊕◌, one_turn, Reading, costs, done}
 use Rattle.wkb_read.proofs.Prelude.{and_then, repeated, slots_of, body_start, consumed, Layout, closing}
@@ -63,7 +63,7 @@ first_begins l bytes rest n member members some empty =
 -- ---- the refusal before any list
 
 pub too_many_around : (l : Layout) (bytes : List ℕ) (depth : ℕ) (c : Counts) → max_nesting ≤ depth
-    → Stops (refusals.Cause (nesting_depth_exceeded max_nesting)) (collection_inside l depth bytes) c c
+    → Stops (read_errors.Cause (nesting_depth_exceeded max_nesting)) (collection_inside l depth bytes) c c
 too_many_around l bytes depth c deep =
     let level : max_nesting - depth ≡ 0 = omega arith in
     rw level (refl, record { turns = omega arith; slots = omega arith })

@@ -1,8 +1,8 @@
 -- The result of reading, from what is read from left to right.
-use Rattle.wkb_read.specs.Prelude.refusals
+use Rattle.wkb_read.specs.Prelude.read_errors
 use Rattle.wkb_read.proofs.Prelude.{◌≡◌, ℕ, ◌+◌, ◌*◌, ◌≤◌, List, length, Result, Ok, Err, ap, ◌∙◌, subst, arith, Cause}
-use Rattle.wkb_read.proofs.Prelude.{Some, cause_of, Refusal, WkbError, max_nesting, Item, Cost, Reading, geometry_at}
-use Rattle.wkb_read.proofs.Prelude.{Refuses, any, Tells, TellsRefusal, Agrees, geometry_agrees_lem, Counts, IsCause}
+use Rattle.wkb_read.proofs.Prelude.{Some, cause_of, ReadError, WkbError, max_nesting, Item, Cost, Reading, geometry_at}
+use Rattle.wkb_read.proofs.Prelude.{Refuses, any, Tells, TellsReadError, Agrees, geometry_agrees_lem, Counts, IsCause}
 use Rattle.wkb_read.proofs.Prelude.{Spent, AtMost, Stops, Wkb, IsNotMemory, IsFront, IsOnlyFront, HasNoFront, IsRefusal}
 use Rattle.wkb_read.proofs.Prelude.{TellsEach, IfRefused, IfMemory, CountsValue, CountsRefusal, CountsAtMost, ReadsAs}
 use Rattle.wkb_read.specs.Reads.{TakesNoMemory, Reads, Costs}
@@ -19,14 +19,14 @@ zero_counts = record { turns = 0; slots = 0 }
 
 -- ---- what is counted is bounded by the bytes, whatever the result
 
-counted_of : (whole : Reading Item) (r : Result Wkb Refusal) (old new : Counts) → ReadsAs whole r old new
+counted_of : (whole : Reading Item) (r : Result Wkb ReadError) (old new : Counts) → ReadsAs whole r old new
     → AtMost old new whole.0
 counted_of whole (Ok w) old new h = record { turns = omega (arith, h.1.turns); slots = omega (arith, h.1.slots) }
-counted_of whole (Err (refusals.Cause cause)) old new h =
+counted_of whole (Err (read_errors.Cause cause)) old new h =
     record { turns = omega (arith, h.1.turns); slots = omega (arith, h.1.slots) }
-counted_of whole (Err refusals.Memory) old new h = h
+counted_of whole (Err read_errors.Memory) old new h = h
 
-pub count_bounded : (buf : List ℕ) (r : Result Wkb Refusal) (new : Counts) → ReadsAs (reading_of buf) r zero_counts new
+pub count_bounded : (buf : List ℕ) (r : Result Wkb ReadError) (new : Counts) → ReadsAs (reading_of buf) r zero_counts new
     → (4 * new.turns ≤ length buf + 4) × (new.slots ≤ 15 * length buf)
 count_bounded buf r new h = grind (arith, reading_is_bounded_lem, counted_of)
 
@@ -93,13 +93,13 @@ refused_by buf (c, Err e) h cause new is spent =
     rw (← same, ← turns, ← slots) h
 
 -- what holds of each error of the refusal holds of the result
-if_told : (P : WkbError → Type 0) (buf : List ℕ) (e : WkbError) (refusal : Refusal) (new : Counts)
-    → Stops refusal (reading_of buf) zero_counts new → TellsRefusal e refusal → (IsTold buf e new → P e)
+if_told : (P : WkbError → Type 0) (buf : List ℕ) (e : WkbError) (error : ReadError) (new : Counts)
+    → Stops error (reading_of buf) zero_counts new → TellsReadError e error → (IsTold buf e new → P e)
     → IfRefused (Err e) P
-if_told P buf (errors.Memory x) refusal new h tells step = tt
-if_told P buf e (refusals.Cause cause) new h tells step =
+if_told P buf (errors.Memory x) error new h tells step = tt
+if_told P buf e (read_errors.Cause cause) new h tells step =
     step (told buf e cause new (refused_by buf (reading_of buf) (geometry_agrees_lem buf) cause new h.0 h.1) tells)
-if_told P buf e refusals.Memory new h tells step = absurd tells
+if_told P buf e read_errors.Memory new h tells step = absurd tells
 
 -- ---- an allocation failure
 
@@ -116,23 +116,23 @@ if_memory : (e : WkbError) (P : Type 0) → P → IfMemory (Err e) P
 if_memory (errors.Memory x) P p = p
 if_memory _ P p = tt
 
-memory_counted : (buf : List ℕ) (e : WkbError) (refusal : Refusal) (new : Counts)
-    → Stops refusal (reading_of buf) zero_counts new
+memory_counted : (buf : List ℕ) (e : WkbError) (error : ReadError) (new : Counts)
+    → Stops error (reading_of buf) zero_counts new
     → IfMemory (Err e) (CountsAtMost buf new)
-memory_counted buf e refusal new h =
-    if_memory e (CountsAtMost buf new) (at_most buf new (counted_of (reading_of buf) (Err refusal) zero_counts new h))
+memory_counted buf e error new h =
+    if_memory e (CountsAtMost buf new) (at_most buf new (counted_of (reading_of buf) (Err error) zero_counts new h))
 
 -- the error of a fault is no allocation failure
-is_not_memory : (e : WkbError) (refusal : Refusal) → TellsRefusal e refusal → IsCause refusal → IsNotMemory e
-is_not_memory (errors.Memory x) (refusals.Cause cause) tells fault = absurd tells
-is_not_memory (errors.Memory x) refusals.Memory tells fault = absurd fault
-is_not_memory _ refusal tells fault = tt
+is_not_memory : (e : WkbError) (error : ReadError) → TellsReadError e error → IsCause error → IsNotMemory e
+is_not_memory (errors.Memory x) (read_errors.Cause cause) tells fault = absurd tells
+is_not_memory (errors.Memory x) read_errors.Memory tells fault = absurd fault
+is_not_memory _ error tells fault = tt
 
 -- a result that is the error of a refusal
-module _ (buf : List ℕ) (e : WkbError) (refusal : Refusal) (new : Counts)
-    (stops : Stops refusal (reading_of buf) zero_counts new)
-    (tells : TellsRefusal e refusal) where
-  pub refused_as : (TakesNoMemory buf → IsCause refusal) → Reads buf (Err e)
+module _ (buf : List ℕ) (e : WkbError) (error : ReadError) (new : Counts)
+    (stops : Stops error (reading_of buf) zero_counts new)
+    (tells : TellsReadError e error) where
+  pub refused_as : (TakesNoMemory buf → IsCause error) → Reads buf (Err e)
   refused_as none = record {
     front = tt;
     one_front = tt;
@@ -140,19 +140,19 @@ module _ (buf : List ℕ) (e : WkbError) (refusal : Refusal) (new : Counts)
     seen = tt;
     normal = tt;
     writable = tt;
-    refusal = if_told (IsRefusal buf) buf e refusal new stops tells (λ t. t.refusal);
-    one_cause = if_told (TellsEach buf) buf e refusal new stops tells (λ t. t.one_cause);
-    no_front = if_told (λ e. HasNoFront buf) buf e refusal new stops tells (λ t. t.no_front);
-    no_memory = λ takes. is_not_memory e refusal tells (none takes);
+    refusal = if_told (IsRefusal buf) buf e error new stops tells (λ t. t.refusal);
+    one_cause = if_told (TellsEach buf) buf e error new stops tells (λ t. t.one_cause);
+    no_front = if_told (λ e. HasNoFront buf) buf e error new stops tells (λ t. t.no_front);
+    no_memory = λ takes. is_not_memory e error tells (none takes);
   }
 
   pub refused_at : Costs buf (Err e) new
   refused_at =
-      let bound = count_bounded buf (Err refusal) new stops in
+      let bound = count_bounded buf (Err error) new stops in
       record {
         counts = tt;
-        refusal_counts = if_told (λ e. CountsRefusal buf new) buf e refusal new stops tells (λ t. t.counts);
-        memory_counts = memory_counted buf e refusal new stops;
+        refusal_counts = if_told (λ e. CountsRefusal buf new) buf e error new stops tells (λ t. t.counts);
+        memory_counts = memory_counted buf e error new stops;
         turns_bounded = bound.0;
         slots_bounded = bound.1;
       }

@@ -1,8 +1,8 @@
 -- Open collections, as a part of one is finished.
-use Rattle.wkb_read.specs.Prelude.refusals
+use Rattle.wkb_read.specs.Prelude.read_errors
 use Rattle.wkb_read.proofs.Prelude.{◌≡◌, ℕ, suc, ◌+◌, ◌≤◌, List, [], ◌∷◌, ◌++◌, length, Ok, Err, sym, ap, subst}
 use Rattle.wkb_read.proofs.Prelude.{◌∙◌, append_assoc, length-append, arith, Bor, Item, Cost, one_turn, Reading}
-use Rattle.wkb_read.proofs.Prelude.{costs, done, and_then, consumed, Layout, BytesSpell, Refusal}
+use Rattle.wkb_read.proofs.Prelude.{costs, done, and_then, consumed, Layout, BytesSpell, ReadError}
 use Rattle.wkb_read.proofs.Prelude.{Counts, AtMost, Wkb, Open, Whole, Opened, IsCollectionIn}
 use Rattle.wkb_read.proofs.Prelude.{closing, list_item, collection_with, geometry_inside, after_member, in_collection}
 use Rattle.wkb_read.proofs.Prelude.{outward, first_member, cost_of, IsOpen, AreOpen, IsFinished, BeginsAs}
@@ -80,13 +80,13 @@ at_most_turn os bytes old new after whole r turn =
     })
 
 -- what this reading leads to is what is read
-pub reads_on : (result : Result Wkb Refusal) (r whole : Reading Item) (old mid new : Counts)
+pub reads_on : (result : Result Wkb ReadError) (r whole : Reading Item) (old mid new : Counts)
     → costs (cost_of mid) r ≡ costs (cost_of old) whole → ReadsAs r result mid new → ReadsAs whole result old new
 reads_on (Ok w) r whole old mid new e h =
     ((h.0.0, sym (ap (λ (s : Reading Item). s.1) e) ∙ h.0.1), spent_in_all r whole old mid new e h.1)
-reads_on (Err (refusals.Cause cause)) r whole old mid new e h =
+reads_on (Err (read_errors.Cause cause)) r whole old mid new e h =
     (sym (ap (λ (s : Reading Item). cause_of s.1) e) ∙ h.0, spent_in_all r whole old mid new e h.1)
-reads_on (Err refusals.Memory) r whole old mid new e h = at_most_in_all r whole old mid new e h
+reads_on (Err read_errors.Memory) r whole old mid new e h = at_most_in_all r whole old mid new e h
 
 -- ---- a part is finished
 

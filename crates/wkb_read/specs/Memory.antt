@@ -1,6 +1,6 @@
 -- Which inputs are read without an allocation, and which results are no allocation failure.
 use Rattle.std.specs.Prelude.{◌≡◌, ℕ, ◌+◌, ◌≤◌, List, length, Result, Ok, Err}
-use Rattle.wkb_read.specs.Prelude.{WkbType, Layout, Refusal, WkbError, Head, layout_of, head_at, polygon_at}
+use Rattle.wkb_read.specs.Prelude.{WkbType, Layout, ReadError, WkbError, Head, layout_of, head_at, polygon_at}
 use Rattle.wkb_read.specs.Prelude.{multi_line_string_at, multi_polygon_at, body_start, count_in, IsCause}
 use Rattle.wkb_geom.specs.declared.code.WkbType.TheVariants as kinds
 use Rattle.wkb_geom.specs.declared.error.WkbError.TheVariants as errors
@@ -30,7 +30,7 @@ abbrev pub ReadsWithoutMemory : List ℕ → Type 0
 ReadsWithoutMemory bytes = (h : Head) → head_at bytes ≡ Ok h → TypeTakesNone h.wkb_type (layout_of h) bytes
 
 -- neither an allocation failure nor an open collection
-abbrev pub NeedsNone : Result Begun Refusal → Type 0
+abbrev pub NeedsNone : Result Begun ReadError → Type 0
 NeedsNone (Ok (Whole w rest)) = Unit {0}
 NeedsNone (Ok (Opened o rest)) = ⊥
-NeedsNone (Err refusal) = IsCause refusal
+NeedsNone (Err error) = IsCause error

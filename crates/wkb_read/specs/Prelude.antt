@@ -4,8 +4,8 @@ pub use Rattle.wkb_geom.specs.declared.common.Dimension.{Dimension}
 pub use Rattle.wkb_geom.specs.declared.common.Endianness.{Endianness}
 pub use Rattle.wkb_geom.specs.declared.common.Form.TheVariants.{Iso}
 pub use Rattle.wkb_geom.specs.declared.error.Cause.{Cause}
-pub use Rattle.wkb_geom.specs.declared.error.Refusal.{Refusal}
-pub use Rattle.wkb_geom.specs.declared.error.Refusal.TheVariants as refusals
+pub use Rattle.wkb_geom.specs.declared.error.ReadError.{ReadError}
+pub use Rattle.wkb_geom.specs.declared.error.ReadError.TheVariants as read_errors
 pub use Rattle.wkb_geom.specs.declared.error.WkbError.{WkbError}
 pub use Rattle.wkb_geom.specs.declared.header.Head.{Head}
 pub use Rattle.wkb_geom.specs.declared.header.Layout.{Layout}
@@ -24,7 +24,7 @@ pub use Rattle.wkb_geom.specs.Refusals.{Refuses, Opens}
 pub use Rattle.wkb_geom.specs.Spellings.{Spelling, any}
 pub use Rattle.wkb_geom.specs.Stored.{Listed, whole_of, listed_code, values_code, item_code}
 pub use Rattle.wkb_geom.specs.Encodings.{IsWritable}
-pub use Rattle.wkb_geom.specs.Errors.{Tells, TellsRefusal}
+pub use Rattle.wkb_geom.specs.Errors.{Tells, TellsReadError}
 pub use Rattle.wkb_geom.specs.Values.{Coordinate, Value, Values, polygon, multi_line_string, multi_polygon, collection}
 pub use Rattle.wkb_geom.specs.Values.{dimension, no_members, member, member_count, listed_count, nest, nest_each}
 pub use Rattle.wkb_view.specs.declared.counts.Counts.{Counts}

@@ -3,7 +3,7 @@ use Rattle.std.specs.Prelude.{◌≡◌, ℕ, suc, ◌<◌, ◌+◌, ◌-◌, �
 use Rattle.std.specs.Prelude.{Ok, Err, Option, Some, None, Vec, reverse}
 use Rattle.std.specs.Global.{Global}
 use Rattle.std.specs.List.{AllByRecursion}
-use Rattle.wkb_read.specs.Prelude.{Refusal, Layout, max_nesting, number, Item, Reading, costs, one_turn, done, cost_of}
+use Rattle.wkb_read.specs.Prelude.{ReadError, Layout, max_nesting, number, Item, Reading, costs, one_turn, done, cost_of}
 use Rattle.wkb_read.specs.Prelude.{and_then, repeated, collection_within, body_start, parts_start, geometry_at, Counts}
 use Rattle.wkb_read.specs.Prelude.{HasHead, Spent, Stops, BytesSpell, nest, nest_each, values}
 use Rattle.wkb_view.specs.Entries.{entries, capacity}
@@ -79,14 +79,14 @@ pub record IsFinished (depth : ℕ) (part : Item) : Type 0 where
 
 -- This result begins what a reading gives of these bytes inside this number of open collections: a whole geometry is
 -- what it gives; of a collection it gives what comes of the first member; a refusal is its own.
-abbrev pub BeginsAs : (ℕ → List ℕ → Reading Item) → ℕ → List ℕ → Result Begun Refusal → Counts → Counts → Type 0
+abbrev pub BeginsAs : (ℕ → List ℕ → Reading Item) → ℕ → List ℕ → Result Begun ReadError → Counts → Counts → Type 0
 BeginsAs read depth bytes (Ok (Whole w rest)) old new =
     (costs (cost_of new) (done w rest.now) ≡ costs (cost_of old) (read depth bytes))
     × (length rest.now + 9 ≤ length bytes)
 BeginsAs read depth bytes (Ok (Opened o rest)) old new =
     (costs (cost_of new) (first_member depth o rest.now) ≡ costs (cost_of old) (read depth bytes))
     × (o.bytes.now ≡ bytes) × (depth < max_nesting) × IsOpen depth o rest.now
-BeginsAs read depth bytes (Err refusal) old new = Stops refusal (read depth bytes) old new
+BeginsAs read depth bytes (Err error) old new = Stops error (read depth bytes) old new
 
 -- a part was read inside the open collections `before`, and those of `after` are open then: all is read, or the next
 -- part begins
@@ -100,6 +100,6 @@ Settles before part after rest None old new =
     × AreOpen os rest
 
 -- the result is what this reading gives, and what it cost was counted
-abbrev pub ReadsAs : Reading Item → Result Wkb Refusal → Counts → Counts → Type 0
+abbrev pub ReadsAs : Reading Item → Result Wkb ReadError → Counts → Counts → Type 0
 ReadsAs whole (Ok w) old new = ((rest : List ℕ) × (whole.1 ≡ Ok (w, rest))) × Spent old new whole.0
-ReadsAs whole (Err refusal) old new = Stops refusal whole old new
+ReadsAs whole (Err error) old new = Stops error whole old new

@@ -10,7 +10,7 @@ use crate::geometry::{View, Wkb};
 use crate::read::stack::{Begun, begin_collection, read_collection};
 use std::alloc::Global;
 use wkb_geom::code::WkbType;
-use wkb_geom::{Head, MAX_NESTING, Refusal, WkbResult};
+use wkb_geom::{Head, MAX_NESTING, ReadError, WkbResult};
 use wkb_view::counts::Counts;
 use wkb_view::line_string::LineString;
 use wkb_view::multi_line_string::MultiLineString;
@@ -64,12 +64,16 @@ fn read_and_count<'a>(alloc: Global, buf: &'a [u8], counts: &mut Counts) -> WkbR
     *counts = NO_COUNTS;
     match read_geometry(alloc, buf, counts) {
         Ok(whole) => Ok(whole),
-        Err(refusal) => Err(refusal.into()),
+        Err(error) => Err(error.into()),
     }
 }
 
 /// Reads the geometry at the start of the bytes. Only a collection that has members needs the loop over a stack.
-fn read_geometry<'a>(alloc: Global, buf: &'a [u8], counts: &mut Counts) -> Result<Wkb<'a>, Refusal>
+fn read_geometry<'a>(
+    alloc: Global,
+    buf: &'a [u8],
+    counts: &mut Counts,
+) -> Result<Wkb<'a>, ReadError>
     requires fits { CanCount counts.old (geometry_at max_nesting buf.now).0 }
     ensures reads { ReadsAs (geometry_at max_nesting buf.now) result counts.old counts.new }
     ensures no_memory { ReadsWithoutMemory buf.now → IfErr result IsCause }
@@ -77,7 +81,7 @@ fn read_geometry<'a>(alloc: Global, buf: &'a [u8], counts: &mut Counts) -> Resul
     match read_front(alloc, 0, buf, counts) {
         Ok(Begun::Whole(whole, _)) => Ok(whole),
         Ok(Begun::Opened(outermost, members)) => read_collection(alloc, outermost, members, counts),
-        Err(refusal) => Err(refusal),
+        Err(error) => Err(error),
     }
 }
 
@@ -89,7 +93,7 @@ pub(crate) fn read_front<'a>(
     depth: usize,
     bytes: &'a [u8],
     counts: &mut Counts,
-) -> Result<Begun<'a>, Refusal>
+) -> Result<Begun<'a>, ReadError>
     requires fits { CanCount counts.old (geometry_inside depth bytes.now).0 }
     ensures begins { BeginsAs geometry_inside depth bytes.now result counts.old counts.new }
     ensures no_memory { ReadsWithoutMemory bytes.now → NeedsNone result }

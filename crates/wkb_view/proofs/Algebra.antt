@@ -2,8 +2,8 @@
 use Rattle.std.proofs.Common.{◌≡◌, ◌+◌, ◌≤◌, ℕ, suc, List, [], ◌∷◌, Ok, Err, refl, sym, ap, ◌∙◌, add_assoc, zero-add}
 use Rattle.std.proofs.Common.{arith}
 use Rattle.wkb_geom.specs.Reading.{◌⊕◌}
-use Rattle.wkb_view.specs.Prelude.{Cost, free, one_turn, Reading, costs, done, and_then, repeated, Refusal, cause_of}
-use Rattle.wkb_view.specs.Prelude.refusals
+use Rattle.wkb_view.specs.Prelude.{Cost, free, one_turn, Reading, costs, done, and_then, repeated, ReadError, cause_of}
+use Rattle.wkb_view.specs.Prelude.read_errors
 use Rattle.wkb_view.specs.declared.counts.Counts.{Counts}
 use Rattle.wkb_view.specs.Outcome.{Spent, AtMost, CanCount, Stops, next_turn, cost_of}
 
@@ -104,13 +104,13 @@ pub part_leads : {A B : Type 0} (r : Reading A) (f : A → List ℕ → Reading 
 part_leads r f whole old mid new x rest leads is spent = grind (arith, cost_is, costs-costs)
 
 -- and where it stops, the whole does
-pub part_stops : {A B : Type 0} (refusal : Refusal) (r : Reading A) (f : A → List ℕ → Reading B) (whole : Reading B)
+pub part_stops : {A B : Type 0} (error : ReadError) (r : Reading A) (f : A → List ℕ → Reading B) (whole : Reading B)
     (old mid new : Counts)
-    → costs (cost_of mid) (and_then r f) ≡ costs (cost_of old) whole → Stops refusal r mid new
-    → Stops refusal whole old new
-part_stops (refusals.Cause cause) (c, Ok x) f whole old mid new leads h = absurd cc
-part_stops (refusals.Cause cause) (c, Err e) f whole old mid new leads h =
+    → costs (cost_of mid) (and_then r f) ≡ costs (cost_of old) whole → Stops error r mid new
+    → Stops error whole old new
+part_stops (read_errors.Cause cause) (c, Ok x) f whole old mid new leads h = absurd cc
+part_stops (read_errors.Cause cause) (c, Err e) f whole old mid new leads h =
     (sym (ap (λ (s : Reading _). cause_of s.1) leads) ∙ h.0, spent_in_all _ whole old mid new leads h.1)
-part_stops refusals.Memory r f whole old mid new leads most =
+part_stops read_errors.Memory r f whole old mid new leads most =
     let part = part_within r f whole old mid leads in
     record { turns = omega (arith, most.turns, part.0); slots = omega (arith, most.slots, part.1) }

@@ -3,8 +3,8 @@ use Rattle.std.proofs.Common.{◌≡◌, ℕ, suc, ◌+◌, ◌-◌, ◌≤◌, 
 use Rattle.std.proofs.Common.{append_assoc, arith, Bool, true, false, cond, length, drop, ltb, length-drop}
 use Rattle.std.proofs.lemmas.List.{append-nil}
 use Rattle.std.proofs.lemmas.Bool.{le-ltb, lt-ltb}
-use Rattle.wkb_view.specs.Prelude.{refused, end_of_input, Cause, Refusal, Cost, free, one_turn, Outcome}
-use Rattle.wkb_view.specs.Prelude.refusals
+use Rattle.wkb_view.specs.Prelude.{refused, end_of_input, Cause, ReadError, Cost, free, one_turn, Outcome}
+use Rattle.wkb_view.specs.Prelude.read_errors
 use Rattle.wkb_view.specs.Prelude.{Reading, costs, done, count_in, and_then, repeated, Layout, Item, number}
 use Rattle.wkb_view.specs.Prelude.{multi_point_end, slots_asked, slots_of, consumed, body_start, parts_start, list_at}
 use Rattle.wkb_view.specs.Prelude.{list_item, member_at, parts_body, multi_point_with, multi_polygon_with}
@@ -22,7 +22,7 @@ freely {A = A} r p c is = (ap (λ (q : Reading A). q.1) is, rw is (record { turn
 
 -- what is rejected at no cost stops there
 pub refused_stops : {A : Type 0} (r : Reading A) (bytes : List ℕ) (cause : Cause) (c : Counts) → r ≡ refused bytes cause
-    → Stops (refusals.Cause cause) r c c
+    → Stops (read_errors.Cause cause) r c c
 refused_stops r bytes cause c is = rw is (refl, record { turns = omega arith; slots = omega arith })
 
 -- the parts so far, and those still to be read
@@ -77,7 +77,7 @@ module _ {A : Type 0} {start : Counts} {whole : Reading (List A)} {part : List �
         record { leads = part_leads (part rest) _ whole start (next_turn old) new x after next_leads is spent }
 
     -- a part that stops
-    pub loop_stops : (e : Refusal) (new : Counts) → Stops e (part rest) (next_turn old) new → Stops e whole start new
+    pub loop_stops : (e : ReadError) (new : Counts) → Stops e (part rest) (next_turn old) new → Stops e whole start new
     loop_stops e new stops = part_stops e (part rest) _ whole start (next_turn old) new next_leads stops
 
   -- no part is left
@@ -147,12 +147,12 @@ module _ (least : ℕ) (l : Layout) (bytes : List ℕ) where
     pub entries_within : entries_asked least l bytes ≤ list_or_cut.0.slots
     entries_within = grind (arith, asked)
 
-    pub list_refused : (refusal : Refusal) (old new : Counts) → HasNoList l bytes refusal → new.turns ≡ old.turns
-        → new.slots ≡ old.slots + entries_asked least l bytes → Stops refusal list_or_cut old new
-    list_refused (refusals.Cause cause) old new none turns slots =
+    pub list_refused : (error : ReadError) (old new : Counts) → HasNoList l bytes error → new.turns ≡ old.turns
+        → new.slots ≡ old.slots + entries_asked least l bytes → Stops error list_or_cut old new
+    list_refused (read_errors.Cause cause) old new none turns slots =
         let short : has_no_count ≡ true = lt-ltb _ _ none.1 in
         rw (short, none.0) (refl, record { turns = omega (arith, turns); slots = omega (arith, slots, none.1) })
-    list_refused refusals.Memory old new none turns slots =
+    list_refused read_errors.Memory old new none turns slots =
         record { turns = omega (arith, turns); slots = omega (arith, slots, entries_within) }
 
 module _ (l : Layout) (bytes : List ℕ) where
@@ -160,8 +160,8 @@ module _ (l : Layout) (bytes : List ℕ) where
   unfolding multi_polygon_at
   polygons_within = entries_within 9 l bytes _ (omega (arith, parts_length l.has_srid bytes))
 
-  pub polygons_refused : (refusal : Refusal) (old new : Counts) → HasNoList l bytes refusal → new.turns ≡ old.turns
-      → new.slots ≡ old.slots + entries_asked 9 l bytes → Stops refusal (multi_polygon_at l bytes) old new
+  pub polygons_refused : (error : ReadError) (old new : Counts) → HasNoList l bytes error → new.turns ≡ old.turns
+      → new.slots ≡ old.slots + entries_asked 9 l bytes → Stops error (multi_polygon_at l bytes) old new
   unfolding multi_polygon_at
   polygons_refused = list_refused 9 l bytes _ (omega (arith, parts_length l.has_srid bytes))
 
@@ -199,5 +199,5 @@ module _ {A : Type 0} {n : ℕ} {l : Layout} {part : List ℕ → Reading A} {en
       all_read _ rest whole old new (part_leads parts made whole old mid new xs rest h.leads is spent)
 
   -- a list whose parts stop
-  pub list_stops : (e : Refusal) (new : Counts) → Stops e parts mid new → Stops e whole old new
+  pub list_stops : (e : ReadError) (new : Counts) → Stops e parts mid new → Stops e whole old new
   list_stops e new stops = part_stops e parts made whole old mid new h.leads stops

@@ -4,7 +4,7 @@ use Rattle.std.specs.Borrow.{Bor}
 use Rattle.wkb_geom.specs.declared.code.TheConstants.{LINE_STRING, POLYGON, MULTI_LINE_STRING}
 use Rattle.wkb_geom.specs.declared.header.TheConstants.{MIN_MEMBER_SIZE}
 use Rattle.wkb_geom.specs.declared.words.TheConstants.{COUNT_SIZE}
-use Rattle.wkb_view.specs.Prelude.{Layout, Item, Reading, Cause, Refusal, list_at, slots_asked, body_start, consumed}
+use Rattle.wkb_view.specs.Prelude.{Layout, Item, Reading, Cause, ReadError, list_at, slots_asked, body_start, consumed}
 use Rattle.wkb_view.specs.Prelude.{ring_part, polygon_item, member_at, list_item, multi_line_string_with}
 use Rattle.wkb_view.specs.declared.counts.Counts.{Counts}
 use Rattle.wkb_view.specs.declared.reserved.Reserved.{Reserved}
@@ -77,7 +77,7 @@ module _ {least : ℕ} (parts : Layout → PartsOf least) (l : Layout) where
       CountsOutcome (λ x. passed_as (parts_ending (entries x.0)) bytes x.1) result (parts_at n bytes) old new
 
   -- the whole was passed, and these are the ends of its parts, or the reader stopped
-  abbrev pub ReadsEnds : List ℕ → Result (Vec ℕ Global × Bor (List ℕ)) Refusal → Counts → Counts → Type 0
+  abbrev pub ReadsEnds : List ℕ → Result (Vec ℕ Global × Bor (List ℕ)) ReadError → Counts → Counts → Type 0
   ReadsEnds bytes result old new =
       CountsOrStops (λ x. passed_as (λ t. (parts l).whole (parts_ending x.0.items t) t) bytes x.1)
       result (whole_at bytes) old new

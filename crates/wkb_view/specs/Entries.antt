@@ -1,7 +1,7 @@
 -- Lists that are allocated once, and the entries that are asked for after a count.
 use Rattle.std.specs.Prelude.{ℕ, ◌+◌, ◌-◌, ◌/◌, ◌≤◌, min, List, length, vec_capacity}
-use Rattle.wkb_view.specs.Prelude.{Refusal, Layout, body_start, parts_start, count_in, HasNoCount}
-use Rattle.wkb_view.specs.Prelude.refusals
+use Rattle.wkb_view.specs.Prelude.{ReadError, Layout, body_start, parts_start, count_in, HasNoCount}
+use Rattle.wkb_view.specs.Prelude.read_errors
 use Rattle.wkb_view.specs.declared.reserved.Reserved.{Reserved}
 
 -- the entries of a list
@@ -21,6 +21,6 @@ abbrev pub HasSlots : ℕ → Layout → ℕ → List ℕ → ℕ → Type 0
 HasSlots least l n bytes room = min n (length (parts_start l.has_srid bytes) / least) ≤ room
 
 -- why there is no list: the input ends before the count does, or the allocation failed
-abbrev pub HasNoList : Layout → List ℕ → Refusal → Type 0
-HasNoList l bytes (refusals.Cause cause) = HasNoCount l bytes cause
-HasNoList l bytes refusals.Memory = Unit {0}
+abbrev pub HasNoList : Layout → List ℕ → ReadError → Type 0
+HasNoList l bytes (read_errors.Cause cause) = HasNoCount l bytes cause
+HasNoList l bytes read_errors.Memory = Unit {0}

@@ -1,8 +1,8 @@
 -- How the result of a read agrees with reading.
 use Rattle.std.specs.Prelude.{◌≡◌, ℕ, ◌+◌, ◌≤◌, ◌<◌, ◌^◌, List, length, Result, Ok, Err, Some, IfErr}
 use Rattle.std.specs.Borrow.{Bor}
-use Rattle.wkb_view.specs.Prelude.{Cause, Refusal, Cost, Outcome, Reading, Item, consumed, rejection, cause_of}
-use Rattle.wkb_view.specs.Prelude.refusals
+use Rattle.wkb_view.specs.Prelude.{Cause, ReadError, Cost, Outcome, Reading, Item, consumed, rejection, cause_of}
+use Rattle.wkb_view.specs.Prelude.read_errors
 use Rattle.wkb_view.specs.declared.counts.Counts.{Counts}
 
 -- what was counted between the two
@@ -52,17 +52,17 @@ abbrev pub IsReadCounted : {X Y : Type 0} → (X → Y) → Result (X × Bor (Li
 IsReadCounted seen result reading old new = CountsOutcome (seen_with_rest seen) result reading old new
 
 -- a reading's cause, whose cost was counted; where an allocation failed, no more than that cost
-abbrev pub Stops : {A : Type 0} → Refusal → Reading A → Counts → Counts → Type 0
-Stops (refusals.Cause cause) reading old new = (cause_of reading.1 ≡ Some cause) × Spent old new reading.0
-Stops refusals.Memory reading old new = AtMost old new reading.0
+abbrev pub Stops : {A : Type 0} → ReadError → Reading A → Counts → Counts → Type 0
+Stops (read_errors.Cause cause) reading old new = (cause_of reading.1 ≡ Some cause) × Spent old new reading.0
+Stops read_errors.Memory reading old new = AtMost old new reading.0
 
 -- the result is the outcome of a reading, and its cost was counted, or the reader stopped
-abbrev pub CountsOrStops : {X Y : Type 0} → (X → Y × List ℕ) → Result X Refusal → Reading Y → Counts → Counts → Type 0
+abbrev pub CountsOrStops : {X Y : Type 0} → (X → Y × List ℕ) → Result X ReadError → Reading Y → Counts → Counts → Type 0
 CountsOrStops shown (Ok x) reading old new = (reading.1 ≡ Ok (shown x)) × Spent old new reading.0
-CountsOrStops shown (Err refusal) reading old new = Stops refusal reading old new
+CountsOrStops shown (Err error) reading old new = Stops error reading old new
 
 -- the view and the bytes after it are those of a reading, whose cost was counted, or the reader stopped
-abbrev pub IsReadOrStops : {X Y : Type 0} → (X → Y) → Result (X × Bor (List ℕ)) Refusal → Reading Y → Counts → Counts
+abbrev pub IsReadOrStops : {X Y : Type 0} → (X → Y) → Result (X × Bor (List ℕ)) ReadError → Reading Y → Counts → Counts
     → Type 0
 IsReadOrStops seen result reading old new = CountsOrStops (seen_with_rest seen) result reading old new
 
@@ -75,10 +75,10 @@ abbrev pub TakesAtLeast : {X : Type 0} → ℕ → List ℕ → X × Bor (List �
 TakesAtLeast least bytes x = length x.1.now + least ≤ length bytes
 
 -- the bytes are rejected: no allocation failed
-abbrev pub IsCause : Refusal → Type 0
-IsCause (refusals.Cause cause) = Unit {0}
-IsCause refusals.Memory = ⊥
+abbrev pub IsCause : ReadError → Type 0
+IsCause (read_errors.Cause cause) = Unit {0}
+IsCause read_errors.Memory = ⊥
 
 -- a reading that asks for no slot fails only by rejecting the bytes
-abbrev pub RefusesWithoutSlots : {X Y : Type 0} → Reading Y → Result X Refusal → Type 0
+abbrev pub RefusesWithoutSlots : {X Y : Type 0} → Reading Y → Result X ReadError → Type 0
 RefusesWithoutSlots reading result = reading.0.slots ≡ 0 → IfErr result IsCause

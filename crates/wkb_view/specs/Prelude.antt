@@ -8,8 +8,8 @@ pub use Rattle.wkb_geom.specs.declared.header.Head.{Head}
 pub use Rattle.wkb_geom.specs.declared.header.Layout.{Layout}
 pub use Rattle.wkb_geom.specs.declared.error.Cause.{Cause}
 pub use Rattle.wkb_geom.specs.declared.error.Cause.TheVariants.{EndOfInput as end_of_input}
-pub use Rattle.wkb_geom.specs.declared.error.Refusal.{Refusal}
-pub use Rattle.wkb_geom.specs.declared.error.Refusal.TheVariants as refusals
+pub use Rattle.wkb_geom.specs.declared.error.ReadError.{ReadError}
+pub use Rattle.wkb_geom.specs.declared.error.ReadError.TheVariants as read_errors
 unfoldable pub use Rattle.wkb_geom.specs.Numbers.{number}
 pub use Rattle.wkb_geom.specs.Numbers.{is_nan, all_nan, AreBytes, IsWord}
 pub use Rattle.wkb_geom.specs.Dimensions.{width, size, as_dimensions}

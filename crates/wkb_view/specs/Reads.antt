@@ -3,7 +3,7 @@
 use Rattle.std.specs.Prelude.{ℕ, List, Result}
 use Rattle.std.specs.Borrow.{Bor}
 use Rattle.wkb_geom.specs.declared.code.TheConstants.{POLYGON}
-use Rattle.wkb_view.specs.Prelude.{Dimension, Layout, Cause, Refusal, Listed, Coordinate, polygon_at, multi_point_at}
+use Rattle.wkb_view.specs.Prelude.{Dimension, Layout, Cause, ReadError, Listed, Coordinate, polygon_at, multi_point_at}
 use Rattle.wkb_view.specs.Prelude.{multi_line_string_at, multi_polygon_at, member_at}
 use Rattle.wkb_view.specs.declared.counts.Counts.{Counts}
 use Rattle.wkb_view.specs.declared.multi_point.MultiPoint.{MultiPoint}
@@ -15,7 +15,7 @@ use Rattle.wkb_view.specs.Views.{multi_point_seen}
 
 -- a value that was read, with the bytes after it, or why the reader stopped
 abbrev Read : Type 0 → Type 0
-Read X = Result (X × Bor (List ℕ)) Refusal
+Read X = Result (X × Bor (List ℕ)) ReadError
 
 -- a polygon of this layout is read
 abbrev pub ReadsPolygon : Layout → List ℕ → Read (Listed (List (List Coordinate))) → Counts → Counts → Type 0

@@ -12,7 +12,7 @@ use crate::counts::Counts;
 use crate::reserved::{Reserved, counted_list};
 use std::alloc::Global;
 use wkb_geom::words::COUNT_SIZE;
-use wkb_geom::{Cause, Layout, Refusal};
+use wkb_geom::{Cause, Layout, ReadError};
 
 /// Parts of one form that follow one another: rings, or line strings with headers of their own.
 pub(crate) trait Parts {
@@ -37,7 +37,7 @@ pub(crate) fn read_ends<'a, P: Parts>(
     layout: Layout,
     bytes: &'a [u8],
     counts: &mut Counts,
-) -> Result<(Vec<usize>, &'a [u8]), Refusal>
+) -> Result<(Vec<usize>, &'a [u8]), ReadError>
     requires fits { CanCount counts.old (whole_at P.parts layout bytes.now).0 }
     ensures answer { ReadsEnds P.parts layout bytes.now result counts.old counts.new }
     ensures ends { IfOk result (λ x. AreEndsOf P.parts layout x.0.items bytes.now x.1) }

@@ -18,7 +18,7 @@ use wkb_geom::header::MIN_MEMBER_SIZE;
 use wkb_geom::words::COUNT_SIZE;
 use wkb_geom::{
     Cause, Dimension, Dimensioned, Dimensions, Endianness, Form, GeometryTrait, GeometryType,
-    Layout, MultiLineStringTrait, Refusal,
+    Layout, MultiLineStringTrait, ReadError,
 };
 
 /// A multi line string: its members by the offsets at which they end.
@@ -117,7 +117,7 @@ impl<'a> MultiLineString<'a> {
         layout: Layout,
         bytes: &'a [u8],
         counts: &mut Counts,
-    ) -> Result<(MultiLineString<'a>, &'a [u8]), Refusal>
+    ) -> Result<(MultiLineString<'a>, &'a [u8]), ReadError>
         requires fits { CanCount counts.old (multi_line_string_at layout bytes.now).0 }
         requires head { HasHead (λ d. kinds.MultiLineString d) layout bytes.now }
         ensures answer { ReadsMultiLineString layout bytes.now result counts.old counts.new }

@@ -23,7 +23,7 @@ use wkb_geom::header::MIN_MEMBER_SIZE;
 use wkb_geom::words::COUNT_SIZE;
 use wkb_geom::{
     Dimension, Dimensioned, Dimensions, Endianness, Form, GeometryTrait, GeometryType, Layout,
-    MultiPolygonTrait, Refusal,
+    MultiPolygonTrait, ReadError,
 };
 
 /// A multi polygon.
@@ -94,7 +94,7 @@ impl<'a> MultiPolygon<'a> {
         layout: Layout,
         bytes: &'a [u8],
         counts: &mut Counts,
-    ) -> Result<(MultiPolygon<'a>, &'a [u8]), Refusal>
+    ) -> Result<(MultiPolygon<'a>, &'a [u8]), ReadError>
         requires fits { CanCount counts.old (multi_polygon_at layout bytes.now).0 }
         requires head { HasHead (λ d. kinds.MultiPolygon d) layout bytes.now }
         ensures answer { ReadsMultiPolygon layout bytes.now result counts.old counts.new }
@@ -118,7 +118,7 @@ fn read_member<'a>(
     dimension: Dimension,
     bytes: &'a [u8],
     counts: &mut Counts,
-) -> Result<(Polygon<'a>, &'a [u8]), Refusal>
+) -> Result<(Polygon<'a>, &'a [u8]), ReadError>
     requires fits { CanCount counts.old (member_at POLYGON dimension bytes.now).0 }
     ensures dimension { IfOk result (λ x. x.0.dimension ≡ dimension) }
     ensures answer { ReadsMember dimension bytes.now result counts.old counts.new }
@@ -137,7 +137,7 @@ fn read_members<'a>(
     mut members: Reserved<Polygon<'a>>,
     count: u32,
     counts: &mut Counts,
-) -> Result<(Reserved<Polygon<'a>>, &'a [u8]), Refusal>
+) -> Result<(Reserved<Polygon<'a>>, &'a [u8]), ReadError>
     requires whole { body_start layout.has_srid + COUNT_SIZE ≤ length bytes.now }
     requires empty { entries members ≡ [] }
     requires room { HasSlots MIN_MEMBER_SIZE layout count bytes.now (capacity members) }

@@ -19,7 +19,7 @@ use wkb_geom::header::MIN_MEMBER_SIZE;
 use wkb_geom::words::{COUNT_SIZE, WORD_SIZE};
 use wkb_geom::{
     Dimension, Dimensioned, Dimensions, Endianness, Form, GeometryTrait, GeometryType, Layout,
-    PolygonTrait, Refusal,
+    PolygonTrait, ReadError,
 };
 
 /// A polygon: its rings by the offsets at which they end.
@@ -125,7 +125,7 @@ impl<'a> Polygon<'a> {
         layout: Layout,
         bytes: &'a [u8],
         counts: &mut Counts,
-    ) -> Result<(Polygon<'a>, &'a [u8]), Refusal>
+    ) -> Result<(Polygon<'a>, &'a [u8]), ReadError>
         requires fits { CanCount counts.old (polygon_at layout bytes.now).0 }
         requires head { HasHead (λ d. kinds.Polygon d) layout bytes.now }
         ensures dimension { IfOk result (λ x. x.0.dimension ≡ layout.dimension) }

@@ -9,7 +9,7 @@ ghost use Rattle.wkb_view.specs.Outcome.{IsCause};
 use crate::counts::Counts;
 use std::alloc::Global;
 use wkb_geom::words::COUNT_SIZE;
-use wkb_geom::{Layout, Refusal};
+use wkb_geom::{Layout, ReadError};
 
 /// A list that was given all its room when it was made, so that a push allocates nothing.
 #[derive(Drop)]
@@ -59,7 +59,7 @@ pub fn counted_list<T>(
     bytes: &[u8],
     least: usize,
     counts: &mut Counts,
-) -> Result<(u32, Reserved<T>), Refusal>
+) -> Result<(u32, Reserved<T>), ReadError>
     requires least { 0 < least }
     requires fits { counts.old.slots + entries_asked least layout bytes.now < 2 ^ 128 }
     ensures slots { counts.new.slots ≡ counts.old.slots + entries_asked least layout bytes.now }

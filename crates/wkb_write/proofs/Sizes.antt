@@ -7,7 +7,7 @@ use Rattle.wkb_write.proofs.Prelude.{no_room, Advances, IsShort, Progress, Stopp
 use Rattle.std.specs.Prelude.{is_some}
 use Rattle.std.proofs.lemmas.Result.{err_from_is_err_and}
 use Rattle.wkb_geom.specs.Refusals.{srid_size}
-use Rattle.wkb_geom.specs.Encodings.{refusal, size_fault, form_srid}
+use Rattle.wkb_geom.specs.Encodings.{fault_under, size_fault, form_srid}
 use Rattle.wkb_write.proofs.Faults.{reports_first, reports_rest}
 use Rattle.wkb_write.proofs.Whole.{header_within, size_of_parts}
 use Rattle.wkb_write.specs.Bodies.{size_by_parts}
@@ -48,7 +48,7 @@ pub size_refused : {read told : Result ℕ Fault} (e : Fault) (form : Form) (g :
 unfolding IsMeasured
 size_refused e form g r exit measured same was = λ order.
     let p = err_from_is_err_and r exit in
-    let P : Fault → Type 0 = λ y. Finds y (refusal order form g) in
+    let P : Fault → Type 0 = λ y. Finds y (fault_under order form g) in
     rw p.1 (subst P (sym p.2) (reports_first e (fault g) _ (rw (sym same ∙ was) at measured)))
 
 -- the size that was measured, with that of the header, is that of the encoding, or past `usize`

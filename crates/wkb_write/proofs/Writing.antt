@@ -12,7 +12,7 @@ use Rattle.std.specs.declared.io.Error.{Error}
 use Rattle.std.proofs.KnownBytes.{Appends-trans}
 use Rattle.std.specs.Io.KnownBytes.{Appends}
 use Rattle.wkb_sink.specs.Sinks.{IsBegun, IsIOError, IsOwnError, Puts, PutsOrStops, TellsFailure}
-use Rattle.wkb_write.specs.Answers.{refusal_of, IsSpelledAs, OutgrowsSlice, TellsPut, Writes}
+use Rattle.wkb_write.specs.Answers.{fault_of, IsSpelledAs, OutgrowsSlice, TellsPut, Writes}
 use Rattle.wkb_write.specs.Measures.{Reports}
 use Rattle.wkb_geom.specs.declared.error.WkbError.TheVariants as errors
 
@@ -40,14 +40,14 @@ spelled_as o g (Err e) old new failed none lawful fits puts = tt
 
 -- bytes that are in memory are not rejected for their length
 pub encoding_fits : (o : WriteOptions) (g : Geometry) (bytes : List ℕ) → bytes ≡ encoding_of o g → fault g ≡ None
-    → length bytes < 2 ^ 64 → refusal_of o g ≡ None
+    → length bytes < 2 ^ 64 → fault_of o g ≡ None
 encoding_fits o g bytes is none fits =
     none_both (fault g) _ none (size_without_fault (length (encoding_of o g)) (subst (λ t. length t < 2 ^ 64) is fits))
 
 -- for bytes that are in memory only room can be lacking
 pub encoding_outgrows : (o : WriteOptions) (g : Geometry) (bytes old : List ℕ) (r : Result ℕ WkbError)
-    → bytes ≡ encoding_of o g → refusal_of o g ≡ None → IfErr r (λ _. length old < length bytes)
-    → IfErr r (λ e. TellsFailure e None) → IfErr r (λ e. Reports e (refusal_of o g) ⊎ OutgrowsSlice o g old e)
+    → bytes ≡ encoding_of o g → fault_of o g ≡ None → IfErr r (λ _. length old < length bytes)
+    → IfErr r (λ e. TellsFailure e None) → IfErr r (λ e. Reports e (fault_of o g) ⊎ OutgrowsSlice o g old e)
 encoding_outgrows o g bytes old (Ok n) is none short taken = tt
 encoding_outgrows o g bytes old (Err e) is none short taken =
     inr (record { writable = none; short = subst (λ t. length old < length t) is short; taken = taken })
@@ -108,7 +108,7 @@ module _ {o : WriteOptions} {g : Geometry} {untouched : Type 0} {old new : Optio
       }
 
   -- what was put of a geometry that isn't rejected was written
-  pub put_writes : {r : Result (Unit {0}) WkbError} (put : Result (Unit {0}) (Option Error)) → refusal_of o g ≡ None
+  pub put_writes : {r : Result (Unit {0}) WkbError} (put : Result (Unit {0}) (Option Error)) → fault_of o g ≡ None
       → IsGeometry g → IsForm o.form → PutsOrStops old new failed fails_by (encoding_of o g) put → TellsPut put r
       → Writes o g r untouched old new failed fails_by
   put_writes {r} put none lawful fits puts is =

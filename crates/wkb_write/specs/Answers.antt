@@ -11,7 +11,7 @@ use Rattle.wkb_geom.specs.Errors.{IsMemory, TellsFault}
 use Rattle.wkb_geom.specs.Geometries.{Geometry, IsGeometry, normal}
 use Rattle.wkb_geom.specs.Values.{Value}
 use Rattle.wkb_geom.specs.Spellings.{Spelling, Spells}
-use Rattle.wkb_geom.specs.Encodings.{fault, refusal, encoding, form_with_flags}
+use Rattle.wkb_geom.specs.Encodings.{fault, fault_under, encoding, form_with_flags}
 use Rattle.wkb_laws.specs.Written.{HasOptions}
 use Rattle.wkb_write.specs.Measures.{Reports, Finds}
 use Rattle.wkb_geom.specs.declared.error.Fault.{Fault}
@@ -29,33 +29,33 @@ unfoldable pub member_encoding : {X : Type 0} → (X → Geometry) → Endiannes
 member_encoding meant order has_flags x = encoding order (form_with_flags has_flags) (meant x)
 
 -- why there is none: the first fault, else the size
-abbrev pub refusal_of : WriteOptions → Geometry → Option Fault
-refusal_of options g = refusal options.endianness options.form g
+abbrev pub fault_of : WriteOptions → Geometry → Option Fault
+fault_of options g = fault_under options.endianness options.form g
 
 -- the result is the length of the encoding, in either order, or the error that reports what is rejected
 abbrev pub IsSizeOf : Form → Geometry → Result ℕ WkbError → Type 0
 IsSizeOf form g r =
     (order : Endianness)
-    → MatchResult r (λ n. (refusal order form g ≡ None) × (n ≡ length (encoding order form g)))
-    (λ e. Reports e (refusal order form g))
+    → MatchResult r (λ n. (fault_under order form g ≡ None) × (n ≡ length (encoding order form g)))
+    (λ e. Reports e (fault_under order form g))
 
 -- the result is the length of the encoding, in either order, or the fault for which there is none
 abbrev pub IsSized : Form → Geometry → Result ℕ Fault → Type 0
 IsSized form g r =
     (order : Endianness)
-    → MatchResult r (λ n. (refusal order form g ≡ None) × (n ≡ length (encoding order form g)))
-    (λ e. Finds e (refusal order form g))
+    → MatchResult r (λ n. (fault_under order form g ≡ None) × (n ≡ length (encoding order form g)))
+    (λ e. Finds e (fault_under order form g))
 
 -- what is rejected is reported by the error, and the sink is untouched
 abbrev pub IsRefusedAs : WriteOptions → Geometry → Result (Unit {0}) WkbError → Type 0 → Type 0
 IsRefusedAs options g r untouched =
-    (f : Fault) → refusal options.endianness options.form g ≡ Some f → IsErrAnd r (λ e. TellsFault e f) × untouched
+    (f : Fault) → fault_under options.endianness options.form g ≡ Some f → IsErrAnd r (λ e. TellsFault e f) × untouched
 
 -- what is not rejected is put to the sink, at Ok the whole of it
 abbrev pub IsWrittenAs : WriteOptions → Geometry → Result (Unit {0}) WkbError → Option (List ℕ) → Option (List ℕ) → Bool
     → Type 0
 IsWrittenAs options g r old new failed =
-    refusal options.endianness options.form g ≡ None
+    fault_under options.endianness options.form g ≡ None
     → Puts old new failed (encoding options.endianness options.form g) r
 
 -- bytes that spell the value were appended, once. Each geometry is in the options' order, and only the outermost has
@@ -74,7 +74,7 @@ IsSpelledAs options g r old new = IfOk r (λ _. IsSpelled options (normal g) old
 
 -- the error for what is not rejected is the sink's own, or says that the sink took nothing
 abbrev pub IsFailedAs : WriteOptions → Geometry → Result (Unit {0}) WkbError → (Option Error → Type 0) → Type 0
-IsFailedAs options g r fails_by = refusal options.endianness options.form g ≡ None → IfErr r (IsOwnError fails_by)
+IsFailedAs options g r fails_by = fault_under options.endianness options.form g ≡ None → IfErr r (IsOwnError fails_by)
 
 -- what a writer promises of a geometry under its options: what it does with a rejected one and with one that is not,
 -- what the appended bytes spell, and whose error it returns
@@ -111,31 +111,31 @@ pub record IsInFront (old new encoding : List ℕ) (n : ℕ) : Type 0 where
 
 -- what isn't rejected is longer than the slice, and the error says that nothing was taken
 pub record OutgrowsSlice (options : WriteOptions) (g : Geometry) (old : List ℕ) (e : WkbError) : Type 0 where
-  pub writable : refusal_of options g ≡ None
+  pub writable : fault_of options g ≡ None
   pub short : length old < length (encoding_of options g)
   pub taken : TellsFailure e None
 
 -- the error is an allocation failure, or reports what is rejected
 abbrev pub IsVecError : WriteOptions → Geometry → WkbError → Type 0
-IsVecError options g e = IsMemory e ⊎ Reports e (refusal_of options g)
+IsVecError options g e = IsMemory e ⊎ Reports e (fault_of options g)
 
 -- what a writer to a vector promises: the vector is the encoding, or the error reports what is rejected. Only where
 -- nothing is, it may be an allocation failure
 pub record WritesToVec (options : WriteOptions) (g : Geometry) (r : Result (Vec ℕ Global) WkbError) : Type 0 where
   pub ok : IfOk r (λ out. out.items ≡ encoding_of options g)
-  pub writable : IfOk r (λ _. refusal_of options g ≡ None)
+  pub writable : IfOk r (λ _. fault_of options g ≡ None)
   pub err : IfErr r (IsVecError options g)
-  pub memory : IfErr r (λ e. IsMemory e → refusal_of options g ≡ None)
+  pub memory : IfErr r (λ e. IsMemory e → fault_of options g ≡ None)
 
 -- the error reports what is rejected, or that the slice is too short
 abbrev pub IsSliceError : WriteOptions → Geometry → List ℕ → WkbError → Type 0
-IsSliceError options g old e = Reports e (refusal_of options g) ⊎ OutgrowsSlice options g old e
+IsSliceError options g old e = Reports e (fault_of options g) ⊎ OutgrowsSlice options g old e
 
 -- what a writer to the front of a slice promises: the result is the size of the encoding, which stands there, or the
 -- slice is as it was
 pub record WritesToSlice (options : WriteOptions) (g : Geometry) (old new : List ℕ) (r : Result ℕ WkbError) : Type 0
   where
     pub ok : IfOk r (IsInFront old new (encoding_of options g))
-    pub writable : IfOk r (λ _. refusal_of options g ≡ None)
+    pub writable : IfOk r (λ _. fault_of options g ≡ None)
     pub err : IfErr r (IsSliceError options g old)
     pub kept : IfErr r (λ _. new ≡ old)

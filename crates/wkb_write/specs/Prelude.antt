@@ -12,7 +12,7 @@ pub use Rattle.wkb_sink.specs.Puts.{PutsTo}
 pub use Rattle.wkb_sink.specs.Runs.{uncounted_encoding}
 pub use Rattle.wkb_sink.specs.Sinks.{TellsFailure}
 pub use Rattle.wkb_sink.specs.declared.block.TheConstants.{MIN_BLOCK}
-pub use Rattle.wkb_write.specs.Answers.{encoding_of, refusal_of, IsInFront, IsSized, IsSizeOf, IsSliceError}
+pub use Rattle.wkb_write.specs.Answers.{encoding_of, fault_of, IsInFront, IsSized, IsSizeOf, IsSliceError}
 pub use Rattle.wkb_write.specs.Answers.{PutsGeometry, TellsPut, CopiesTo, WritesTo, WritesToSlice, WritesToVec}
 unfoldable pub use Rattle.wkb_write.specs.Answers.{member_encoding}
 pub use Rattle.wkb_write.specs.Bodies.{point_measure, polygon_measure, ring_measure, collection_of, whole_size_by_parts}

@@ -14,7 +14,7 @@ use crate::srids::count_with_srids;
 use std::alloc::{AllocError, Global};
 use wkb_geom::header::MIN_MEMBER_SIZE;
 use wkb_geom::words::COUNT_SIZE;
-use wkb_geom::{Cause, Layout, Refusal};
+use wkb_geom::{Cause, Layout, ReadError};
 use wkb_view::counts::Counts;
 use wkb_view::reserved::{Reserved, counted_list};
 
@@ -43,7 +43,7 @@ pub(crate) fn begin_collection<'a>(
     layout: Layout,
     bytes: &'a [u8],
     counts: &mut Counts,
-) -> Result<Begun<'a>, Refusal>
+) -> Result<Begun<'a>, ReadError>
     requires head { HasHead (λ d. kinds.GeometryCollection d) layout bytes.now }
     requires fits { CanCount counts.old (collection_inside layout depth bytes.now).0 }
     ensures shallow { IfOk result (λ begun. depth < max_nesting) }
@@ -51,7 +51,7 @@ pub(crate) fn begin_collection<'a>(
     ensures no_memory { HasNoMembers layout bytes.now → NeedsNone result }
 {
     if depth >= MAX_WKB_NESTING_DEPTH {
-        return Err(Refusal::Cause(Cause::NestingDepthExceeded(MAX_WKB_NESTING_DEPTH)));
+        return Err(ReadError::Cause(Cause::NestingDepthExceeded(MAX_WKB_NESTING_DEPTH)));
     }
     let (count, members) = counted_list(alloc, layout, bytes, MIN_MEMBER_SIZE, counts)?;
     let (buf, rest) = bytes.split_at(layout.header_length() + COUNT_SIZE);
@@ -145,7 +145,7 @@ pub(crate) fn read_collection<'a>(
     outermost: Open<'a>,
     members: &'a [u8],
     counts: &mut Counts,
-) -> Result<Wkb<'a>, Refusal>
+) -> Result<Wkb<'a>, ReadError>
     requires stands { IsOpen 0 outermost members.now }
     requires fits { CanCount counts.old (first_member 0 outermost members.now).0 }
     ensures { ReadsAs (first_member 0 outermost.entry members.now) result counts.old counts.new }
@@ -165,7 +165,7 @@ pub(crate) fn read_collection<'a>(
                 }
                 bytes = rest;
             }
-            Err(refusal) => return Err(refusal),
+            Err(error) => return Err(error),
         }
     }
 }

@@ -1,6 +1,6 @@
 use Rattle.std.proofs.Common.{◌≡◌, [], map, Some, ap, subst, sym, ◌∙◌}
 use Rattle.wkb.specs.AllCoordinates.{coordinates_fit, words_are_whole, coordinates_again}
-use Rattle.wkb.specs.Encodings.{encoding_of, refusal_of}
+use Rattle.wkb.specs.Encodings.{encoding_of, fault_of}
 use Rattle.wkb.specs.Geometries.{AreCoordinates, multi_point}
 use Rattle.wkb.specs.Levels.{points_dimensions, points_points}
 use Rattle.wkb.specs.Plain.{line_string_coordinates, coordinates_in}
@@ -55,7 +55,7 @@ returns-in-Ok-clause-ok c =
     let options = c.args.options.now in
     are_points options c.args.geometry.now.value c.srid_fits.ensures (fit p) c.in-Ok.bytes.items
     (c.in-Ok.ensures.ok ∙ ap (encoding_of options) same)
-    (ap (refusal_of options) (sym same) ∙ c.in-Ok.ensures.writable)
+    (ap (fault_of options) (sym same) ∙ c.in-Ok.ensures.writable)
 
 pub returns-clause-err : goal.returns-clause-err
 returns-clause-err c =

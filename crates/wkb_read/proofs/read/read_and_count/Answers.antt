@@ -47,10 +47,10 @@ returns-in-Ok-clause-costs c =
 
 pub returns-in-Err-clause-reads : goal.returns-in-Err-clause-reads
 returns-in-Err-clause-reads c =
-    refused_as c.args.buf.now c.into.result c.in-Err.refusal c.read_geometry.new.counts c.in-Err.ensures.reads
+    refused_as c.args.buf.now c.into.result c.in-Err.error c.read_geometry.new.counts c.in-Err.ensures.reads
     c.into.ensures (λ none. c.in-Err.ensures.no_memory (without_memory c.args.buf.now none))
 
 pub returns-in-Err-clause-costs : goal.returns-in-Err-clause-costs
 returns-in-Err-clause-costs c =
-    refused_at c.args.buf.now c.into.result c.in-Err.refusal c.read_geometry.new.counts c.in-Err.ensures.reads
+    refused_at c.args.buf.now c.into.result c.in-Err.error c.read_geometry.new.counts c.in-Err.ensures.reads
     c.into.ensures

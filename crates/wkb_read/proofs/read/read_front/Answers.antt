@@ -1,4 +1,4 @@
-use Rattle.wkb_read.specs.Prelude.refusals
+use Rattle.wkb_read.specs.Prelude.read_errors
 use Rattle.wkb_read.proofs.Prelude.{◌≡◌, ◌-◌, ◌∙◌, ap, at_no_cost, refl, sym, subst, rules, Reading, Item, WkbType, CanCount}
 use Rattle.wkb_read.proofs.Prelude.{BeginsAs, geometry_inside, body_at, collection_within, max_nesting}
 use Rattle.wkb_read.proofs.Bodies.{by_header, hands_on, stops_without_header, whole_at_no_cost}
@@ -28,7 +28,7 @@ fits c t is = subst (λ (r : Reading Item). CanCount c.args.counts.now r.0) (by_
 
 pub returns-in_err-header-clause-begins : goal.returns-in_err-header-clause-begins
 returns-in_err-header-clause-begins c =
-    hands_on c.args.depth c.args.bytes.now c.from_residual.result (refusals.Cause c.in_err-header.field-0.0) _
+    hands_on c.args.depth c.args.bytes.now c.from_residual.result (read_errors.Cause c.in_err-header.field-0.0) _
     c.args.counts.now c.args.counts.now c.from_residual.ensures.1 refl
     (stops_without_header c.in_err-header.field-0.0 c.args.depth c.args.bytes.now c.args.counts.now
     c.in_err-header.ensures)
@@ -36,7 +36,7 @@ returns-in_err-header-clause-begins c =
 pub returns-in_err-point-in-Point-clause-begins : goal.returns-in_err-point-in-Point-clause-begins
 returns-in_err-point-in-Point-clause-begins c =
     let p = (goal.at.returns-in_err-point-in-Point-clause-begins c).After-layout-layout in
-    hands_on c.args.depth c.args.bytes.now _ (refusals.Cause c.in_err-point-in-Point.field-0.0) _ c.args.counts.now
+    hands_on c.args.depth c.args.bytes.now _ (read_errors.Cause c.in_err-point-in-Point.field-0.0) _ c.args.counts.now
     c.args.counts.now c.from_residual-in_err-point-in-Point.ensures.1 (by_type p _ c.in-Point.is)
     (refused_stops _ _ _ c.args.counts.now (ap at_no_cost c.in_err-point-in-Point.ensures.answer))
 
@@ -44,7 +44,7 @@ pub returns-in_err-line_string-in-LineString-clause-begins :
     goal.returns-in_err-line_string-in-LineString-clause-begins
 returns-in_err-line_string-in-LineString-clause-begins c =
     let p = (goal.at.returns-in_err-line_string-in-LineString-clause-begins c).After-layout-layout in
-    hands_on c.args.depth c.args.bytes.now _ (refusals.Cause c.in_err-line_string-in-LineString.field-0.0) _
+    hands_on c.args.depth c.args.bytes.now _ (read_errors.Cause c.in_err-line_string-in-LineString.field-0.0) _
     c.args.counts.now c.args.counts.now c.from_residual-in_err-line_string-in-LineString.ensures.1
     (by_type p _ c.in-LineString.is ∙ line_string_free c.layout-layout.result c.args.bytes.now)
     (refused_stops _ _ _ c.args.counts.now (ap at_no_cost c.in_err-line_string-in-LineString.ensures.answer))
@@ -67,7 +67,7 @@ read-requires-in-MultiPoint-clause-fits c =
 pub returns-in_err-multi-in-MultiPoint-clause-begins : goal.returns-in_err-multi-in-MultiPoint-clause-begins
 returns-in_err-multi-in-MultiPoint-clause-begins c =
     let p = (goal.at.returns-in_err-multi-in-MultiPoint-clause-begins c).After-layout-layout in
-    hands_on c.args.depth c.args.bytes.now _ (refusals.Cause c.in_err-multi-in-MultiPoint.field-0.0) _ c.args.counts.now
+    hands_on c.args.depth c.args.bytes.now _ (read_errors.Cause c.in_err-multi-in-MultiPoint.field-0.0) _ c.args.counts.now
     c.read-in-MultiPoint.new.counts c.from_residual-in_err-multi-in-MultiPoint.ensures.1
     (by_type p _ c.in-MultiPoint.is) c.in_err-multi-in-MultiPoint.ensures.answer
 

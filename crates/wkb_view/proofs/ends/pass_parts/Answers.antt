@@ -1,7 +1,7 @@
 use Rattle.std.proofs.Common.{◌+◌, ◌-◌, ◌/◌, ◌<◌, length, arith}
 use Rattle.std.proofs.lemmas.Result.{err_from_is_err_and}
 use Rattle.wkb_view.specs.Prelude.{body_start}
-use Rattle.wkb_view.specs.Prelude.refusals
+use Rattle.wkb_view.specs.Prelude.read_errors
 use Rattle.wkb_view.specs.Entries.{entries}
 use Rattle.wkb_view.proofs.Lists.{parts_length, freely, refused_stops, part_costs, loop_stops}
 use Rattle.wkb_view.proofs.Pieces.{pieces_begin, pieces_next, pieces_read, parts_fit}
@@ -15,7 +15,7 @@ pub returns-in_err-rest-clause-answer : goal.returns-in_err-rest-clause-answer
 returns-in_err-rest-clause-answer g c =
     let p = err_from_is_err_and c.from_residual.result c.from_residual.ensures.1 in
     rw (p.1, p.2)
-    (loop_stops c.loop-test.true c.loop.invariant.so_far.left (refusals.Cause c.in_err-rest.field-0.0) _
+    (loop_stops c.loop-test.true c.loop.invariant.so_far.left (read_errors.Cause c.in_err-rest.field-0.0) _
     (refused_stops _ _ _ _ c.in_err-rest.ensures.answer))
 
 pub loop-preserved : goal.loop-preserved

@@ -1,7 +1,7 @@
 use Rattle.std.proofs.Common.{ℕ, List, ◌-◌, ◌+◌, ◌≤◌, ◌∙◌, ap, length, sym, arith}
 use Rattle.std.proofs.lemmas.Result.{err_from_is_err_and}
 use Rattle.wkb_view.specs.Prelude.{Layout, body_start, count_in, slots_asked}
-use Rattle.wkb_view.specs.Prelude.refusals
+use Rattle.wkb_view.specs.Prelude.read_errors
 use Rattle.wkb_view.specs.Ends.{PartsOf, whole_at}
 use Rattle.wkb_view.specs.Entries.{entries_asked}
 use Rattle.wkb_view.proofs.Lists.{IsList, list_here, list_fits, list_reads, list_stops, entries_within}
@@ -54,7 +54,7 @@ pub returns-in_err-ends-clause-answer : goal.returns-in_err-ends-clause-answer
 returns-in_err-ends-clause-answer g c =
     let p = err_from_is_err_and c.from_residual-in_err-ends.result c.from_residual-in_err-ends.ensures.1 in
     rw (p.1, p.2) (list_stops (here g (goal.at.returns-in_err-ends-clause-answer g c).In_ok-count)
-    (refusals.Cause c.in_err-ends.field-0.0) _ c.in_err-ends.ensures.answer)
+    (read_errors.Cause c.in_err-ends.field-0.0) _ c.in_err-ends.ensures.answer)
 
 pub returns-clause-answer : goal.returns-clause-answer
 returns-clause-answer g c =

@@ -1,7 +1,7 @@
 use Rattle.wkb_read.proofs.Prelude.{◌≡◌, ◌+◌, ◌-◌, ◌<◌, ◌≤◌, ℕ, suc, List, [], length, refl, sym, arith, ap, ◌∙◌}
 use Rattle.wkb_read.proofs.Prelude.{drop-drop, Item, Reading, Layout, Counts, Stops, max_nesting, body_start}
 use Rattle.wkb_read.proofs.Prelude.{collection_inside, cost_of}
-use Rattle.wkb_geom.specs.declared.error.Refusal.{Refusal}
+use Rattle.wkb_geom.specs.declared.error.ReadError.{ReadError}
 use Rattle.std.proofs.lemmas.Result.{err_from_is_err_and}
 use Rattle.wkb_view.proofs.Lists.{parts_length, entries_within, list_refused}
 use Rattle.wkb_view.specs.Entries.{entries, entries_asked, HasNoList}
@@ -84,9 +84,9 @@ module _ (l : Layout) (bytes : List ℕ) where
   unfolding collection_at
   within member = entries_within 9 l bytes _ (omega (arith, parts_length l.has_srid bytes))
 
-  refused : (member : List ℕ → Reading Item) (refusal : Refusal) (old new : Counts) → HasNoList l bytes refusal
+  refused : (member : List ℕ → Reading Item) (error : ReadError) (old new : Counts) → HasNoList l bytes error
       → new.turns ≡ old.turns
-      → new.slots ≡ old.slots + entries_asked 9 l bytes → Stops refusal (collection_at member l bytes) old new
+      → new.slots ≡ old.slots + entries_asked 9 l bytes → Stops error (collection_at member l bytes) old new
   unfolding collection_at
   refused member = list_refused 9 l bytes _ (omega (arith, parts_length l.has_srid bytes))
 
@@ -97,9 +97,9 @@ module _ (l : Layout) (bytes : List ℕ) where
     members_within : entries_asked 9 l bytes ≤ (collection_inside l depth bytes).0.slots
     members_within = rw level (within _)
 
-    members_refused : (refusal : Refusal) (old new : Counts) → HasNoList l bytes refusal → new.turns ≡ old.turns
-        → new.slots ≡ old.slots + entries_asked 9 l bytes → Stops refusal (collection_inside l depth bytes) old new
-    members_refused refusal old new none turns slots = rw level (refused _ refusal old new none turns slots)
+    members_refused : (error : ReadError) (old new : Counts) → HasNoList l bytes error → new.turns ≡ old.turns
+        → new.slots ≡ old.slots + entries_asked 9 l bytes → Stops error (collection_inside l depth bytes) old new
+    members_refused error old new none turns slots = rw level (refused _ error old new none turns slots)
 
 pub counted_list-requires-clause-fits : goal.counted_list-requires-clause-fits
 counted_list-requires-clause-fits c =

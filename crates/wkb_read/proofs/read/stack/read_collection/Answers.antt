@@ -115,7 +115,7 @@ loop-collection-preserved c =
 
 pub returns-in-Err : goal.returns-in-Err
 returns-in-Err c =
-    part_stops c.in-Err.refusal _
+    part_stops c.in-Err.error _
     (outward (reverse c.loop-collection.stack.items)) _ c.args.counts.now c.loop-collection.counts
     c.read_front.new.counts
     c.loop-collection.invariant.reaches.so_far

@@ -2,7 +2,7 @@ use Rattle.std.proofs.Common.{rules, ◌-◌, length, length-take, arith}
 use Rattle.std.proofs.lemmas.Result.{err_from_is_err_and}
 use Rattle.wkb_geom.specs.declared.code.TheConstants.{POINT}
 use Rattle.wkb_view.specs.Prelude.{list_item, member_at, multi_point_with, multi_point_at}
-use Rattle.wkb_view.specs.Prelude.refusals
+use Rattle.wkb_view.specs.Prelude.read_errors
 use Rattle.wkb_view.specs.Lawful.{AreBytes-take}
 use Rattle.wkb_view.proofs.Lists.{IsList, points_here, list_fits, list_reads, list_stops}
 use Rattle.wkb_view.proofs.Spells.{body_spelled}
@@ -43,4 +43,4 @@ pub returns-in_err-rest-clause-answer : goal.returns-in_err-rest-clause-answer
 returns-in_err-rest-clause-answer c =
     let p = err_from_is_err_and c.from_residual-in_err-rest.result c.from_residual-in_err-rest.ensures.1 in
     rw (p.1, p.2) (list_stops (here (goal.at.returns-in_err-rest-clause-answer c).In_ok-count)
-    (refusals.Cause c.in_err-rest.field-0.0) _ c.in_err-rest.ensures.points)
+    (read_errors.Cause c.in_err-rest.field-0.0) _ c.in_err-rest.ensures.points)
