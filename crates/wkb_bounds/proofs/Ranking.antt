@@ -84,10 +84,10 @@ ranked_by true k w least greatest small great fits l g number = record {
   count = omega arith;
 }
 ranked_by false k w least greatest small great fits l g number = record {
-  before = λ n. record { low = omega (arith, n.low, l); high = omega (arith, n.high, g) };
+  before = λ n. record { low = omega arith; high = omega arith };
   range = λ n.
       widened_by k w least greatest small great fits
-      (ranked_number w fits (omega (arith, n.low, l)) (omega (arith, n.high, g))) l g;
+      (ranked_number w fits (omega arith) (omega arith)) l g;
   count = omega arith;
 }
 

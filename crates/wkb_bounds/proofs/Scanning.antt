@@ -29,4 +29,4 @@ pub found_low : {buf : List ℕ} {found : Summary} → DescribesFront buf found 
     → type_kind found.wkb_type < 3 → nat_lt p.kind 3 ≡ true
 found_low f p is low =
     let g = geometry_of_front f.front in
-    lt-ltb p.kind 3 (omega (arith, low, (piece_by 0 g.spelled g.value (found_header f refl refl g) p (is g)).kind_is))
+    lt-ltb p.kind 3 (omega (arith, (piece_by 0 g.spelled g.value (found_header f refl refl g) p (is g)).kind_is))

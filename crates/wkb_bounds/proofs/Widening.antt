@@ -49,7 +49,7 @@ widened_first : (tested : Bool) {old now new : Ranks} {w : ℕ} {ws : List ℕ} 
 widened_first tested {ws = ws} first others = record {
   before = λ n. first.before (others.before n);
   range = λ n. others.range n ∙ ap (λ r. widened r ws) (first.range (others.before n));
-  count = omega (arith, first.count, others.count);
+  count = omega arith;
 }
 
 not_widened : (tested : Bool) (k : Ranks) → WidensRanks tested k k []
@@ -98,10 +98,10 @@ run_next {tested} {k} {now} {left = left} l {w} {rest = rest} w-is widens behind
     let words : (w ∷ words_at (Some k) (coordinates_of rest)) ≡ words_at (Some k) (coordinates_of left) =
     (λ i. w-is i
     ∷ words_at (Some k) (rows (behind.order_is i) (behind.size_is i) rest.count (behind.bytes_are i)))
-    ∙ sym (first_words left k rest.count (omega (arith, behind.count_is)) l.there) in
+    ∙ sym (first_words left k rest.count (omega arith) l.there) in
     record {
-      there = omega (arith, behind.size_is, l.there);
-      room = omega (arith, l.room, widens.count, behind.count_is);
+      there = omega arith;
+      room = omega arith;
       goes = λ last others.
           l.goes last (subst (WidensRanks tested now last) words (widened_first tested widens others));
     }
@@ -130,7 +130,7 @@ place_is width p k is within = subst (λ p. IfSome p (λ k. k < width)) is withi
 pub place_there : (p : Option ℕ) (width : ℕ) {size : ℕ} → size ≡ 8 * width → IfSome p (λ k. k < width)
     → IfSome p (λ k. k < size / 8)
 place_there None width is there = tt
-place_there (Some k) width is there = omega (arith, is, there)
+place_there (Some k) width is there = omega (arith, there)
 
 one_word : (p : Option ℕ) (c : Coordinate) → length (word_at p c) ≤ 1
 one_word None c = omega arith
@@ -184,7 +184,7 @@ module _ {old new : AxisRanks} {cs : List Coordinate} (w : WidensPlane false old
   plane_widens n m_axis = w.m ∙ no_ordinates None old.m cs (λ k e. absurd cc)
 
   pub plane_few : (a : Axis) → (on a (bounds_by new)).count ≤ (on a (bounds_by old)).count + length cs
-  plane_few x_axis = omega (arith, w.x.count, words_few (Some 0) cs)
-  plane_few y_axis = omega (arith, w.y.count, words_few (Some 1) cs)
+  plane_few x_axis = omega (arith, words_few (Some 0) cs)
+  plane_few y_axis = omega (arith, words_few (Some 1) cs)
   plane_few z_axis = omega (arith, ap (λ (r : Range). r.count) w.z)
   plane_few m_axis = omega (arith, ap (λ (r : Range). r.count) w.m)

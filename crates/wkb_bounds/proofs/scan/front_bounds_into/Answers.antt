@@ -25,7 +25,7 @@ loop-piece-init c =
       widened = λ a. ap (on a) c.empty-ranks.ensures;
       same = ap (λ (w : Pieces). w.bytes.now) is ∙ c.of-piece-items.ensures.same;
       few = λ a. omega (arith, ap (λ b. (on a b).count) c.empty-ranks.ensures, none_counted a);
-      inside = omega (arith, ap (λ (w : Pieces). w.at) is, c.of-piece-items.ensures.begins);
+      inside = omega (arith, ap (λ (w : Pieces). w.at) is);
     }
 
 pub loop-piece-preserved-then-has_coordinates : goal.loop-piece-preserved-then-has_coordinates
@@ -45,13 +45,10 @@ loop-piece-preserved-then-has_coordinates c =
             arith,
             c.loop-piece.invariant.few a,
             counts_more p.dimension c.of-run.result (bounds_by c.loop-piece.ranks) (bounds_by c.widen.new.self) a c.widen.ensures,
-            c.of-run.ensures.count_is,
-            s.inside.begins,
-            s.inside.ends,
             leaf_end p leaf,
             wide p.dimension p.count,
           );
-      inside = omega (arith, s.inside.inside, ap length c.loop-piece.invariant.same);
+      inside = omega (arith, ap length c.loop-piece.invariant.same);
     }
 
 pub loop-piece-preserved : goal.loop-piece-preserved
@@ -66,8 +63,8 @@ loop-piece-preserved c =
           ap (widened (on a (bounds_by c.loop-piece.ranks))) (sym (no_words a c.args.buf.now p high))
           ∙ widened_push a c.args.buf.now (on a nothing) c.loop-piece.yielded p _ (c.loop-piece.invariant.widened a);
       same = s.same ∙ c.loop-piece.invariant.same;
-      few = λ a. omega (arith, c.loop-piece.invariant.few a, s.further);
-      inside = omega (arith, s.inside.inside, ap length c.loop-piece.invariant.same);
+      few = λ a. omega (arith, c.loop-piece.invariant.few a);
+      inside = omega (arith, ap length c.loop-piece.invariant.same);
     }
 
 pub returns : goal.returns

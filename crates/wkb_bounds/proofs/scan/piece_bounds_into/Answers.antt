@@ -12,7 +12,7 @@ pub rest_from-bytes-requires : goal.rest_from-bytes-requires
 rest_from-bytes-requires c =
     let p = c.args.only.now in
     let i = geometry_inside c.args.buf.now 0 _ c.requires.here p (c.requires.only c.requires.here) refl in
-    omega (arith, i.inside, leaf_end p c.requires.low)
+    omega (arith, leaf_end p c.requires.low)
 
 -- the coordinates are there
 whole : (c : After-rest_from-bytes)
@@ -21,13 +21,7 @@ whole c =
     let p = c.args.only.now in
     let buf = c.args.buf.now in
     let i = geometry_inside buf 0 _ c.requires.here p (c.requires.only c.requires.here) refl in
-    omega (
-      arith,
-      i.inside,
-      leaf_end p c.requires.low,
-      ap length c.rest_from-bytes.ensures,
-      length-drop p.offset buf,
-    )
+    omega (arith, leaf_end p c.requires.low, ap length c.rest_from-bytes.ensures, length-drop p.offset buf)
 
 pub of_coordinate-requires : goal.of_coordinate-requires
 of_coordinate-requires c =

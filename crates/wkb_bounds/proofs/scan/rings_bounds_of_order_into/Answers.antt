@@ -56,13 +56,10 @@ loop-ring-preserved c =
             l.few a,
             plane_few widens a,
             run_long c.of.result,
-            c.of.ensures.count_is,
-            s.inside.begins,
-            s.inside.ends,
             leaf_end p low,
             ap (λ d. 8 * width d * p.count) ring.dimension_is,
           );
-      inside = omega (arith, s.inside.inside, ap length l.same);
+      inside = omega (arith, ap length l.same);
     }
 
 pub returns : goal.returns

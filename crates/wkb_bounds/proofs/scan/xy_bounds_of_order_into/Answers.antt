@@ -1,10 +1,6 @@
-use Rattle.std.proofs.Common.{arith, refl}
+use Rattle.std.proofs.Common.{refl}
 use Rattle.wkb_bounds.proofs.Widening.{plane_widens}
-use Rattle.wkb_bounds.proofs.Words.{none_counted}
 use Rattle.wkb_bounds.proofs.scan.xy_bounds_of_order_into.Goals as goal
-
-pub widen_plane_by-requires-clause-room : goal.widen_plane_by-requires-clause-room
-widen_plane_by-requires-clause-room c = λ a. rw c.empty-ranks.ensures (omega (arith, none_counted a))
 
 pub returns : goal.returns
 returns c = λ a.

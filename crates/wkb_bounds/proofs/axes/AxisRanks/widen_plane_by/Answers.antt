@@ -7,8 +7,8 @@ pub loop-left-init : goal.loop-left-init
 loop-left-init c =
     let run = c.args.run in
     record {
-      x_left = run_first c.args.tested 0 c.args.self.now.x run (omega (arith, c.requires.plane)) (c.requires.room x_axis);
-      y_left = run_first c.args.tested 1 c.args.self.now.y run (omega (arith, c.requires.plane)) (c.requires.room y_axis);
+      x_left = run_first c.args.tested 0 c.args.self.now.x run (omega arith) (c.requires.room x_axis);
+      y_left = run_first c.args.tested 1 c.args.self.now.y run (omega arith) (c.requires.room y_axis);
     }
 
 pub loop-left-preserved : goal.loop-left-preserved
@@ -23,5 +23,5 @@ loop-left-preserved c =
 pub returns : goal.returns
 returns c =
     let l = c.loop-left.invariant in
-    let none : c.loop-left.left.count ≡ 0 = omega (arith, c.loop-left-test.false) in
+    let none : c.loop-left.left.count ≡ 0 = omega arith in
     record { x = run_done l.x_left none; y = run_done l.y_left none; z = refl; m = refl }

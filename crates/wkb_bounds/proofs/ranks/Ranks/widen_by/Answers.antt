@@ -9,4 +9,4 @@ loop-left-preserved c = record {
 }
 
 pub returns : goal.returns
-returns c = run_done c.loop-left.invariant.left (omega (arith, c.loop-left-test.false))
+returns c = run_done c.loop-left.invariant.left (omega arith)
