@@ -5,12 +5,7 @@
  * could. */
 #include "shared.h"
 
-int main(int count, char **words) {
-  if (count == 3) {
-    /* With a seed and a number of random inputs it prints their answers alone. */
-    print_answers(strtoull(words[1], NULL, 10), strtoull(words[2], NULL, 10));
-    return 0;
-  }
+int main(void) {
   calls_are_right();
   printf("the calls return what they must\n");
   texts_are_right();
@@ -18,7 +13,6 @@ int main(int count, char **words) {
   levels_are_right();
   printf("levels are written as they must\n");
   what_lasts_is_as_it_was();
-  printf("20000 random inputs have the answers %016llx\n", (unsigned long long)answers_over(0, 20000));
   nothing_is_read_after_the_input();
   printf("no byte after the input is read, and refusals leave their outputs\n");
   little_stack_is_taken();

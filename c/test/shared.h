@@ -52,8 +52,4 @@ void calls_run_at_the_same_time(void);
 void calls_run_anywhere(void);
 void what_lasts_is_as_it_was(void);
 
-/* The sum of the answers of all calls to so many random inputs, from a seed on. */
-uint64_t answers_over(uint64_t seed, uint64_t inputs);
-void print_answers(uint64_t seed, uint64_t inputs);
-
 #endif

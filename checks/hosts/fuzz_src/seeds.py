@@ -1,9 +1,10 @@
-"""The first inputs of each target, in FOLDER/TARGET_seed_corpus.zip: those made of c/test/lasting.rows, and the few of
-found.rows, which reach the other blocks of the assembly that runs of twelve minutes reached.
+"""The first inputs of each target, in FOLDER/TARGET_seed_corpus.zip: those made of c/test/lasting.rows, levels that fit
+each kind, and the few of found.rows, which reach the other blocks of the assembly that runs of twelve minutes reached.
 
     python3 seeds.py FOLDER
 """
 import pathlib
+import random
 import struct
 import sys
 import zipfile
@@ -30,9 +31,27 @@ def columns(rows):
         yield bytes([*choices, 0xff, 0xf7, 0xff, 0xff]) + steps + b"".join(data)
 
 
+def levels(numbers):
+    """Levels of each kind and dimension; where each item has one of the next level, now and then without ends."""
+    for kind, dimension in (divmod(it, 4) for it in range(4, 28)):
+        mosts = (3 if kind > 3 else 1), (3 if kind % 3 == 0 else 1), (5 if kind % 3 != 1 else 1)
+        for _ in range(20):
+            counts, steps, has_ends = [numbers.randrange(8)], b"", 0
+            for level, most in enumerate(mosts):
+                own = [numbers.randrange(most + 1) if most > 1 else 1 for _ in range(counts[-1])]
+                has_ends |= (most > 1 or numbers.randrange(2)) << level
+                counts, steps = [*counts, sum(own)], steps + bytes(own)
+            words = numbers.randbytes(8 * (2 + dimension % 2 + dimension // 2) * counts[3])
+            choices = kind | dimension << 3, numbers.randrange(64), has_ends | numbers.randrange(16) << 3
+            yield bytes([*counts[:3], *choices, *numbers.randbytes(4)]) + steps + words
+
+
 def main(folder):
     rows = list(table())
-    first = {"one": [row[0] for row in rows], "column": [*columns(rows)], "levels": []}
+    # Of these each is compared with one of another byte, at a place that the last byte chooses.
+    zeros = [struct.pack("<BII", 1, 2, 20) + bytes(16 * 20) + bytes([it]) for it in range(256)]
+    one, many = [*(row[0] for row in rows), *zeros], [*levels(random.Random(1))]
+    first = {"one": one, "column": [*columns(rows)], "levels": many}
     for line in (HERE / "found.rows").read_text(encoding="utf-8").splitlines():
         target, data = line.split(" ")
         first[target].append(bytes.fromhex(data))
