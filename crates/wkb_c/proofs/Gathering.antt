@@ -1,41 +1,43 @@
 -- The members that rows begin with, row by row.
 use Rattle.wkb_abi.proofs.Common.{◌≡◌, ℕ, suc, ◌+◌, ◌≤◌, ◌<◌, List, ◌++◌, length, drop, ◌⊎◌, inl, inr, refl, sym, ap}
 use Rattle.wkb_abi.proofs.Common.{subst, ◌∙◌, arith, append_assoc, length-append, Spelling, Value, Values, member}
-use Rattle.wkb_abi.proofs.Common.{no_members, kind, collection, is_some, None, srid_size, drop-drop, false}
-use Rattle.wkb_abi.proofs.Common.{◌-◌, sets, sets-eq, length-sets, Endianness, encoding, geometry_of, Summary}
+use Rattle.wkb_abi.proofs.Common.{no_members, kind, dimension, collection, Some, None, srid_size, drop-drop}
+use Rattle.wkb_abi.proofs.Common.{◌-◌, sets, sets-eq, Endianness, encoding, geometry_of, Summary, false}
 use Rattle.wkb_abi.proofs.Common.{IsAccepted, RowHas, IsRow, Reach}
 use Rattle.std.specs.Prelude.{take, Result, Ok, Err, IfErr}
 use Rattle.std.proofs.Common.{length-drop}
+use Rattle.std.proofs.lemmas.Bool.{cases_eq}
 use Rattle.std.proofs.lemmas.List.{length-take}
 use Rattle.wkb_geom.specs.declared.common.Form.{Form}
-use Rattle.wkb_geom.specs.declared.common.Form.TheVariants.{Iso, Ewkb}
-use Rattle.wkb_geom.specs.Encodings.{inner, form_srid, IsRewriting}
+use Rattle.wkb_geom.specs.declared.error.Cause.{Cause}
+use Rattle.wkb_geom.specs.Encodings.{inner, IsRewriting}
 use Rattle.wkb_geom.specs.Fronts.{FrontWithin}
 use Rattle.wkb_geom.specs.Numbers.{AreBytes}
-use Rattle.wkb_geom.specs.Reading.{type_kind, type_dimension}
-use Rattle.wkb_geom.specs.Spellings.{Wanted, IsPart}
+use Rattle.wkb_geom.specs.Reading.{type_kind, type_dimension, cause_of}
+use Rattle.wkb_geom.specs.Refusals.{Refuses}
+use Rattle.wkb_geom.specs.Spellings.{Wanted, IsPart, any}
 use Rattle.wkb_geom.specs.Values.{count, nest}
+use Rattle.wkb_laws.proofs.Complete.{front_read, refusal_read}
+use Rattle.wkb_laws.proofs.EncodingSpells.{inner_fits}
 use Rattle.wkb_laws.proofs.OneFront.{one_spelling}
 use Rattle.wkb_check.specs.Public.{DescribesFrontWithin, Checks, member_room}
 use Rattle.wkb_check.proofs.Ahead.{type_kind_is, type_dimension_is}
 use Rattle.wkb_check.proofs.Placing.{sets_after}
-use Rattle.wkb_rewrite.specs.Shares.{IsLaid}
 use Rattle.wkb_rewrite.specs.Targets.{encoding_for}
 use Rattle.wkb_rewrite.proofs.Measured.{measured}
 use Rattle.wkb_sink.specs.declared.options.WriteOptions.{WriteOptions}
-use Rattle.wkb_c.specs.Collections.{BeginsWithMember, AreRowMembers, HaveMembers, part_of, inner_of}
-use Rattle.wkb_c.specs.Collections.{inside_of}
-use Rattle.wkb_c.specs.Collections.{IsMeasuredFound, AreMeasured, IsUnwanted, IsUnfit, no_member}
-use Rattle.wkb_c.proofs.RowItems.{lent_rest}
 use Rattle.wkb_abi.proofs.OneRow.{one_row, never_lacks}
 use Rattle.wkb_abi.proofs.Telling.{accepted_there}
 use Rattle.wkb_abi.specs.Writings.{WritesRequested}
-use Rattle.wkb_abi.specs.declared.options.Request.TheVariants.{Encoding}
-use Rattle.wkb_abi.specs.Columns.{LacksRow}
-use Rattle.wkb_c.specs.declared.collect.CollectTarget.{CollectTarget}
-use Rattle.wkb_abi.specs.declared.fault.WkbFault.{WkbFault}
-use Rattle.wkb_abi.specs.declared.status.TheConstants.{OK, NO_ROOM}
 use Rattle.wkb_abi.specs.declared.column.Column.{Column}
+use Rattle.wkb_abi.specs.declared.fault.WkbFault.{WkbFault}
+use Rattle.wkb_abi.specs.declared.options.Request.TheVariants.{Encoding}
+use Rattle.wkb_abi.specs.declared.status.TheConstants.{OK, NO_ROOM}
+use Rattle.wkb_c.specs.Collections.{BeginsWithMember, AreRowMembers, HaveMembers, part_of, inner_of, inside_of}
+use Rattle.wkb_c.specs.Collections.{LaysIfFits, WritesMember, WritesMembers, IsUnwanted, IsUnfit, no_row, refused}
+use Rattle.wkb_c.specs.Collections.{no_member, IsFirstUnfit}
+use Rattle.wkb_c.specs.declared.collect.CollectTarget.{CollectTarget}
+use Rattle.wkb_c.proofs.RowItems.{IsLent}
 
 -- ---- one row
 
@@ -102,18 +104,49 @@ same_members c w i (member t ts) (member u us) a b many =
 pub one_list : {c : Column} {w : Wanted} {rows : ℕ} (h k : HaveMembers c w rows) → h.values ≡ k.values
 one_list {c} {w} h k = same_members c w 0 h.values k.values h.are k.are (h.many ∙ sym k.many)
 
--- ---- how long a member is
+-- the rows begin with them
+member_of : {c : Column} {w : Wanted} (n i : ℕ) (ts : Values) → AreRowMembers c w i ts → i ≤ n → n < i + count ts
+    → (t : Value) × RowHas (BeginsWithMember w) c n t
+member_of n i no_members are from below = absurd (omega (arith, from, below))
+member_of {c} {w} n i (member t ts) are from below = elim (cases_eq n i) [
+  | inl same ↦ (t, subst (λ k. RowHas (BeginsWithMember w) c k t) (sym same) are.0)
+  | inr other ↦ member_of n (suc i) ts are.1 (omega (arith, from, other)) (omega (arith, below))
+]
+
+-- what is rejected begins with no geometry
+never_within : {room : ℕ} {row : List ℕ} {s : Spelling} {t : Value} {rest : List ℕ} {cause : Cause} {turns slots : ℕ}
+    → FrontWithin room row s t rest → Refuses room any row cause turns slots → ⊥
+never_within {room} {row} {s} {t} {rest} {cause} f r =
+    let both = sym (front_read room any tt row s t rest f tt) ∙ refusal_read r tt in
+    let causes : None ≡ Some cause = ap (λ z. cause_of z.1) both in
+    absurd cc
+
+never_unfit_row : {c : Column} {w : Wanted} {i status : ℕ} {fault : WkbFault} {t : Value}
+    → RowHas (BeginsWithMember w) c i t → IsUnfit c w i status fault → ⊥
+never_unfit_row has (no_row none) = never_lacks has.is none
+never_unfit_row {t = t} has (refused row is why) =
+    let b = has.has in
+    never_within (subst (λ z. FrontWithin member_room z b.s t b.rest) (one_row has.is is) b.front) why.refuses
+never_unfit_row {w = w} {t = t} has (no_member row is why) =
+    let own : BeginsWithMember w row t = subst (λ z. BeginsWithMember w z t) (one_row has.is is) has.has in
+    let front = with_room why.front (omega (arith, why.front.shallow)) in
+    let same = one_value own (record { s = why.s; t = why.t; rest = why.rest; front = front }) in
+    why.unwanted (subst (λ z. IsPart w (kind z) (dimension z) false) (sym same) own.wanted)
+
+-- so that none of them is unfit
+pub never_unfit : {c : Column} {w : Wanted} {rows i status : ℕ} {fault : WkbFault} → HaveMembers c w rows
+    → IsFirstUnfit c w rows i status fault → ⊥
+never_unfit h f =
+    never_unfit_row (member_of _ 0 h.values h.are (omega arith) (omega (arith, h.many, f.below))).1 f.unfit
+
+-- ---- how a member is written
 
 -- inside a geometry no SRID is written, so that an encoding is no longer than its input
-inner_none : (form : Form) → form_srid (inner form) ≡ None
-inner_none Iso = refl
-inner_none (Ewkb srid) = refl
-
 at_most_inside : (order : Endianness) (form : Form) (row : List ℕ) (a : IsAccepted row) → AreBytes row
     → length (encoding order (inner form) (geometry_of a.t)) ≤ length row
 at_most_inside order form row a b =
     let long = measured order (inner form) row (accepted_there row a) b refl in
-    let none = ap (λ o. srid_size (is_some o)) (inner_none form) in
+    let none = ap srid_size (inner_fits form).1 in
     omega (arith, ap length a.front.whole, length-append {A = ℕ})
 
 -- a call that writes an encoding, with room or without
@@ -123,198 +156,123 @@ module _ {o : WriteOptions} {row before after : List ℕ} {status size : ℕ}
   requested_is bytes h =
       h.written ∙ ap (encoding_for o) (same_value (record { s = h.s; t = h.t; rest = h.rest; front = h.front }) a)
 
-  size_of : (status ≡ OK) ⊎ (status ≡ NO_ROOM) → size ≡ length (encoding_for o a.t)
-  size_of (inl ok) =
-      let h = w.written ok in h.held.count_is ∙ ap length (requested_is h.items h.is)
-  size_of (inr none) =
-      let h = w.no_room none in h.lacks.count_is ∙ ap length (requested_is h.items h.is)
-
-  pub requested_size : size ≡ length (encoding_for o a.t)
-  requested_size = size_of w.known
-
-  bytes_of : length (encoding_for o a.t) ≤ length before → (status ≡ OK) ⊎ (status ≡ NO_ROOM)
-      → after ≡ encoding_for o a.t ++ drop (length (encoding_for o a.t)) before
-  bytes_of room (inl ok) =
+  told : (status ≡ OK) ⊎ (status ≡ NO_ROOM)
+      → (size ≡ length (encoding_for o a.t)) × LaysIfFits before after (encoding_for o a.t)
+  told (inl ok) =
       let h = w.written ok in
-      h.held.whole ∙ ap (λ z. z ++ drop (length z) before) (requested_is h.items h.is)
-  bytes_of room (inr none) =
+      let is = requested_is h.items h.is in
+      (h.held.count_is ∙ ap length is, λ room. h.held.whole ∙ ap (λ z. z ++ drop (length z) before) is)
+  told (inr none) =
       let h = w.no_room none in
-      absurd (omega (arith, room, h.lacks.short, ap length (requested_is h.items h.is)))
+      let is = requested_is h.items h.is in
+      (h.lacks.count_is ∙ ap length is, λ room. absurd (omega (arith, room, h.lacks.short, ap length is)))
 
-pub found_measured : {target : CollectTarget} {row : List ℕ} {f : Summary} {size : ℕ} (o : WriteOptions) → AreBytes row
-    → (d : DescribesFrontWithin member_room row f) → o ≡ inner_of target
+pub found_written : {target : CollectTarget} {row before after : List ℕ} {f : Summary} {status size : ℕ}
+    (o : WriteOptions) → AreBytes row → (d : DescribesFrontWithin member_room row f) → o ≡ inner_of target
     → IsPart (part_of target) (type_kind f.wkb_type) (type_dimension f.wkb_type) false
-    → ((a : IsAccepted row) → size ≡ length (encoding_for o a.t)) → IsMeasuredFound target row size
-found_measured {target} {row} {f} {size} o b d o_is wanted size_is =
-    let typed = d.described.wkb_type in
+    → WritesRequested (Encoding o) row before after status size → WritesMember target before after row size
+found_written {target} {row} {before} {after} {status = status} {size} o b d o_is wanted w =
     let begins : BeginsWithMember (part_of target) row d.value = record {
       s = d.spelled;
       rest = d.rest;
       front = d.front;
-      wanted =
-          subst (λ T. T)
-          (λ i. IsPart (part_of target) ((ap type_kind typed ∙ type_kind_is d.value) i)
-          ((ap type_dimension typed ∙ type_dimension_is d.value) i) false) wanted;
+      wanted = rw (d.described.wkb_type, type_kind_is d.value, type_dimension_is d.value) at wanted;
     } in
-    let long : size ≡ length (encoding_for (inner_of target) d.value) =
-    size_is (there begins) ∙ ap (λ z. length (encoding_for z d.value)) o_is in
-    record {
-      t = d.value;
-      begins = begins;
-      size_is = long;
-      short =
-          omega (arith, long, at_most_inside target.options.endianness target.options.form row (there begins) b);
-    }
+    let writes = subst (λ z. WritesRequested (Encoding z) row before after status size) o_is w in
+    let both = told writes (there begins) writes.known in
+    let most = at_most_inside target.options.endianness target.options.form row (there begins) b in
+    record { t = d.value; begins = begins; size_is = both.0; short = omega (arith, both.0, most); laid = both.1 }
 
--- ---- how long they are
+-- ---- how they are written one behind another
 
--- members of the rows from the first on, of which the last are these; the encodings of the others are this long
-pub record EndsWith (c : Column) (target : CollectTarget) (i size : ℕ) (last : Values) : Type 0 where
-  pub all : Values
-  pub are : AreRowMembers c (part_of target) 0 all
-  pub many : count all ≡ i + count last
-  pub size_is : length (inside_of target all) ≡ size + length (inside_of target last)
+-- Members of the rows from the first on, of which the last are these; the encodings of the others end here. If there is
+-- room, they are laid, so that all are once the last are.
+pub record EndsWith (c : Column) (target : CollectTarget) (i at : ℕ) (before out : List ℕ) (last : Values) : Type 0
+  where
+    pub all : Values
+    pub are : AreRowMembers c (part_of target) 0 all
+    pub many : count all ≡ i + count last
+    pub size_is : length (inside_of target all) ≡ at + length (inside_of target last)
+    pub laid : at ≤ length before → sets out at (inside_of target last) ≡ sets before 0 (inside_of target all)
 
--- The rows before row i begin with members, behind which come those of row i and the next. Their encodings are together
--- this long, and no longer than these rows.
-pub record MeasuredBefore (c : Column) (target : CollectTarget) (i reach size : ℕ) : Type 0 where
-  pub go_on : (last : Values) → AreRowMembers c (part_of target) i last → EndsWith c target i size last
-  pub fits : size ≤ reach
+-- The rows before row i begin with members, behind which come those of row i and the next. Their encodings end here, no
+-- further than these rows reach.
+pub record WrittenBefore (c : Column) (target : CollectTarget) (i reach at : ℕ) (before out : List ℕ) : Type 0 where
+  pub go_on : (last : Values) → AreRowMembers c (part_of target) i last → EndsWith c target i at before out last
+  pub fits : at ≤ reach
+  pub long : length out ≡ length before
 
-pub none_measured : {c : Column} {target : CollectTarget} {reach : ℕ} → MeasuredBefore c target 0 reach 0
-none_measured = record {
-  go_on = λ last are. record { all = last; are = are; many = omega arith; size_is = omega arith };
+pub none_written : {c : Column} {target : CollectTarget} {reach : ℕ} {out : List ℕ}
+    → WrittenBefore c target 0 reach 0 out out
+none_written = record {
+  go_on = λ last are.
+      record { all = last; are = are; many = omega arith; size_is = omega arith; laid = λ room. refl };
   fits = omega arith;
+  long = refl;
 }
 
-pub measured_more : {c : Column} {target : CollectTarget} {i reach to size n : ℕ} → Reach c i reach
-    → Reach c (i + 1) to → MeasuredBefore c target i reach size → RowHas (IsMeasuredFound target) c i n
-    → MeasuredBefore c target (i + 1) to (size + n)
-measured_more {c} {target} {i} {size = size} {n} before after m one =
+-- what is laid where a slice was lent
+pub lent_laid : {start : ℕ} {before lent sub after : List ℕ} → IsLent start before lent sub after → (bytes : List ℕ)
+    → start + length bytes ≤ length before → LaysIfFits lent sub bytes → after ≡ sets before start bytes
+lent_laid {start} {before} {lent} l bytes room lays =
+    let same : l.at ≡ start = omega (arith, l.at_is, room) in
+    let held = lays (omega (arith, same, room, ap length l.lent_is, length-drop l.at before)) in
+    let rest : drop (length bytes) lent ≡ drop (start + length bytes) before =
+    ap (drop (length bytes)) l.lent_is ∙ drop-drop (length bytes) l.at before
+    ∙ ap (λ n. drop n before) (omega (arith, same)) in
+    l.after_is ∙ (λ i. take (same i) before ++ held i) ∙ ap (λ z. take start before ++ (bytes ++ z)) rest
+    ∙ sym (append_assoc (take start before) bytes (drop (start + length bytes) before))
+    ∙ sym (sets-eq bytes before start room)
+
+pub written_more : {c : Column} {target : CollectTarget} {i reach to at n : ℕ} {before out lent sub new : List ℕ}
+    → Reach c i reach → Reach c (i + 1) to → WrittenBefore c target i reach at before out
+    → RowHas (WritesMember target lent sub) c i n → IsLent at out lent sub new → length new ≡ length out
+    → WrittenBefore c target (i + 1) to (at + n) before new
+written_more {c} {target} {i} {at = at} {n} {out = out} {new = new} from after m one l long =
     let s = one.is.slice in
     let next : i + 1 ≡ suc i = omega arith in
     let own : RowHas (BeginsWithMember (part_of target)) c i one.has.t =
     record { row = one.row; is = one.is; has = one.has.begins } in
-    let least = before.least s.start s.after in
+    let bytes = encoding_for (inner_of target) one.has.t in
+    let least = from.least s.start s.after in
     let enough = after.enough i s.start s.end (omega arith) s.span in
     record {
       go_on = λ last are.
           let w = m.go_on (member one.has.t last) (own, subst (λ k. AreRowMembers c (part_of target) k last) next are) in
-          let long =
-          length-append (encoding_for (inner_of target) one.has.t) (inside_of target last) in
           record {
             all = w.all;
             are = w.are;
             many = omega (arith, w.many);
-            size_is = omega (arith, w.size_is, one.has.size_is, long);
+            size_is = omega (arith, w.size_is, one.has.size_is, length-append bytes (inside_of target last));
+            laid = λ room.
+                let new_is = lent_laid l bytes (omega (arith, room, one.has.size_is, m.long)) one.has.laid in
+                ap (λ z. sets z (at + n) (inside_of target last)) new_is
+                ∙ sets_after out at (at + n) bytes (inside_of target last) (omega (arith, one.has.size_is))
+                ∙ w.laid (omega (arith, room));
           };
       fits = omega (arith, ap length s.row_is, length-take (s.end - s.start) (drop s.start c.bytes.now));
+      long = long ∙ m.long;
     }
 
-abbrev pub have_before : {c : Column} {target : CollectTarget} {i reach size : ℕ} → MeasuredBefore c target i reach size
-    → HaveMembers c (part_of target) i
+abbrev pub have_before : {c : Column} {target : CollectTarget} {i reach at : ℕ} {before out : List ℕ}
+    → WrittenBefore c target i reach at before out → HaveMembers c (part_of target) i
 have_before m =
     let w = m.go_on no_members tt in record { values = w.all; many = omega (arith, w.many); are = w.are }
 
--- rows reach no further than the bytes
-pub reach_inside : {i reach : ℕ} (c : Column) → Reach c i reach → reach ≤ length c.bytes.now
-reach_inside c r = r.least (length c.bytes.now) (λ j s e below is. is.inside)
-
-pub all_measured : {c : Column} {target : CollectTarget} {i reach size rows : ℕ} → Reach c i reach
-    → MeasuredBefore c target i reach size → i ≡ rows → AreMeasured c target rows size
-all_measured {c} {target} {size = size} r m all =
+pub all_written : {c : Column} {target : CollectTarget} {rows i reach at : ℕ} {before out : List ℕ} → Reach c i reach
+    → WrittenBefore c target i reach at before out → i ≡ rows → WritesMembers c target rows before out at
+all_written {c} {target} {at = at} {before} {out} r m all =
     let w = m.go_on no_members tt in
-    subst (λ n. AreMeasured c target n size) all
-    (record {
-      have = have_before m;
-      size_is = omega (arith, w.size_is);
-      short = omega (arith, m.fits, reach_inside c r);
-    })
-
--- ---- the members that are still to be laid
-
-pub record MembersLeft (c : Column) (target : CollectTarget) (rows i at : ℕ) (out before whole : List ℕ) (end : ℕ)
-    : Type 0 where
-  pub left : Values
-  pub are : AreRowMembers c (part_of target) i left
-  pub many : i + count left ≡ rows
-  pub laid : sets out at (inside_of target left) ≡ whole
-  pub ends : at + length (inside_of target left) ≡ end
-  pub long : length out ≡ length before
-
--- the row that the first of them is in: it is accepted as this member alone, which fits, and once it is laid, those behind
--- it are left
-pub record Turn (c : Column) (target : CollectTarget) (rows i at : ℕ) (out before whole : List ℕ) (end : ℕ)
-    (row : List ℕ) (o : WriteOptions) : Type 0 where
-  pub here : IsAccepted row
-  pub room : end ≤ length before → (a : IsAccepted row) → at + length (encoding_for o a.t) ≤ length out
-  pub next : (to : ℕ) (new : List ℕ) → ((a : IsAccepted row) → IsLaid out new at to (encoding_for o a.t))
-      → MembersLeft c target rows (i + 1) to new before whole end
-
-module _ {c : Column} {target : CollectTarget} {rows i at : ℕ} {out before whole : List ℕ} {end : ℕ}
-    (l : MembersLeft c target rows i at out before whole end) where
-  pub never_without : {status : ℕ} → i < rows → LacksRow c i status → ⊥
-  never_without below none = by l.left l.are l.many where
-    by : (left : Values) → AreRowMembers c (part_of target) i left → i + count left ≡ rows → ⊥
-    by no_members are many = omega (arith, many, below)
-    by (member t ts) are many = never_lacks are.0.is none
-
-  pub turn : {o : WriteOptions} (row : List ℕ) → o ≡ inner_of target → i < rows → IsRow c i row
-      → Turn c target rows i at out before whole end row o
-  turn {o} row o_is below is = by l.left l.are l.many l.laid l.ends where
-    by : (left : Values) → AreRowMembers c (part_of target) i left → i + count left ≡ rows
-        → sets out at (inside_of target left) ≡ whole → at + length (inside_of target left) ≡ end
-        → Turn c target rows i at out before whole end row o
-    by no_members are many laid ends = absurd (omega (arith, many, below))
-    by (member t ts) are many laid ends =
-        let begins : BeginsWithMember (part_of target) row t =
-        subst (λ z. BeginsWithMember (part_of target) z t) (one_row are.0.is is) are.0.has in
-        let own = encoding_for (inner_of target) t in
-        let others = inside_of target ts in
-        let so : (a : IsAccepted row) → encoding_for o a.t ≡ own =
-        λ (a : IsAccepted row) j. encoding_for (o_is j) (one_value begins a j) in
-        let behind : suc i ≡ i + 1 = omega arith in
-        record {
-          here = there begins;
-          room = λ fit a. omega (arith, fit, ends, l.long, length-append own others, ap length (so a));
-          next = λ to new p.
-              let q : IsLaid out new at to own = subst (IsLaid out new at to) (so (there begins)) (p (there begins)) in
-              record {
-                left = ts;
-                are = subst (λ n. AreRowMembers c (part_of target) n ts) behind are.1;
-                many = omega (arith, many);
-                laid = ap (λ z. sets z to others) q.laid ∙ sets_after out at to own others q.end_is ∙ laid;
-                ends = omega (arith, ends, q.end_is, length-append own others);
-                long = ap length q.laid ∙ length-sets out at own ∙ l.long;
-              };
-        }
-
-pub none_left : {c : Column} {target : CollectTarget} {rows i at : ℕ} {out before whole : List ℕ} {end : ℕ}
-    → (l : MembersLeft c target rows i at out before whole end) → rows ≤ i → out ≡ whole
-none_left {target = target} {rows} {i} {at} {out} {whole = whole} l past = by l.left (omega (arith, l.many, past)) l.laid
-  where
-    by : (left : Values) → count left ≤ 0 → sets out at (inside_of target left) ≡ whole → out ≡ whole
-    by no_members few laid = laid
-    by (member t ts) few laid = absurd (omega (arith, few))
-
--- ---- a member that is laid behind others
-
-pub requested_laid : {o : WriteOptions} {row sub : List ℕ} {status size : ℕ} (out : List ℕ) (at : ℕ)
-    → WritesRequested (Encoding o) row (take (length out - at) (drop at out)) sub status size → (a : IsAccepted row)
-    → at + length (encoding_for o a.t) ≤ length out
-    → IsLaid out (take at out ++ (sub ++ drop (length out - at) (drop at out))) at (at + size) (encoding_for o a.t)
-requested_laid {o} {sub = sub} out at w a room =
-    let enc = encoding_for o a.t in
-    let l = lent_rest {start = at} out sub at (omega (arith, room)) w.long in
-    let sub_is : sub ≡ enc ++ drop (at + length enc) out =
-    bytes_of w a (omega (arith, room, ap length l.lent_is, length-drop at out)) w.known
-    ∙ ap (λ z. enc ++ drop (length enc) z) l.lent_is
-    ∙ ap (λ z. enc ++ z) (drop-drop (length enc) at out ∙ ap (λ n. drop n out) (omega arith)) in
+    let reach = r.least (length c.bytes.now) (λ j s e below is. is.inside) in
     record {
-      end_is = ap (λ n. at + n) (requested_size w a);
-      laid =
-          l.after_is ∙ ap (λ z. take at out ++ z) sub_is
-          ∙ sym (append_assoc (take at out) enc (drop (at + length enc) out)) ∙ sym (sets-eq enc out at room);
+      measured = record {
+        have = record { values = w.all; many = omega (arith, w.many, all); are = w.are };
+        size_is = omega (arith, w.size_is);
+        short = omega (arith, m.fits, reach);
+      };
+      laid = λ room.
+          w.laid (omega (arith, room, w.size_is)) ∙ sets-eq (inside_of target w.all) before 0 (omega (arith, room))
+          ∙ ap (λ n. inside_of target w.all ++ drop n before) (omega arith);
     }
 
 -- the front of the whole, and its members behind it

@@ -1,7 +1,6 @@
 -- One geometry whose members are the geometries that the rows of a column begin with.
-use Rattle.std.specs.Prelude.{◌≡◌, ◌≢◌, ℕ, suc, ◌+◌, ◌^◌, ◌<◌, ◌≤◌, List, ◌++◌, length, Option, Some, None, false}
-use Rattle.std.specs.Prelude.{nat_lt, ◌||◌, if◌then◌else◌}
-use lib.Seq.{sets}
+use Rattle.std.specs.Prelude.{◌≡◌, ◌≢◌, ℕ, suc, ◌^◌, ◌<◌, ◌≤◌, List, ◌++◌, length, Option, Some, None, false}
+use Rattle.std.specs.Prelude.{drop, nat_lt, ◌||◌, if◌then◌else◌}
 use Rattle.wkb_geom.specs.declared.code.TheConstants.{MULTI_POINT, GEOMETRY_COLLECTION}
 use Rattle.wkb_geom.specs.declared.code.WkbType.{WkbType}
 use Rattle.wkb_geom.specs.declared.common.Dimension.{Dimension}
@@ -148,28 +147,29 @@ front_of target rows = counted_header target.options (type_of target.kind target
 abbrev pub inside_of : CollectTarget → Values → List ℕ
 inside_of target ts = encodings (inner_of target).endianness (inner_of target).form (geometries_of ts)
 
--- the bytes begin with a member, whose encoding is this long
-pub record IsMeasuredFound (target : CollectTarget) (row : List ℕ) (size : ℕ) : Type 0 where
+-- where a slice has room for the bytes, they are laid at its start, and nothing else changes
+abbrev pub LaysIfFits : List ℕ → List ℕ → List ℕ → Type 0
+LaysIfFits before after bytes = length bytes ≤ length before → after ≡ bytes ++ drop (length bytes) before
+
+-- the bytes begin with a member, whose encoding is this long and is laid where it fits
+pub record WritesMember (target : CollectTarget) (before after row : List ℕ) (size : ℕ) : Type 0 where
   pub t : Value
   pub begins : BeginsWithMember (part_of target) row t
   pub size_is : size ≡ length (encoding_for (inner_of target) t)
   pub short : size ≤ length row
-
--- there is room from this index on for the encodings of the members that these rows begin with
-abbrev pub MembersFit : Column → CollectTarget → ℕ → ℕ → List ℕ → Type 0
-MembersFit c target rows start out =
-    (m : HaveMembers c (part_of target) rows) → start + length (inside_of target m.values) ≤ length out
-
--- the encodings of the members that these rows begin with are laid from this index on, and nothing else changes
-abbrev pub LaysMembers : Column → CollectTarget → ℕ → ℕ → List ℕ → List ℕ → Type 0
-LaysMembers c target rows start before after =
-    (m : HaveMembers c (part_of target) rows) → after ≡ sets before start (inside_of target m.values)
+  pub laid : LaysIfFits before after (encoding_for (inner_of target) t)
 
 -- the encodings of the members that these rows begin with are together this long
 pub record AreMeasured (c : Column) (target : CollectTarget) (rows size : ℕ) : Type 0 where
   pub have : HaveMembers c (part_of target) rows
   pub size_is : size ≡ length (inside_of target have.values)
   pub short : size ≤ length c.bytes.now
+
+-- and are laid where they fit
+pub record WritesMembers (c : Column) (target : CollectTarget) (rows : ℕ) (before after : List ℕ) (size : ℕ)
+    : Type 0 where
+  pub measured : AreMeasured c target rows size
+  pub laid : LaysIfFits before after (inside_of target measured.have.values)
 
 -- this is the front of the whole, and behind it the encodings of the members that these rows begin with
 pub record IsWhole (c : Column) (target : CollectTarget) (rows : ℕ) (encoding : List ℕ) : Type 0 where

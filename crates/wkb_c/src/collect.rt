@@ -3,22 +3,19 @@
 ghost use Rattle.std.specs.Prelude.{◌≡◌, ◌≢◌, ◌⊎◌, ◌↔◌, ◌+◌, ◌<◌, ◌≤◌, ◌^◌, length, true, false, None};
 ghost use Rattle.std.specs.Prelude.{IfSome, IfOk, IfErr};
 ghost use Rattle.wkb_check.specs.Public.{DescribesFrontWithin, member_room};
-ghost use Rattle.wkb_check.specs.Inputs.{IsAccepted};
-ghost use Rattle.wkb_rewrite.specs.Shares.{IsLaid};
-ghost use Rattle.wkb_rewrite.specs.Targets.{encoding_for};
 ghost use Rattle.wkb_sink.specs.Blocks.{LaysAt};
 ghost use Rattle.wkb_abi.specs.Classes.{IsRefusalStatus, IsNoRefusal, TellsOfRow};
 ghost use Rattle.wkb_c.specs.Collections.{collect_asked, IsAsked, AsksForTooMany, part_of, TakesMember, front_of};
-ghost use Rattle.wkb_c.specs.Collections.{MembersFit, LaysMembers};
-ghost use Rattle.wkb_c.specs.Collections.{HaveMembers, IsUnwanted, IsUnfit, IsFirstUnfit, IsFirstUnfitFor};
-ghost use Rattle.wkb_c.specs.Collections.{IsMeasuredFound, AreMeasured, IsWhole, IsCollected, IsStatusOfCollecting};
+ghost use Rattle.wkb_c.specs.Collections.{IsUnwanted, IsUnfit, IsFirstUnfit, IsFirstUnfitFor};
+ghost use Rattle.wkb_c.specs.Collections.{WritesMember, WritesMembers, AreMeasured, IsWhole, IsCollected};
+ghost use Rattle.wkb_c.specs.Collections.{IsStatusOfCollecting};
 ghost use Rattle.wkb_abi.specs.Columns.{Reach};
 ghost use Rattle.wkb_abi.specs.Room.{IsWritten, FindsNoRoom};
 ghost use Rattle.wkb_abi.specs.RowItems.{RowHas};
 ghost use Rattle.wkb_abi.specs.Statuses.{IsFaultWithin};
 
 use crate::write::{options_for, write_requested};
-use wkb_abi::column::{Column, found_in};
+use wkb_abi::column::Column;
 use wkb_abi::fault::{NO_FAULT, WkbFault, report_refusal};
 use wkb_abi::options::{Options, Request, request_of};
 use wkb_abi::status::{INCORRECT_TYPE, NO_ROOM, OK, TOO_MANY_ROWS, UNKNOWN_OPTION};
@@ -97,15 +94,17 @@ fn check_member_row(row: &[u8], fault: &mut WkbFault) -> Result<Summary, u32>
     }
 }
 
-/// How long the encoding of a row's geometry is as a member; or the status and the fault of one that is no member.
-fn measure_found(
+/// Writes the encoding of a row's geometry as a member, if there is room, and returns its length; or the status and the
+/// fault of one that is no member.
+fn write_found(
     row: &[u8],
     found: &Summary,
     target: &CollectTarget,
+    out: &mut [u8],
     fault: &mut WkbFault,
 ) -> Result<u64, u32>
     requires { DescribesFrontWithin member_room row.now found.now }
-    ensures measured { IfOk result (λ size. IsMeasuredFound target.now row.now size) }
+    ensures written { IfOk result (WritesMember target.now out.old out.new row.now) }
     ensures unfit { IfErr result (λ status. IsUnwanted (part_of target.now) row.now status fault.new) }
     ensures kept { IfOk result (λ _. fault.new ≡ fault.old) }
 {
@@ -118,23 +117,24 @@ fn measure_found(
     }
     let request = Request::Encoding(target.options.inner());
     let mut size = 0;
-    // Without room only its length is reported.
-    let _status = write_requested(row, found, request, &mut [], &mut size);
+    let _status = write_requested(row, found, request, out, &mut size);
     Ok(size)
 }
 
-/// How long the encoding of row i's geometry is as a member; or the status and the fault of a row that is no member.
-fn measure_row(
+/// Writes the encoding of row i's geometry as a member, if there is room, and returns its length; or the status and the
+/// fault of a row that is no member.
+fn write_row(
     column: &Column,
     i: usize,
     reach: &mut u64,
     target: &CollectTarget,
+    out: &mut [u8],
     fault: &mut WkbFault,
 ) -> Result<u64, u32>
     requires small { i < 2 ^ 63 }
     requires before { Reach column.now i reach.old }
     ensures reach { Reach column.now (i + 1) reach.new }
-    ensures measured { IfOk result (RowHas (IsMeasuredFound target.now) column.now i) }
+    ensures written { IfOk result (RowHas (WritesMember target.now out.old out.new) column.now i) }
     ensures unfit { IfErr result (λ status. IsUnfit column.now (part_of target.now) i status fault.new) }
     ensures known { IfErr result TellsOfRow }
     ensures kept { IfOk result (λ _. fault.new ≡ fault.old) }
@@ -145,10 +145,10 @@ fn measure_row(
         Err(status) => return Err(status),
     };
     if let Some(plain) = check_plain(row) {
-        return measure_found(row, &plain, target, fault);
+        return write_found(row, &plain, target, out, fault);
     }
     match check_member_row(row, fault) {
-        Ok(found) => measure_found(row, &found, target, fault),
+        Ok(found) => write_found(row, &found, target, out, fault),
         Err(status) => Err(status),
     }
 }
@@ -159,18 +159,19 @@ fn fits_word(bytes: &[u8])
     ensures { length bytes.now < 2 ^ 64 }
 {}
 
-/// How long the encodings of the rows' geometries are together as members. Where a row begins with none, the first such
-/// row is told, with its status and its fault.
-#[tactic(auto, using(crate::proofs::Gathering::none_measured))]
-fn measure_members(
+/// Writes the encodings of the rows' geometries as members, one behind another as far as there is room, and returns how
+/// long they are together. Where a row begins with none, the first such row is told, with its status and its fault.
+#[tactic(auto, using(crate::proofs::Gathering::none_written))]
+fn write_members(
     column: &Column,
     rows: usize,
     target: &CollectTarget,
+    out: &mut [u8],
     fault: &mut WkbFault,
     row: &mut u64,
 ) -> Result<u64, u32>
     requires few { rows < 2 ^ 32 }
-    ensures measured { IfOk result (λ size. AreMeasured column.now target.now rows size) }
+    ensures written { IfOk result (WritesMembers column.now target.now rows out.old out.new) }
     ensures unfit { IfErr result (λ status. IsFirstUnfit column.now (part_of target.now) rows row.new status
         fault.new) }
     ensures known { IfErr result TellsOfRow }
@@ -180,9 +181,10 @@ fn measure_members(
 {
     fits_word(column.bytes);
     let mut reach = 0;
-    let mut size = 0;
+    let mut size: u64 = 0;
     for i in 0..rows {
-        match measure_row(column, i, &mut reach, target, fault) {
+        let at = size.min(out.len() as u64) as usize;
+        match write_row(column, i, &mut reach, target, &mut out[at..], fault) {
             Ok(length) => size += length,
             Err(status) => {
                 *row = i as u64;
@@ -191,50 +193,6 @@ fn measure_members(
         }
     }
     Ok(size)
-}
-
-/// Lays the encoding of the geometry that a row begins with from an index on, and returns the index after it.
-fn lay_row_member(row: &[u8], options: WriteOptions, out: &mut [u8], at: usize) -> usize
-    requires here { IsAccepted row.now }
-    requires inside { at ≤ length out.old }
-    requires room { (a : IsAccepted row.now)
-        → at + length (encoding_for options a.t) ≤ length out.old }
-    ensures { (a : IsAccepted row.now)
-        → IsLaid out.old out.new at result (encoding_for options a.t) }
-{
-    let found = match found_in(row) {
-        Ok(found) => found,
-        Err(_status) => unreachable!(),
-    };
-    let request = Request::Encoding(options);
-    let mut size = 0;
-    let _status = write_requested(row, &found, request, &mut out[at..], &mut size);
-    at + size as usize
-}
-
-/// Lays the encodings of the members that the rows begin with from an index on.
-fn lay_row_members(
-    column: &Column,
-    rows: usize,
-    target: &CollectTarget,
-    out: &mut [u8],
-    start: usize,
-)
-    requires few { rows < 2 ^ 32 }
-    requires here { HaveMembers column.now (part_of target.now) rows }
-    requires room { MembersFit column.now target.now rows start out.old }
-    ensures { LaysMembers column.now target.now rows start out.old out.new }
-{
-    let options = target.options.inner();
-    let mut reach = 0;
-    let mut at = start;
-    for i in 0..rows {
-        let row = match column.row(i, &mut reach) {
-            Ok(row) => row,
-            Err(_status) => unreachable!(),
-        };
-        at = lay_row_member(row, options, out, at);
-    }
 }
 
 /// Writes the geometry with the members that the rows begin with, whose encodings are together this long, and reports
@@ -265,8 +223,20 @@ fn write_collected(
         return NO_ROOM;
     }
     out[..start].copy_from_slice(&front[..start]);
-    lay_row_members(column, rows, target, out, start);
-    OK
+    let mut fault = NO_FAULT;
+    let mut row = 0;
+    match write_members(
+        column,
+        rows,
+        target,
+        &mut out[start..],
+        &mut fault,
+        &mut row,
+    ) {
+        Ok(_inside) => OK,
+        // The rows begin with members.
+        Err(_status) => unreachable!(),
+    }
 }
 
 /// Writes the encoding, under the options, of the geometry of this kind and dimension that has the geometries at the
@@ -309,7 +279,8 @@ pub extern "C" fn wkb_raw_collect(
     if rows >= 1 << 32 {
         return TOO_MANY_ROWS;
     }
-    match measure_members(column, rows, &target, fault, row) {
+    // Without room the members are only checked and measured.
+    match write_members(column, rows, &target, &mut [], fault, row) {
         Ok(inside) => write_collected(column, rows, &target, inside, out, size),
         Err(status) => status,
     }
