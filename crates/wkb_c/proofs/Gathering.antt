@@ -57,8 +57,10 @@ same_value a b =
     (one_spelling a.s b.s a.t b.t a.front.front b.front.front a.rest b.rest a.front.spelled b.front.spelled
     (sym a.front.whole ∙ b.front.whole)).value
 
-pub one_value : {w : Wanted} {row : List ℕ} {t : Value} → BeginsWithMember w row t → (a : IsAccepted row) → a.t ≡ t
-one_value b a = same_value a (there b)
+one_member : {c : Column} {w : Wanted} {i : ℕ} {t : Value} {row : List ℕ} → RowHas (BeginsWithMember w) c i t
+    → IsRow c i row → (a : IsAccepted row) → a.t ≡ t
+one_member {w = w} {t = t} has is a =
+    same_value a (there (subst (λ z. BeginsWithMember w z t) (one_row has.is is) has.has))
 
 -- a geometry that is no collection has room anywhere
 none_nested : (t : Value) → kind t < 7 → nest t ≤ member_room
@@ -96,9 +98,7 @@ same_members c w i no_members no_members a b many = refl
 same_members c w i no_members (member u us) a b many = absurd (omega (arith, many))
 same_members c w i (member t ts) no_members a b many = absurd (omega (arith, many))
 same_members c w i (member t ts) (member u us) a b many =
-    let own : BeginsWithMember w a.0.row u =
-    subst (λ z. BeginsWithMember w z u) (one_row b.0.is a.0.is) b.0.has in
-    λ j. member (one_value own (there a.0.has) j)
+    λ j. member (one_member b.0 a.0.is (there a.0.has) j)
     (same_members c w (suc i) ts us a.1 b.1 (omega (arith, many)) j)
 
 pub one_list : {c : Column} {w : Wanted} {rows : ℕ} (h k : HaveMembers c w rows) → h.values ≡ k.values
@@ -127,11 +127,10 @@ never_unfit_row has (no_row none) = never_lacks has.is none
 never_unfit_row {t = t} has (refused row is why) =
     let b = has.has in
     never_within (subst (λ z. FrontWithin member_room z b.s t b.rest) (one_row has.is is) b.front) why.refuses
-never_unfit_row {w = w} {t = t} has (no_member row is why) =
-    let own : BeginsWithMember w row t = subst (λ z. BeginsWithMember w z t) (one_row has.is is) has.has in
+never_unfit_row {w = w} has (no_member row is why) =
     let front = with_room why.front (omega (arith, why.front.shallow)) in
-    let same = one_value own (record { s = why.s; t = why.t; rest = why.rest; front = front }) in
-    why.unwanted (subst (λ z. IsPart w (kind z) (dimension z) false) (sym same) own.wanted)
+    let same = one_member has is (record { s = why.s; t = why.t; rest = why.rest; front = front }) in
+    why.unwanted (subst (λ z. IsPart w (kind z) (dimension z) false) (sym same) has.has.wanted)
 
 -- so that none of them is unfit
 pub never_unfit : {c : Column} {w : Wanted} {rows i status : ℕ} {fault : WkbFault} → HaveMembers c w rows

@@ -123,6 +123,7 @@ fn write_found(
 
 /// Writes the encoding of row i's geometry as a member, if there is room, and returns its length; or the status and the
 /// fault of a row that is no member.
+#[tactic(auto, using(crate::proofs::Gathering::plain_inside))]
 fn write_row(
     column: &Column,
     i: usize,
@@ -246,6 +247,7 @@ fn write_collected(
 /// `EWKB_OWN_SRID` writes none. `NO_ROOM` writes the length too, but no encoding. Kind, dimension and options are
 /// checked first; then the first row that is no valid member rejects the whole call: `row` is its index, and its fault
 /// is counted from its own front.
+#[tactic(auto, using(crate::proofs::Collecting::collected_laws))]
 #[unsafe(no_mangle)]
 pub extern "C" fn wkb_raw_collect(
     column: &Column<'_>,

@@ -1,9 +1,6 @@
 use Rattle.wkb_c.specs.Collections.{refused}
-use Rattle.wkb_c.proofs.Gathering.{plain_inside, unfit_of}
+use Rattle.wkb_c.proofs.Gathering.{unfit_of}
 use Rattle.wkb_c.proofs.collect.write_row.Goals as goal
-
-pub write_found-requires : goal.write_found-requires
-write_found-requires c = plain_inside c.in-Some.ensures.checks c.in-Some.ensures.plain
 
 pub returns-in-Some-clause-unfit : goal.returns-in-Some-clause-unfit
 returns-in-Some-clause-unfit c =
