@@ -1,5 +1,5 @@
 -- Where the bytes and the words of the subjects of a table are.
-use Rattle.std.specs.Prelude.{◌≡◌, ℕ, suc, ◌+◌, ◌*◌, List, [], ◌∷◌, ◌++◌, length, drop, ◌<◌, slice_get, Some}
+use Rattle.std.specs.Prelude.{◌≡◌, ℕ, suc, ◌+◌, ◌*◌, List, [], ◌∷◌, ◌++◌, length, drop, slice_get, Some}
 use Rattle.wkb_geom.specs.declared.common.Endianness.{Endianness}
 use Rattle.wkb_geom.specs.Fronts.{Front}
 use Rattle.wkb_geom.specs.Numbers.{number}
@@ -8,7 +8,6 @@ use Rattle.wkb_geom.specs.Spellings.{Spelling}
 use Rattle.wkb_check.specs.Subjects.{Subject, order_in, subject_coordinates, SpellsSubject, subjects}
 use Rattle.wkb_abi.specs.Tables.{geometry_entries}
 use Rattle.wkb_abi.specs.declared.parts.Part.{Part}
-use Rattle.wkb_abi.specs.Room.{IsHeld}
 
 -- word n of coordinate i of the part is the number at its place in the input
 abbrev pub HoldsWords : List ℕ → Part → Endianness → List Coordinate → Type 0
@@ -31,33 +30,6 @@ HoldEach input (p ∷ parts) (x ∷ xs) = HoldsSubject input p x × HoldEach inp
 HoldEach input [] (x ∷ xs) = ⊥
 HoldEach input (p ∷ parts) [] = ⊥
 
--- the table of the parts of the geometry at the start of the input was written: where their bytes and words are
-pub record IsTable (input : List ℕ) (before after : List Part) (count : ℕ) : Type 0 where
-  pub s : Spelling
-  pub t : Value
-  pub rest : List ℕ
-  pub front : Front input s t rest
-  pub held : IsHeld (geometry_entries 0 0 s t) before after count
-  pub parts : HoldEach input (geometry_entries 0 0 s t) (subjects s t)
-  pub many : count ≡ suc (member_count t)
-
--- the table has no room: there are as many parts as members, and one
-pub record LacksEntries (input : List ℕ) (before : List Part) (count : ℕ) : Type 0 where
-  pub s : Spelling
-  pub t : Value
-  pub rest : List ℕ
-  pub front : Front input s t rest
-  pub many : count ≡ suc (member_count t)
-  pub short : length before < count
-
--- the input begins with a geometry that has this many parts
-pub record HasParts (input : List ℕ) (many : ℕ) : Type 0 where
-  pub s : Spelling
-  pub t : Value
-  pub rest : List ℕ
-  pub front : Front input s t rest
-  pub many_are : many ≡ suc (member_count t)
-
 -- the table of the geometry that the input begins with: where the bytes and words of its parts are
 pub record HasTable (input : List ℕ) (parts : List Part) : Type 0 where
   pub s : Spelling
@@ -66,3 +38,4 @@ pub record HasTable (input : List ℕ) (parts : List Part) : Type 0 where
   pub front : Front input s t rest
   pub parts_are : parts ≡ geometry_entries 0 0 s t
   pub hold : HoldEach input (geometry_entries 0 0 s t) (subjects s t)
+  pub many : length parts ≡ suc (member_count t)

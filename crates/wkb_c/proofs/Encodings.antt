@@ -18,7 +18,7 @@ use Rattle.wkb_abi.specs.declared.options.Request.{Request}
 use Rattle.wkb_abi.specs.declared.options.Request.TheVariants.{Encoding, OwnSrid}
 use Rattle.wkb_abi.specs.declared.status.TheConstants.{OK, NO_ROOM, UNKNOWN_OPTION}
 use Rattle.wkb_abi.proofs.OneRow.{is_asked}
-use Rattle.wkb_c.proofs.RowItems.{IsLent, called_step, unchanged, written_as, no_room_as}
+use Rattle.wkb_c.proofs.RowItems.{IsLent, row_step, unchanged, written_as, no_room_as}
 use Rattle.wkb_abi.specs.declared.column.Column.{Column}
 use Rattle.wkb_abi.specs.declared.options.Options.{Options}
 
@@ -114,9 +114,8 @@ meant {o} {request} asked w = record {
   size_kept = λ not_ok other. absurd ((by_status w.known).1 not_ok other);
 }
 
-row_encoding : {c : Column} {i : ℕ} {row : List ℕ} {o : Options} → IsRow c i row → (bytes : List ℕ)
-    → HasEncoding o row bytes → RowHas (HasEncoding o) c i bytes
-row_encoding is _ has = record { row = _; is = is; has = has }
+some_asked : {o : Options} (row bytes : List ℕ) → HasEncoding o row bytes → 0 < length bytes
+some_asked row bytes h = some_requested h.request row bytes h.is_requested
 
 -- the step of a row that has these bytes
 module _ {c : Column} {i start status size count : ℕ} {before lent sub after : List ℕ} (row : List ℕ) (is : IsRow c i row)
@@ -128,9 +127,7 @@ module _ {c : Column} {i start status size count : ℕ} {before lent sub after :
     by : ((status ≡ OK) ⊎ (status ≡ NO_ROOM)) ⊎ (status ≡ UNKNOWN_OPTION)
         → IsRowStep (RowHas (HasEncoding o) c) (RowFails (FailsToWrite o) c) i status count start before after
     by (inl known) =
-        called_step (l w.long) (λ bytes h. some_requested h.has.request h.row bytes h.has.is_requested)
-        (λ ok. written_as (row_encoding is) (w.written ok)) (λ told. no_room_as (row_encoding is) (w.no_room told))
-        w.out_kept known
+        row_step is some_asked (l w.long) w.written w.no_room w.out_kept known
     by (inr told) =
         nothing (fails row is (unknown (w.unknown.0 told) told))
         (w.size_kept (λ ok. omega (arith, ok, told)) (λ short. omega (arith, short, told)) ∙ none)

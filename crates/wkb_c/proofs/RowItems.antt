@@ -1,7 +1,7 @@
 -- Rows that write their items one after another.
 use Rattle.wkb_abi.proofs.Common.{◌≡◌, ◌≢◌, ℕ, zero, suc, ◌+◌, ◌≤◌, ◌<◌, ◌^◌, ◌⊎◌, inl, inr, List, [], ◌++◌, length}
 use Rattle.wkb_abi.proofs.Common.{drop, slice_index, refl, ap, sym, subst, ◌∙◌, arith, append_assoc, append-nil}
-use Rattle.wkb_abi.proofs.Common.{length-append, drop-drop, ◌-◌, set, sets-eq, length-sets, IsRowStep}
+use Rattle.wkb_abi.proofs.Common.{length-append, drop-drop, ◌-◌, set, sets-eq, length-sets, IsRow, IsRowStep, RowHas, RowFails}
 use Rattle.std.specs.Prelude.{take, min, slice_range}
 use Rattle.std.proofs.Common.{length-drop}
 use Rattle.std.proofs.Math.Seq.{take-append_seam}
@@ -14,7 +14,7 @@ use Rattle.wkb_abi.specs.Room.{IsHeld, Exceeds, IsWritten, FindsNoRoom}
 use Rattle.wkb_levels.specs.Cuts.{start_at}
 use Rattle.wkb_abi.specs.RowItems.{rows_of, end_of, IsRowAnswer, handed, no_room, failed, AreRowAnswers, KeepsAfter}
 use Rattle.wkb_abi.specs.RowItems.{KeepsFrom, laid, lacks, nothing, NoneLacksRoom, LastEndSuffices}
-use Rattle.wkb_abi.specs.Columns.{RowShows, RowsShow}
+use Rattle.wkb_abi.specs.Columns.{Reach, RowShows, RowsShow}
 use Rattle.wkb_abi.proofs.Reasons.{TellsOther}
 use borrow.Author.Count.{below_more, below_none}
 use Rattle.wkb_abi.proofs.Rows.{statuses_more, shown_more}
@@ -145,17 +145,20 @@ set_more {rows = rows} {statuses = statuses} {others = others} are i status x be
   others_kept = drop-set-lt rows others i x below ∙ are.others_kept;
 }
 
--- the rows below this number show their items, and nothing else has changed
-pub record AreShown {A : Type 0} (Shows : List ℕ → A → Type 0) (none : A) (c : Column) (rows i : ℕ)
+-- the rows below this number show their items, they reach this far, and nothing else has changed
+pub record AreShown {A : Type 0} (Shows : List ℕ → A → Type 0) (none : A) (c : Column) (rows i reach : ℕ)
     (before statuses : List ℕ) (before' items : List A) : Type 0 where
+  pub reaches : Reach c i reach
   pub lists : AreSet rows before statuses before' items
   pub done : RowsShow Shows none c i statuses items
 
-pub row_shown : {A : Type 0} {Shows : List ℕ → A → Type 0} {none : A} {c : Column} {rows i status : ℕ} {item : A}
-    {before statuses : List ℕ} {before' items : List A} → AreShown Shows none c rows i before statuses before' items
-    → RowShows Shows none c i status item → i < rows → rows ≤ rows_of before before'
-    → AreShown Shows none c rows (i + 1) before (set statuses i status) before' (set items i item)
-row_shown {i = i} {status} {item} shown row below few = record {
+pub row_shown : {A : Type 0} {Shows : List ℕ → A → Type 0} {none : A} {c : Column} {rows i reach to status : ℕ}
+    {item : A} {before statuses : List ℕ} {before' items : List A}
+    → AreShown Shows none c rows i reach before statuses before' items → Reach c (i + 1) to
+    → RowShows Shows none c i status item → i < rows → rows ≡ rows_of before before'
+    → AreShown Shows none c rows (i + 1) to before (set statuses i status) before' (set items i item)
+row_shown {i = i} {status = status} {item = item} shown reach row below few = record {
+  reaches = reach;
   lists = set_more shown.lists i status item below;
   done =
       shown_more i status item (omega (arith, below, few, shown.lists.as_many))
@@ -322,10 +325,25 @@ module _ {A : Type 0} {Has : ℕ → List A → Type 0} {Fails : ℕ → ℕ →
   no_step why none same = nothing why none (unchanged l same)
 
   -- its items were laid, or they have no room, as the status says
-  pub called_step : ((items : List A) → Has i items → 0 < length items)
+  called_step : ((items : List A) → Has i items → 0 < length items)
       → (status ≡ OK → IsWritten (Has i) lent sub count) → (status ≡ NO_ROOM → FindsNoRoom (Has i) lent count)
       → (status ≢ OK → sub ≡ lent) → (status ≡ OK) ⊎ (status ≡ NO_ROOM)
       → IsRowStep Has Fails i status count start before after
   called_step some lays short kept (inl ok) = let h = lays ok in laid_step h.items h.is ok (some h.items h.is) h.held
   called_step some lays short kept (inr told) =
       let h = short told in lacks_step h.items h.is told h.lacks (kept (λ ok. omega (arith, ok, told)))
+
+-- what was written for the bytes of a row is the step of that row
+in_row : {A : Type 0} {Has : List ℕ → List A → Type 0} {c : Column} {i : ℕ} {row : List ℕ} → IsRow c i row
+    → (items : List A) → Has row items → RowHas Has c i items
+in_row is items has = record { row = _; is = is; has = has }
+
+pub row_step : {A : Type 0} {Has : List ℕ → List A → Type 0} {Fails : List ℕ → ℕ → Type 0} {c : Column}
+    {i status count start : ℕ} {before lent sub after : List A} {row : List ℕ} → IsRow c i row
+    → ((row : List ℕ) (items : List A) → Has row items → 0 < length items) → IsLent start before lent sub after
+    → (status ≡ OK → IsWritten (Has row) lent sub count) → (status ≡ NO_ROOM → FindsNoRoom (Has row) lent count)
+    → (status ≢ OK → sub ≡ lent) → (status ≡ OK) ⊎ (status ≡ NO_ROOM)
+    → IsRowStep (RowHas Has c) (RowFails Fails c) i status count start before after
+row_step {Has = Has} is some l lays short =
+    called_step l (λ items h. some h.row items h.has) (λ ok. written_as (in_row {Has = Has} is) (lays ok))
+    (λ told. no_room_as (in_row {Has = Has} is) (short told))

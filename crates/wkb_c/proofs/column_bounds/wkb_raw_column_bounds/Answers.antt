@@ -4,7 +4,5 @@ use Rattle.wkb_c.proofs.column_bounds.wkb_raw_column_bounds.Goals as goal
 
 pub loop-i-preserved : goal.loop-i-preserved
 loop-i-preserved c =
-    let row = c.bound_row.ensures in record {
-      reaches = row.reach;
-      shown = row_shown c.loop-i.invariant.shown row.row c.loop-i-test.true (omega (arith, c.min-i-end.ensures));
-    }
+    let row = c.bound_row.ensures in
+    row_shown c.loop-i.invariant row.reach row.row c.loop-i-test.true (omega (arith, c.min-i-end.ensures))

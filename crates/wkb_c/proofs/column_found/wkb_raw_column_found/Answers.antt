@@ -6,13 +6,11 @@ use Rattle.wkb_c.proofs.column_found.wkb_raw_column_found.Goals as goal
 
 pub loop-i-preserved : goal.loop-i-preserved
 loop-i-preserved c =
-    let row = c.find_row.ensures in record {
-      reaches = row.reach;
-      shown = row_shown c.loop-i.invariant.shown row.found c.loop-i-test.true (omega (arith, c.min-i-end.ensures));
-    }
+    let row = c.find_row.ensures in
+    row_shown c.loop-i.invariant row.reach row.found c.loop-i-test.true (omega (arith, c.min-i-end.ensures))
 
 pub returns-clause-checked : goal.returns-clause-checked
 returns-clause-checked c =
     λ i below.
     status_shown (λ row. found_accepted row _)
-    (c.loop-i.invariant.shown.done.each i (omega (arith, below, c.loop-i-test.false, c.min-i-end.ensures)))
+    (c.loop-i.invariant.done.each i (omega (arith, below, c.loop-i-test.false, c.min-i-end.ensures)))

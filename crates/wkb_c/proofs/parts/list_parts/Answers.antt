@@ -1,14 +1,15 @@
 use Rattle.wkb_abi.proofs.Common.{arith, ap, ◌∙◌, append-nil, sets, set, subjects}
 use Rattle.wkb_abi.specs.Tables.{entries_from}
-use Rattle.wkb_c.proofs.Called.{fits_table, table_laid, one_geometry, whole_laid, parts_found}
+use Rattle.wkb_c.proofs.Called.{fits_table, lacks_table, table_laid, one_geometry, whole_laid}
 use Rattle.wkb_c.proofs.parts.list_parts.Goals as goal
 
 pub lay_geometries-requires : goal.lay_geometries-requires
-lay_geometries-requires c = record {
-  fit =
-      fits_table c.args.buf.now c.args.found.now.parts c.args.parts.now (parts_found c.requires.accepted)
-      (omega (arith, c.if-parts-found.false));
-}
+lay_geometries-requires c =
+    record { fit = fits_table c.requires.accepted c.args.parts.now (omega (arith, c.if-parts-found.false)) }
+
+pub returns-then-parts-found-clause-no_room : goal.returns-then-parts-found-clause-no_room
+returns-then-parts-found-clause-no_room c = λ told.
+    lacks_table c.requires.accepted (omega (arith, c.if-parts-found.true))
 
 pub returns-then-found-eq1-clause-listed : goal.returns-then-found-eq1-clause-listed
 returns-then-found-eq1-clause-listed c = λ ok.
@@ -18,7 +19,6 @@ returns-then-found-eq1-clause-listed c = λ ok.
 pub returns-clause-listed : goal.returns-clause-listed
 returns-clause-listed c = λ ok.
     let d = c.requires.accepted in
-    table_laid c.args.buf.now c.args.found.now.parts c.args.parts.now c.lay_geometries.new.parts (parts_found d)
-    (omega (arith, c.if-parts-found.false))
-    ((c.lay_geometries.ensures d.rest (one_geometry c.args.buf.now d.spelled d.value d.rest d.front)).laid
+    table_laid d c.args.parts.now c.lay_geometries.new.parts (omega (arith, c.if-parts-found.false))
+    ((c.lay_geometries.ensures d.rest (one_geometry d)).laid
     ∙ ap (λ xs. sets c.args.parts.now 0 (entries_from 0 0 xs)) (append-nil (subjects d.spelled d.value)))
