@@ -48,6 +48,33 @@ def on_each(paths, new, said):
     return [(path, "", new, f"{path}{said}") for path in paths]
 
 
+class Kept(unittest.TestCase):
+    """Tests over copies of these files alone: one that passed isn't run again before one of them changes."""
+
+    reads = []
+
+    def run(self, result=None):
+        from checks import kept
+
+        own = [__file__, kept.__file__, sys.modules[type(self).__module__].__file__]
+        sums = [kept.sum_of(it) for it in [*map(pathlib.Path, own), *(pages.ROOT / it for it in self.reads)]]
+        key = kept.key_of(self.id(), kept.output_of(kept.MACHINE), sums)
+        if self.reads and kept.read(key):
+            print(f"kept: {self.id()}", file=sys.stderr)
+            result.startTest(self)
+            result.addSuccess(self)
+            return result.stopTest(self)
+        before = self.complaints(result)
+        super().run(result)
+        if self.reads and self.complaints(result) == before:
+            kept.write(key, "ok")
+        return result
+
+    @staticmethod
+    def complaints(result):
+        return len(result.failures + result.errors + result.skipped)
+
+
 class Judge(unittest.TestCase):
     """A judge: `wrong` yields what is wrong, in words. In the repository that is nothing.
 
@@ -59,6 +86,13 @@ class Judge(unittest.TestCase):
 
     controls = []
     is_apart = False
+    # Functions as `need_library`.
+    needs = []
+
+    @classmethod
+    def setUpClass(cls):
+        for it in cls.needs:
+            it()
 
     def wrong(self):
         """The errors."""

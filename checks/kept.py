@@ -9,6 +9,7 @@ import hashlib
 import json
 import os
 import pathlib
+import re
 import signal
 import subprocess
 import sys
@@ -21,28 +22,43 @@ from pages import ROOT, copy_files, files
 FOLDER = pathlib.Path(os.environ.get("XDG_CACHE_HOME") or "~/.cache").expanduser() / "porchsorrel/verdicts"
 # For how many days it is kept after its last use.
 DAYS = 60
-# What scripts may read besides themselves, c/ and examples/. A command without a row may read all.
-PYTHON, RUST, SYSTEMS = "python/* LICENSE-*", "rust/* Cargo.toml LICENSE-*", "checks/systems/* tools/version LICENSE-*"
-DIST = f"{PYTHON} {RUST} {SYSTEMS} sqlite/* postgres/* crates/* crates.txt HANDLES tools/* LICENSES/* .reuse/* " \
-    "README.md SECURITY.md CHANGELOG.md docs/SYSTEMS.md docs/FORMAT.md docs/RECIPES.md docs/START_*.md"
-QUERIES = f"docs/START_SQL.md checks/hosts/hostile.py {PYTHON}"
+# What scripts and the commands of pages may read besides themselves: a command reads what stands beside each of its
+# words. One without such a word may read all.
+C, SOURCES = "c/* examples/*", "crates.txt HANDLES tools/*"
+PYTHON, RUST = "python/* LICENSE-*", "rust/* Cargo.toml LICENSE-*"
+SYSTEMS = f"{C} checks/systems/* tools/version LICENSE-*"
+DIST = f"{PYTHON} {RUST} {SYSTEMS} {SOURCES} sqlite/* postgres/* LICENSES/* .reuse/*"
+HOSTILE = f"{C} {PYTHON} checks/hosts/hostile.py"
 READS = {
-    "make c/test/alone/header_test checks/hosts/sanitize": "",
-    "checks/library/try checks/library/lasting checks/faults/weaken": "checks/library/* bench/peers_src/*",
-    "checks/hosts/fuzz": "checks/hosts/fuzz_src/* bench/c/*",
-    "checks/hosts/cost": f"checks/hosts/* sqlite/* {PYTHON} {RUST}",
-    " ".join(f"checks/systems/{it}_test" for it in "windows install cmake unrun pads".split()): SYSTEMS,
-    "checks/systems/cross_test": "docs/RECIPES.md",
+    "make c/test/alone/header_test checks/hosts/sanitize": C,
+    "docs/START_C.md": f"{C} LICENSE-*",
+    "checks/library/try checks/library/lasting checks/faults/weaken": f"{C} checks/library/* bench/peers_src/*",
+    "checks/hosts/fuzz": f"{C} checks/hosts/fuzz_src/* bench/c/*",
+    "checks/hosts/cost": f"{C} checks/hosts/* sqlite/* {PYTHON} {RUST}",
+    " ".join(f"checks/systems/{it}_test" for it in "windows install cmake unrun pads cross".split()): SYSTEMS,
     "checks/systems/wheels_test": f"{SYSTEMS} {PYTHON}",
-    "checks/systems/dist_test": DIST,
-    "checks/pages/pages_test": f"{DIST} wkb_hex",
-    "python/run": PYTHON,
-    "rust/run rust/package_test": RUST,
-    "sqlite/run": f"sqlite/* {QUERIES}",
-    "postgres/run": f"postgres/* README.md docs/RECIPES.md tools/version {QUERIES}",
+    "checks/systems/dist_test c/package/package.md": DIST,
+    "checks/pages/pages_test": "tools/pages.py",
+    "README.md": f"{C} {PYTHON} {RUST} {SOURCES} sqlite/* postgres/*",
+    "python/run docs/START_PYTHON.md": f"{C} {PYTHON}",
+    "rust/run rust/package_test docs/START_RUST.md": f"{C} {RUST}",
+    "docs/RECIPES.md": f"{C} {PYTHON} sqlite/* postgres/*",
+    "sqlite/run": f"sqlite/* {HOSTILE}",
+    "postgres/run": f"postgres/* tools/version {HOSTILE}",
+    "page magnitudes": "README.md docs/RECIPES.md docs/START_SQL.md",
+    "c/proved/prove": f"{SOURCES} c/proved/* c/wkb_proved.S",
+    "checks/systems/second_compiler": f"{C} {SOURCES}",
 }
+# What they copy beside this: a page for its links, and a crate for tools/sums, so that nothing else of it counts.
+CARRIED = {
+    "README.md c/proved/prove checks/systems/second_compiler": "crates/*",
+    "checks/systems/dist_test c/package/package.md": "crates/* SECURITY.md CHANGELOG.md docs/SYSTEMS.md docs/FORMAT.md "
+    "docs/RECIPES.md docs/START_[CSP]*.md",
+}
+LINK = re.compile(r"\[[^]]*\]\([^)]*\)")
 # What else a command finds: the system, and what is installed in it.
-MACHINE = """id -u; uname -srvm; rt version; cargo -V; rustc -V; cat /var/lib/dpkg/status || date +%N
+MACHINE = """id -u; uname -srvm; rt version; ls -lL "$(dirname "$(rt doc)")"/{bin,toolchain/bin}
+cargo -V; rustc -V; cat /var/lib/dpkg/status || date +%N
 ls -d ~/.pyenv/versions/* {/usr/local,~/.pyenv/versions/*}/lib/python3*/*-packages/* ~/.cargo/registry/src/*/* \
   ~/.cache/python-aarch64
 env | grep -E "^(PATH|CC|CXX|[A-Z]*FLAGS|PROVED|PYTHON|PYENV_ROOT|CALL|STRICT)=" | sort"""
@@ -87,10 +103,21 @@ def fitting(*patterns):
     return [it for it in files() if any(fnmatch.fnmatch(str(it.relative_to(ROOT)), one) for one in patterns)]
 
 
+def rows_of(rows, command):
+    """The words of a command that have a row, each with the patterns there."""
+    return [(it, reads.split()) for words, reads in rows.items() for it in {*words.split()} & {*command.split()}]
+
+
 def files_of(command):
     """The files of the repository that a command may read."""
-    rows = {it: reads for scripts, reads in READS.items() for it in {*scripts.split()} & {*command.split()}}
-    return fitting("c/*", "examples/*", *rows, *" ".join(rows.values()).split()) if rows else fitting("*")
+    rows = rows_of(READS, command)
+    return fitting(*(one for it, reads in rows for one in (it, *reads))) if rows else fitting("*")
+
+
+def carried_by(command):
+    """The files that it copies, each with what counts of it beside its path."""
+    found = fitting(*(one for _, reads in rows_of(CARRIED, command) for one in reads))
+    return {it: "".join(LINK.findall(it.read_text(encoding="utf-8"))) if it.suffix == ".md" else "" for it in found}
 
 
 @functools.lru_cache(maxsize=None)
@@ -100,22 +127,31 @@ def sum_of(file, top=ROOT):
 
 
 @functools.lru_cache(maxsize=None)
-def machine():
-    """What a command finds beside the files."""
-    return subprocess.run(["bash", "-c", MACHINE], stdout=subprocess.PIPE, stderr=subprocess.DEVNULL).stdout
+def output_of(command):
+    return subprocess.run(["bash", "-c", command], cwd=ROOT, stdout=subprocess.PIPE, stderr=subprocess.DEVNULL).stdout
 
 
 def stands_on(command):
     """All that a verdict on a command depends on, beside who judges it."""
-    return command, machine(), sum_of(pathlib.Path(__file__)), [*map(sum_of, files_of(command))]
+    sums, carried = [*map(sum_of, [pathlib.Path(__file__), *files_of(command)])], carried_by(command)
+    proved = output_of("tools/sums") if carried else b""
+    return command, output_of(MACHINE), sums, proved, [(str(it.relative_to(ROOT)), has) for it, has in carried.items()]
+
+
+def is_unchanged(command, top=ROOT):
+    """Whether the files of a command are still, in the repository or in a copy, those that were summed."""
+    return all(sum_of.__wrapped__(it, top) == sum_of(it) for it in files_of(command))
 
 
 def copy(command, to):
     """Copy the files that a command may read into a folder, and build the C library there."""
-    copy_files(to, files_of(command))
-    for file in files_of(command):
-        if sum_of(file, to) != sum_of(file):
-            sys.exit(f"{file} changed after it was summed: a verdict would be of other files")
+    carried = carried_by(command)
+    copy_files(to, [*files_of(command), *carried])
+    if not is_unchanged(command, to):
+        sys.exit(f"a file of {command} changed after it was summed: a verdict would be of another")
+    for page, links in carried.items():
+        if page.suffix == ".md":
+            (to / page.relative_to(ROOT)).write_text(links, encoding="utf-8")
     run("make -s -C c", to)
 
 

@@ -1,6 +1,4 @@
 """A judge fails if there is an error and if it is blind, and checks/run fails if a test fails or is skipped."""
-import contextlib
-import io
 import os
 import pathlib
 import shutil
@@ -8,8 +6,9 @@ import subprocess
 import sys
 import tempfile
 import unittest
+from unittest import mock
 
-from checks import judge
+from checks import judge, kept
 from pages import ROOT, text_of
 
 CONTROL = "README.md", "", "lost", "it begins with lost"
@@ -95,18 +94,30 @@ class Judges(unittest.TestCase):
         self.assertFalse(judge.pages.PLANTED)
 
 
-class Judged(unittest.TestCase):
-    """The two functions by which bench/peers judges a page."""
+class Keeping(unittest.TestCase):
+    """Tests over a file that pass aren't run again before it changes."""
 
-    def test_blind_ones(self):
-        self.assertEqual(judge.pages.judged(seeing()().wrong, CONTROL), [])
-        self.assertEqual(judge.pages.judged(seeing("a fault")().wrong, CONTROL), ["a fault"])
-        with self.assertRaises(SystemExit):
-            judge.pages.judged(list, CONTROL)
+    def test_which_are_kept(self):
+        ran = []
 
-    def test_the_status(self):
-        with contextlib.redirect_stdout(io.StringIO()):
-            self.assertEqual([judge.pages.ended(it, "in all") for it in ([], ["a fault"])], [0, 1])
+        def run(ends, of="a sum", anew=""):
+            class Reading(judge.Kept):
+                reads = ["README.md"]
+
+                def test_it(self):
+                    ran.append(ends)
+                    if ends == "skipped":
+                        self.skipTest(ends)
+                    self.assertEqual(ends, "passed")
+
+            with mock.patch.dict(os.environ, ANEW=anew), mock.patch.object(kept, "sum_of", lambda _: of):
+                return failures_of(Reading), len(ran)
+
+        bad = {"test_it"}
+        with tempfile.TemporaryDirectory() as folder, mock.patch.object(kept, "FOLDER", pathlib.Path(folder)):
+            self.assertEqual([run("failed"), run("skipped"), run("passed")], [(bad, 1), (set(), 2), (set(), 3)])
+            self.assertEqual([run("failed"), run("failed", "another")], [(set(), 3), (bad, 4)])
+            self.assertEqual([run("failed", anew="1"), run("failed")], [(bad, 5), (set(), 5)])
 
 
 class Files(unittest.TestCase):

@@ -4,16 +4,17 @@ import pathlib
 import shutil
 import subprocess
 import tempfile
-import unittest
 
-from checks.judge import need
+from checks.judge import Kept, need
 from pages import ROOT
 
 CHANGE = "// Another line.\n"
 
 
-class Kit(unittest.TestCase):
+class Kit(Kept):
     """A repository of the crates `low` and, over it, `mid`."""
+
+    reads = ["tools/kit.py", "HANDLES"]
 
     def setUp(self):
         need("rt", "git")
@@ -22,8 +23,8 @@ class Kit(unittest.TestCase):
         self.top = pathlib.Path(around.name, "a place")
         for name in ("tools", "crates"):
             (self.top / name).mkdir(parents=True)
-        shutil.copy2(ROOT / "tools/kit.py", self.top / "tools")
-        shutil.copy2(ROOT / "HANDLES", self.top)
+        for it in self.reads:
+            shutil.copy2(ROOT / it, self.top / it)
         self.ran("git", "init", "-q")
         for name in ("low", "mid"):
             self.ran("rt", "new", name, "start_lib", folder="crates")

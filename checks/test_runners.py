@@ -13,7 +13,7 @@ import types
 import unittest
 from unittest import mock
 
-from checks.judge import need
+from checks.judge import Kept, need
 from pages import ROOT, paths
 
 # A program of tests that allocates, and passes on that there is none; and one that hides it.
@@ -42,7 +42,7 @@ def module(path):
     return made
 
 
-class Copy(unittest.TestCase):
+class Copy(Kept):
     """A folder with a few files of the repository and others in it."""
 
     def setUp(self):
@@ -50,6 +50,7 @@ class Copy(unittest.TestCase):
         self.addCleanup(around.cleanup)
         self.top = pathlib.Path(around.name, "top")
         self.own = {"XDG_CACHE_HOME": f"{around.name}/cache", "ANEW": ""}
+        self.copy(*self.reads)
 
     def copy(self, *paths):
         for path in paths:
@@ -72,6 +73,7 @@ class Copy(unittest.TestCase):
 class Faults(Copy):
     """checks/faults/run over faults of a file with one word."""
 
+    reads = ["checks/faults/run", "checks/kept.py", "tools/pages.py"]
     CASES = [
         ("seen", "red: grep one c/it || echo it is gone; grep one c/it", "says: it is gone", "new: two", 0, "found by"),
         ("unseen", "red: true", "says: gone", "new: two", 1, "FAULT NOT FOUND"),
@@ -86,7 +88,6 @@ class Faults(Copy):
     def setUp(self):
         super().setUp()
         need("make", "bash")
-        self.copy("checks/faults/run", "checks/kept.py", "tools/pages.py")
         self.write("c/Makefile", "all:\n\t@true\n")
         self.write("c/it", "one\n")
 
@@ -154,63 +155,86 @@ echo "tried: $it"
 echo "$it" >>"$TOP/said"
 [ "$it" != "$FAILS" ] || exit 101
 """
-    REAL = "checks/library/run", "checks/library/try", "checks/kept.py", "tools/pages.py"
-    # What runs in place.
-    HERE = {
-        "tools/sums compare", "make -s -C c", "c/proved/prove c/out/proved", "tools/sums same c/out/proved",
-        "checks/systems/second_compiler", "checks/faults/proved_test",
-    }
+    reads = ["checks/library/run", "checks/library/try", "checks/kept.py", "tools/pages.py"]
+    # What is never kept; and what is asked for the sum of the crates.
+    ALWAYS = {"tools/sums compare", "make -s -C c", "checks/faults/proved_test"}
+    SUMS = "tools/sums"
+    PAGE = "checks/pages/pages_test"
+    PROOF = {"c/proved/prove c/out/proved", "tools/sums same c/out/proved", "checks/systems/second_compiler"}
+    SYSTEMS = {f"checks/systems/{it}_test" for it in "cross pads windows unrun cmake install dist wheels".split()}
     CALLS = [
-        *HERE, "checks/library/lasting", "checks/library/lasting others",
+        *ALWAYS, *PROOF, *SYSTEMS, "checks/library/lasting", "checks/library/lasting others",
         "make -s -B -C c CC=cc WARNINGS=-Wextra -Wpedantic -Wconversion -Wmissing-prototypes -Werror all check-symbols",
         *(f"{TRY} {goal}" for goal in ("check-c", "check-dump", "check-c++")), "c/out/ogr_test 100000",
-        *(f"checks/systems/{it}_test" for it in "cross pads windows unrun cmake install dist wheels".split()),
-        "checks/faults/weaken 4", "checks/pages/pages_test", "checks/hosts/cost", "checks/hosts/sanitize",
-        "checks/hosts/fuzz", "python/run", "rust/run", "sqlite/run", "postgres/run",
+        *(f"checks/pages/pages_test {it}" for it in module("checks/pages/pages_test").PAGES),
+        "checks/faults/weaken 4", "checks/hosts/cost", "checks/hosts/sanitize", "checks/hosts/fuzz",
+        "python/run", "rust/run", "sqlite/run", "sqlite/run page", "postgres/run", "postgres/run page magnitudes",
     ]
 
-    def status(self, fails="none", anew="1"):
+    def status(self, fails="none", anew=""):
         """The status if one call fails, the calls, and what is printed."""
         (self.top / "said").write_text("")
         own = {"PATH": f"{self.top}/bin:{os.environ['PATH']}", "TOP": str(self.top), "FAILS": fails, "ANEW": anew}
         self.own |= {**own, "CC": "cc", "CXX": "c++", "CALL": ""}
-        status, printed = self.ran(self.REAL[0])
-        return status, {*(self.top / "said").read_text().splitlines()}, printed
+        status, printed = self.ran(self.reads[0])
+        return status, {*(self.top / "said").read_text().splitlines()} - {self.SUMS}, printed
 
     def setUp(self):
         super().setUp()
         need("bash")
-        self.copy(*self.REAL)
         for name in "rt", "cc", "gdal-config", "cargo", "rustc":
             self.write(f"bin/{name}", "#!/bin/sh\n", 0o755)
         for name in {it.split()[0] for it in self.CALLS}:
             self.write(f"bin/{name}" if name == "make" else name, self.STUB.format(name=name), 0o755)
         made = 'for it; do :; done; mkdir -p "${it%/*}"; cp "$TOP/c/out/ogr_test" "$it"'
         self.write("bin/c++", f"#!/bin/sh\n{made}\n", 0o755)
-
-    def test_it_starts_each(self):
-        self.assertEqual(self.status()[:2], (0, {*self.CALLS}))
+        self.write("docs/FORMAT.md", "a [link](it)")
+        self.write("crates/it", "a comment")
 
     def test_which_parts_are_kept(self):
-        self.status("python/run")
-        status, calls, printed = self.status(anew="")
-        self.assertEqual((status, calls), (0, self.HERE | {"python/run"}))
+        self.assertEqual(self.status(anew="1")[:2], (0, {*self.CALLS}))
+        status, calls, printed = self.status()
+        self.assertEqual((status, calls), (0, self.ALWAYS))
         self.assertIn("kept: sqlite/run\ntried: sqlite/run\n", printed)
-        self.write("docs/it", "no part reads it")
-        self.assertEqual(self.status(anew="")[1], self.HERE)
-        self.write("rust/it", "some read it")
-        some = {"rust/run", "checks/hosts/cost", "checks/pages/pages_test", "checks/systems/dist_test"}
-        self.assertEqual(self.status(anew="")[1], self.HERE | some)
+        package = {f"{self.PAGE} c/package/package.md", "checks/systems/dist_test"}
+        rust = {"rust/run", "checks/hosts/cost", f"{self.PAGE} docs/START_RUST.md"}
+        of_crates = {*self.PROOF, *package, f"{self.PAGE} README.md"}
+        for file, text, some in [
+            ("docs/it", "no part reads it", set()),
+            ("README.md", "a page", {f"{self.PAGE} README.md", "sqlite/run page", "postgres/run page magnitudes"}),
+            ("docs/START_PYTHON.md", "it is copied too", {f"{self.PAGE} docs/START_PYTHON.md", *package}),
+            ("docs/FORMAT.md", "another [link](it)", set()),
+            ("docs/FORMAT.md", "another [link](other)", package),
+            ("rust/it", "some read it", rust | package | {f"{self.PAGE} README.md"}),
+            ("crates/it", "another comment", set()),
+            ("crates/other", "another source", of_crates),
+            ("crates.txt", "it:", of_crates),
+            ("c/proved/it", "all read it", {*self.CALLS} - self.ALWAYS),
+        ]:
+            with self.subTest(file=file, text=text):
+                self.write(file, text)
+                self.assertEqual(self.status()[:2], (0, self.ALWAYS | some))
+        self.write(self.SUMS, self.STUB.format(name=self.SUMS) + "echo changed\n", 0o755)
+        self.assertEqual(self.status()[1], self.ALWAYS | of_crates)
         self.write("sqlite/run", "#!/bin/sh\necho left out: it\n", 0o755)
-        self.assertEqual([self.status(anew="")[2].count("kept: sqlite/run") for _ in range(2)], [0, 0])
+        self.assertEqual([self.status()[2].count("kept: sqlite/run") for _ in range(2)], [0, 0])
 
     def test_it_fails_with_each(self):
+        self.status()
         for call in self.CALLS:
+            name = call.split()[0]
+            own = self.top / ("checks/library/try" if name in ("make", "c/out/ogr_test") else name)
             with self.subTest(call):
+                own.write_text(f"{own.read_text()}# It has changed.\n")
                 self.assertNotEqual(self.status(call)[0], 0)
+        self.assertEqual(self.status(self.CALLS[-1])[1], self.ALWAYS | {self.CALLS[-1]}, "what failed isn't kept")
 
-    def test_a_script_of_a_system_is_started(self):
-        self.assertLessEqual({*paths("checks/systems/*_test", "checks/systems/*_compiler")}, {*self.CALLS})
+
+class Systems(unittest.TestCase):
+    """The scripts of checks/systems."""
+
+    def test_each_is_started(self):
+        self.assertLessEqual({*paths("checks/systems/*_test", "checks/systems/*_compiler")}, {*Library.CALLS})
 
 
 class Program(Copy):

@@ -4,7 +4,6 @@ import pathlib
 import re
 import shutil
 import subprocess
-import sys
 
 ROOT = pathlib.Path(__file__).resolve().parent.parent
 # What a build makes, and what a checkout keeps beside its files.
@@ -49,33 +48,6 @@ def text_of(path):
 def texts(*patterns):
     """The text of each file that fits one of the patterns, by its path in the repository."""
     return {path: text_of(path) for path in paths(*patterns)}
-
-
-def judged(judge, *controls):
-    """What a judge finds wrong. For each control it is asked once more, and has to find more: else it has gone blind.
-
-    A control is (file, old, new, said): in the file `new` is planted in the place of `old`, or in front where that is
-    empty, and of what is found then something new holds the text `said`.
-    """
-    found = [*judge()]
-    # A judge that finds something isn't blind, and a control may want to change what is wrong.
-    for path, old, new, said in () if found else controls:
-        text = text_of(path)
-        if old not in text:
-            sys.exit(f"{sys.argv[0]}: a control wants to change {old!r} in {path}, which has no such text")
-        PLANTED[path] = text.replace(old, new, 1)
-        more = {*judge()} - {*found}
-        del PLANTED[path]
-        if not any(said in it for it in more):
-            sys.exit(f"{sys.argv[0]}: it is blind: with {new!r} in {path} it doesn't say {said!r}")
-    return found
-
-
-def ended(found, summary):
-    """Print the errors, each once, and the summary. Return the exit status."""
-    for it in [*dict.fromkeys(found), summary]:
-        print(it)
-    return 1 if found else 0
 
 
 def program(crate, name=None):

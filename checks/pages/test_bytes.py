@@ -100,10 +100,7 @@ class Bytes(judge.Judge):
         (PAGE, "y = 2.0", "y = 3.0", "its drawing is"),
     ]
     is_apart = True
-
-    @classmethod
-    def setUpClass(cls):
-        judge.need_library()
+    needs = [judge.need_library]
 
     def wrong(self):
         return wrong()

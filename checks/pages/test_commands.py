@@ -55,6 +55,8 @@ OURS = r"(?:\.ci|bench|c|checks|crates|docs|edits|examples|postgres|python|rust|
 SIZES = "docs/TRUST.md"
 # A page for controls.
 PAGE = "docs/COST.md"
+# What runs the line that a page has for another processor.
+CROSS = "checks/systems/cross_test"
 # What is planted on one page each, and what is said of it.
 PLANTS = [
     ("    $ echo one; exit 1\n    one\n\n", "and 1"),
@@ -180,16 +182,14 @@ def flat(text):
 def lost_commands(page):
     """The errors in the commands without `$ `: a missing file, or another line than on the page."""
     folder = ROOT / "c" if page == "c/package/package.md" else ROOT
-    targets = text_of("c/Makefile") + text_of("c/package/dist")
     for number, command, expected in commands(page):
         if expected is not None:
             continue
         for word in re.findall(rf"(?<![\w/.~]){OURS}/[\w./]+", command):
             if "/out/" not in word and not (folder / word).exists() and not (ROOT / word).exists():
                 yield f"{page}:{number}: no file {word}"
-        for target in re.findall(r"\bmake (?:-C \w+ )?([a-z][a-z0-9-]*)\b", command):
-            if not re.search(rf"(?m)^\.?[\w ]*\b{target}\b[\w ]*:", targets):
-                yield f"{page}:{number}: no Makefile has {target}"
+        if re.match("make -C c check CC=aarch64", command) and command not in text_of(CROSS):
+            yield f"{page}:{number}: {CROSS} runs another command"
 
 
 def lost_runs(page):
@@ -213,8 +213,9 @@ def lost_words(page):
         own = [at for at, it in enumerate(words) if re.match(rf"{OURS}/[\w./]+$", it)]
         first = words[own[0]] if own else ""
         if words[:1] == ["make"]:
-            yield from (f"{page}: no Makefile has {it}" for it in re.findall(r"(?<= )([A-Z_]{3,})=", " ".join(words))
-                        if not re.search(rf"\b{it}\b", makefiles))
+            for it in re.findall(r" ([A-Z_]{3,}(?==))|^make (?:-C \w+ )?([a-z][a-z0-9-]*)\b", " ".join(words)):
+                if not re.search(rf"\b{it[0]}\b" if it[0] else rf"(?m)^\.?[\w ]*\b{it[1]}\b[\w ]*:", makefiles):
+                    yield f"{page}: no Makefile has {''.join(it)}"
         elif own and (ROOT / first).is_file():
             more = words[own[0] + 1 :]
             flags = {it.partition("=")[0] for it in more if re.match("--[a-z]", it)}
@@ -275,6 +276,7 @@ class Shown(judge.Judge):
         *judge.on_each(PAGES, "    $ echo one\n    two\n\n", ":1: echo one"),
         *judge.on_each(PAGES, "```c\nint lost;\n```\n\n", ": no source has\nint lost;"),
         *((page, "", *it) for page, it in zip(PAGES, PLANTS)),
+        ("docs/RECIPES.md", "CXX=aarch64", "CXX=arm64", "runs another command"),
         (SIZES, "| proofs |", "| lost |", "puts another table there"),
         (BARS, " OGR</text>", " ORG</text>", "speed.svg: `tools/bars --write` makes another"),
         ("crates/wkb_cases/src/columns.rt", "let mut written", "let mut put", "no proved code has"),

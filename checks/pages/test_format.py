@@ -360,10 +360,7 @@ class Format(judge.Judge):
         (PAGE, "| `Invalid byte order` |", "| `out of memory` |", "the text of `InvalidByteOrder`"),
     ]
     is_apart = True
-
-    @classmethod
-    def setUpClass(cls):
-        judge.need_library()
+    needs = [judge.need_library]
 
     def wrong(self):
         return wrong()

@@ -15,8 +15,7 @@ COSTS = "crates/wkb_read/specs/Reads.antt"
 SLOTS = COSTS, r"slots_bounded : c\.slots ≤ (\d+) \* length buf"
 BOUNDED = "crates/wkb_check/specs/Public.antt"
 ARROW, COMMAND, STACK = "python/src/porchsorrel_wkb/_arrow.py", "crates/wkb_command/src", "c/test/stack.c"
-HEADER, TRUST = "c/wkb.h", "docs/TRUST.md"
-SYSTEMS, FORMAT, SPEED = "docs/SYSTEMS.md", "docs/FORMAT.md", "docs/SPEED.md"
+HEADER, TRUST, SYSTEMS = "c/wkb.h", "docs/TRUST.md", "docs/SYSTEMS.md"
 PEERS = "bench/peers", r"else '\"=([\d.]+)\"'"
 # Phrases with numbers, each with a file and a text that has the same numbers.
 FACTS = [
@@ -33,9 +32,7 @@ FACTS = [
     (r"entries of up to (\d+) bytes", "docs/DECISIONS.md", r"of (\d+) bytes; the C"),
     (r"`(\d+) \* parts <= len \+ (\d+)`", BOUNDED, r"(\d+) \* f\.parts ≤ length input \+ (\d+)"),
     (r"`(\d+) \* coordinates <= len`", BOUNDED, r"(\d+) \* f\.coordinates ≤ length input"),
-    (r"up to (\d+ KB) in place", "crates/wkb_sink/src/sink.rt", r"MAX_IN_PLACE: usize = ([\d <]+);"),
     (r"the program allows: (\d+)", f"{COMMAND}/transfer.rt", r"MAX_READS: u32 = ([\d_]+);"),
-    (r"(\d+) KB of stack (?:are|is)", "checks/pages/test_commands.py", r"(?m)^STACK = (\d+)$"),
     (r"parts (?:take at most )?(\d+ KB)", STACK, r"PARTS_MOST = ([\d <]+) }"),
     (r"takes at most (\d+ KB)|any other call (\d+ KB)", STACK, r"OTHERS_MOST = ([\d <]+) }"),
     (r"(?:claim|past|from 0 to) (4\d{9})(?: entries)?", "crates/wkb_geom/src/error.rt", r"A count past (\d+)"),
@@ -43,7 +40,6 @@ FACTS = [
     (r"SRIDs are unsigned (\d+)-bit", "crates/wkb_geom/specs/Numbers.antt", r"IsU32 n = n < 2 \^ (\d+)"),
     (r"has (\d+) bytes for each part", "c/wkb.c", r"IS_LAID\(wkb_part, (\d+)"),
     (r"more than (\d+) times as long as the array", ARROW, r"MOST_COPIES = (\d+)"),
-    (r"time for a byte grows ([\d.]+) times", "checks/hosts/cost", r"GROWTH, TRIES = \d, ([\d.]+)"),
     (r"from (\d+) on is a refusal", "crates/wkb_abi/specs/Classes.antt",
      r"IsRefusalStatus status = (\d+) ≤ status"),
     (r"exits with status (\d+)(?:, a prefix|\))", f"{COMMAND}/program.rt", r"FAILED: u8 = (\d+);"),
@@ -52,24 +48,11 @@ FACTS = [
     (r"Python (\d\.\d+) or later", "python/pyproject.toml", r'requires-python = ">= ([\d.]+)"'),
     (r"C\+\+(\d+)", "c/Makefile", r"cxx = \$\(CXX\) -std=c\+\+(\d+)"),
     (r"a C(\d+) compiler", "c/Makefile", r"-std=c(\d+) -Wall"),
-    (r'"Copyright \(c\) (\d+) The GeoRust', "LICENSE-MIT", r"Copyright \(c\) (\d+) The GeoRust"),
-    (r"octet_length\(wkb\) < (\d+)", "docs/START_SQL.md", r"octet_length\(value\) < (\d+)"),
     (r"take up to (\d+) KB of stack there", HEADER, r"\((\d+) KB on Windows\)"),
-    (r"so (\d+) and (\d+) read as points", FORMAT, r"such as 0, 8, (\d+),\s(\d+),"),
+    (r"octet_length\(wkb\) < (\d+)", "docs/START_SQL.md", r"octet_length\(value\) < (\d+)"),
     (r"`Unknown\((\d)\)` is written as (\w+), `Unknown\((\d)\)` as (\w+) and `Unknown\((\d)\)` as (\w+)",
      "crates/wkb_geom/src/common.rt", "(?s:.*?)".join(3 * [r"Unknown\((\d)\) => Ok\(Dimension::(\w+)\)"])),
     (r"at most (\w+) bytes (?:longer than its|more than the) input", "c/wkb.hpp", r"SRID_SIZE = (\d+);"),
-    (r"(?:GCC|with gcc) (\d+)[,;]", SYSTEMS, r"\(gcc (\d+)\."),
-    (r"the shortest of (\d+) rounds", SPEED, r"bench/c/speed --write (\d+)"),
-    (r"makes ([\d,]+) random geometries of a shape", "bench/c/speed_shapes.hpp", r"ROWS = (\d+);"),
-    (r"crash \((\d+) MB of stack\)", "bench/peers", r"STACK = (\d+) << 20"),
-    (r"of GeoParquet ([\d.]+\d): the value", "python/src/porchsorrel_wkb/_geoparquet.py", r'VERSION = "([\d.]+)"'),
-    (r"Debian (\d+): GCC (\d+),", SYSTEMS, r"Debian (\d+) \(gcc (\d+)\."),
-    (r"PostgreSQL (\d+), SQLite ([\d.]+\d), Python", "docs/START_SQL.md", r"PostgreSQL (\d+), .* SQLite ([\d.]+\d),"),
-    (r"passes over them (\d+) times in a round", "bench/c/speed.cpp", r"passes = (\d+);"),
-    (r"takes over (\d) % more instructions", "bench/instructions", r"LIMIT = 1\.0(\d)"),
-    (r"A box has (\d+) bytes", "c/wkb.c", r"IS_LAID\(wkb_box, (\d+)"),
-    (r"and a `Found` (\d+),", "c/wkb.c", r"IS_LAID\(wkb_found, (\d+)"),
     (r"\(glibc (\d)\.(\d+) or later\)", "python/setup.py", r"manylinux_(\d)_(\d+)_"),
     (r"musl on x86-64 \((\d)\.(\d) or later\)", "python/setup.py", r"musllinux_(\d)_(\d)_"),
     (r"\| FreeBSD (\d+), Android \(API (\d+)\)", "checks/systems/unrun_test", r"freebsd(\d+) linux-android(\d+)"),
@@ -80,7 +63,6 @@ FACTS = [
      r"(?s:.*)\| (Windows) \| (x86-64) \|.*under (wine)"),
     (r"builds for (macOS) on (arm64), (FreeBSD) and (Android), where nobody has run it", SYSTEMS,
      r"\| (macOS) \d+ \| (arm64) \| [^|]* \| no \|.*\n\| (FreeBSD) \d+, (Android) [^|]* \| [^|]* \| [^|]* \| no \|"),
-    (r"and exits with status (\d) if it can't", "wkb_hex", r"(?s)exit 2.*?exit (\d)"),
 ]
 WORDS = {"four": 4, "quarter": 4, "ninth": 9, "sixteen": 16}
 SUM = re.compile(r"(?<![*/+-] )(?<![\w.])(\d+(?: [*/+-] \d+)+) = (\d+)\b(?! ?[*/+-])")

@@ -305,11 +305,7 @@ class Program(judge.Judge):
         (PAGE, "writes nothing to", "writes its errors to", "to standard error the program writes nothing"),
     ]
     is_apart = True
-
-    @classmethod
-    def setUpClass(cls):
-        judge.need_library()
-        judge.need_program()
+    needs = [judge.need_library, judge.need_program]
 
     def wrong(self):
         yield from (*wrong_statuses(), *wrong_commands(), *wrong_silence())

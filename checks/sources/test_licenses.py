@@ -1,4 +1,4 @@
-"""The sources that users copy and compile name their licence, and tools/sbom lists them, with their sums."""
+"""Each file has a licence, and tools/sbom lists the sources that users compile, with their sums."""
 import hashlib
 import json
 import os
@@ -8,34 +8,10 @@ import unittest
 
 from checks import judge
 from checks.judge import need
-from pages import ROOT, files, text_of
+from pages import ROOT, text_of
 
 # What the licence of each file is, in the form that tools of REUSE read.
 REUSE = ".reuse/dep5"
-LINE = "SPDX-License-Identifier: MIT OR Apache-2.0"
-# What is compiled, imported, installed or built with, by its path.
-NAMED = re.compile(
-    r"(c|sqlite)/[^/]*\.([chS]|hpp)|c/(Makefile|CMakeLists\.txt)|c/package/wkb.*"
-    r"|python/(setup\.py|src/.*\.(py|pyi|c|h))|rust/(geo/)?(src/.*|build)\.rs"
-    r"|postgres/(Makefile|wkb\.control|wkb--[\d.]*\.sql|.*\.c)|(.*/)?(Cargo|pyproject)\.toml"
-)
-
-
-def named():
-    """The files that name their licence."""
-    paths = (str(it.relative_to(ROOT)) for it in files())
-    return [it for it in paths if NAMED.fullmatch(it) and "stand_in" not in it]
-
-
-class Lines(judge.Judge):
-    """The first line of each such file."""
-
-    controls = [("c/wkb.hpp", f"// {LINE}", "//", "c/wkb.hpp"), ("c/wkb.h", "MIT OR", "MIT AND", "c/wkb.h")]
-
-    def wrong(self):
-        for path in named():
-            if LINE not in text_of(path).split("\n", 1)[0]:
-                yield f"{path} doesn't begin with {LINE}"
 
 
 class Texts(judge.Judge):

@@ -1,14 +1,12 @@
-"""No line of a script is too wide, and the linters have no warning."""
+"""The linters have no warning about a script."""
 import pathlib
 import re
 import subprocess
 import tempfile
 
 from checks import judge
-from pages import ROOT, files, text_of
+from pages import ROOT, files
 
-# How wide a line of a script may be.
-COLUMNS = 120
 # The linters: the command, the languages, and a script in which it has to find something, and what that is.
 LINTERS = [
     (["shellcheck", "-f", "gcc"], ("bash", "sh"), "#!/usr/bin/env bash\nrm -r $1\n", "SC2086"),
@@ -24,18 +22,6 @@ def sources_in(*languages):
         first = path.read_bytes().partition(b"\n")[0].decode(errors="replace")
         if re.match(rf"#!.*\b({'|'.join(languages)})\d?$", first) or path.suffix == ".py" and "python" in languages:
             yield str(path.relative_to(ROOT))
-
-
-class Widths(judge.Judge):
-    """The widths of the scripts' lines."""
-
-    controls = [("tools/crates", "", "#" * 121 + "\n", "tools/crates:1 has 121")]
-
-    def wrong(self):
-        for path in sources_in("bash", "sh", "python"):
-            for number, line in enumerate(text_of(path).splitlines(), 1):
-                if len(line) > COLUMNS:
-                    yield f"{path}:{number} has {len(line)} columns"
 
 
 class Linters(judge.unittest.TestCase):
