@@ -69,8 +69,6 @@ PLANTS = [
     ("1. It is\n\n       python3 examples/dask_column.py --lost\n\n", "dask_column.py has no --lost"),
     ("It is `checks/runs -k it`.\n\n", "no file checks/runs"),
     ("It is `tools/sums lost`.\n\n", "tools/sums has no lost"),
-    ("    target_link_libraries(program lost)\n\n", "CMake has no target lost"),
-    ("`pkg-config --cflags --libs lost`\n\n", "pkg-config has no lost"),
     ("It prints `what is lost`.\n\n", "no source prints `what is lost`"),
 ]
 
@@ -227,17 +225,6 @@ def lost_words(page):
                 yield f"{page}: no file {first}"
 
 
-def lost_targets(page):
-    """The names for CMake and pkg-config that are not ours."""
-    cmake = text_of("c/CMakeLists.txt")
-    for it in re.findall(r"target_link_libraries\(\w+ ([\w:]+)\)", text_of(page)):
-        if f"add_library({it} ALIAS" not in cmake:
-            yield f"{page}: CMake has no target {it}"
-    for it in re.findall(r"pkg-config (?:--\w+ )+(\w+)", text_of(page)):
-        if not (ROOT / f"c/package/{it}.pc.in").is_file():
-            yield f"{page}: pkg-config has no {it}"
-
-
 @functools.lru_cache(maxsize=None)
 def printing():
     """The text of the sources that print something."""
@@ -290,7 +277,7 @@ class Shown(judge.Judge):
         yield from differing_commands(self.folder, lambda it: "wkb_hex" not in it and "wkb_dump" not in it)
         for page in PAGES:
             yield from (*lost_pieces(page), *lost_commands(page), *lost_lines(page))
-            yield from (*lost_words(page), *lost_targets(page))
+            yield from lost_words(page)
         yield from lost_tables()
         yield from lost_examples()
 

@@ -5,8 +5,6 @@
 - ARCHITECTURE.md: its crates are those of crates.txt, each below those that use it. A path in the table of rules is one
   of the crate that its row names last.
 - c/package/package.md: each file is in the package that c/package/dist writes.
-- docs/SYSTEMS.md: the scripts that are said to have tried a system build for it.
-- CITATION.cff: the title begins as README's does.
 - README's rows of other programs are those of docs/DIFFERENCES.md. How many times as fast it says the bounds are,
   beside OGR and GEOS, is what the bars of docs/SPEED.md show, and where plain C is faster what its quotients say.
 """
@@ -23,8 +21,6 @@ from library import wkb
 from pages import ROOT, paths, program, rows_of, spans, text_of, texts
 
 SPEED, PEERS = "docs/SPEED.md", "docs/DIFFERENCES.md"
-# What a script names that builds for a system or a processor.
-BUILT_FOR = {"musl": "musl-gcc", "aarch64": "aarch64", "Windows": "mingw32", "macOS": "macos", "FreeBSD": "freebsd"}
 QUOTIENTS = "our time / plain C"
 PAGE, PROGRAM = "docs/PROGRAM.md", program("wkb_hex")
 POLYGON, POINT = text_of("examples/polygon_with_hole.hex").strip(), text_of("examples/point.hex").strip()
@@ -205,23 +201,6 @@ def lost_files():
                 yield f"c/package/package.md:{number}: the package has no `{name}`"
 
 
-def wrong_systems():
-    """The scripts that a row of docs/SYSTEMS.md names, and that don't build for its system."""
-    for number, heads, row in rows_of("docs/SYSTEMS.md"):
-        if heads[0] == "system":
-            wanted = [it for it in BUILT_FOR if it in f"{row[0]} {row[1]}"]
-            for name in spans(row[-1]):
-                lacks = [it for it in wanted if BUILT_FOR[it] not in text_of(name)]
-                yield from (f"docs/SYSTEMS.md:{number}: {name} builds nothing for {it}" for it in lacks)
-
-
-def wrong_citation():
-    """The errors in the title of CITATION.cff."""
-    title = re.search(r"(?m)^# (.*)$", text_of("README.md"))[1]
-    if f'\ntitle: "{title}: ' not in text_of("CITATION.cff"):
-        yield f"CITATION.cff: README's title is {title}"
-
-
 def timed():
     """The times of docs/SPEED.md, by the table, the row and the column."""
     for _, heads, row in rows_of(SPEED):
@@ -270,24 +249,18 @@ class Tables(judge.Judge):
         ("ARCHITECTURE.md", "`Fault`), `specs/Errors`", "`Fault`), `specs/Pieces`", "has no `specs/Pieces`"),
         ("crates.txt", "wkb_geom: byteorder", "wkb_geom: wkb_read", "wkb_geom uses wkb_read"),
         ("c/package/package.md", "| `SUMS` |", "| `SUM` |", "no `SUM`"),
-        ("CITATION.cff", 'title: "Porchsorrel', 'title: "Sorrel', "README's title"),
-        ("docs/SYSTEMS.md", "/windows_test` |", "/dist_test` |", "checks/systems/dist_test builds nothing for Windows"),
         ("README.md", "| rejected | rejected | crash", "| rejected | rejected | no crash", "collections: docs/DIFF"),
         ("README.md", "| order byte 2 |", "| order byte 3 |", "README.md: order byte 3: docs/DIFFERENCES.md has None"),
         ("README.md", "| what we tried |", "| lost |", "README.md has no table of other programs"),
         ("README.md", "7 times as fast as by OGR", "9 times as fast as by OGR", "times as fast as by OGR"),
         (SPEED, "|   106.1 |", "|   206.1 |", "times as fast as by GEOS"),
         ("README.md", "takes 0.", "takes 1.", "of our time by docs/SPEED.md"),
-        ("docs/SYSTEMS.md", "/cross_test` |", "/windows_test` |", "windows_test builds nothing for aarch64"),
-        ("docs/SYSTEMS.md", "in C | `checks/systems/dist", "in C | `checks/systems/pads", "nothing for musl"),
-        ("docs/SYSTEMS.md", "/unrun_test` |", "/pads_test` |", "pads_test builds nothing for macOS"),
     ]
     is_apart = True
 
     def wrong(self):
         yield from (*wrong_crates(), *lost_places())
-        yield from (*lost_files(), *wrong_systems(), *wrong_citation())
-        yield from (*wrong_peers(), *wrong_times(), *wrong_losses())
+        yield from (*lost_files(), *wrong_peers(), *wrong_times(), *wrong_losses())
 
 
 class Program(judge.Judge):
