@@ -28,7 +28,6 @@ C, SOURCES = "c/* examples/*", "crates.txt HANDLES tools/*"
 PYTHON, RUST = "python/* LICENSE-*", "rust/* Cargo.toml LICENSE-*"
 SYSTEMS = f"{C} checks/systems/* tools/version LICENSE-*"
 DIST = f"{PYTHON} {RUST} {SYSTEMS} {SOURCES} sqlite/* postgres/* LICENSES/* .reuse/*"
-HOSTILE = f"{C} {PYTHON} checks/hosts/hostile.py"
 READS = {
     "make c/test/alone/header_test checks/hosts/sanitize": C,
     "docs/START_C.md": f"{C} LICENSE-*",
@@ -43,9 +42,10 @@ READS = {
     "python/run docs/START_PYTHON.md": f"{C} {PYTHON}",
     "rust/run rust/package_test docs/START_RUST.md": f"{C} {RUST}",
     "docs/RECIPES.md": f"{C} {PYTHON} sqlite/* postgres/*",
-    "sqlite/run": f"sqlite/* {HOSTILE}",
-    "postgres/run": f"postgres/* tools/version {HOSTILE}",
+    "sqlite/run": f"{C} sqlite/*",
+    "postgres/run": f"{C} postgres/* tools/version",
     "page magnitudes": "README.md docs/RECIPES.md docs/START_SQL.md",
+    "python rows": f"{PYTHON} checks/hosts/hostile.py",
     "c/proved/prove": f"{SOURCES} c/proved/* c/wkb_proved.S",
     "checks/systems/second_compiler": f"{C} {SOURCES}",
 }

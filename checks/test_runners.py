@@ -168,7 +168,8 @@ echo "$it" >>"$TOP/said"
         *(f"{TRY} {goal}" for goal in ("check-c", "check-dump", "check-c++")), "c/out/ogr_test 100000",
         *(f"checks/pages/pages_test {it}" for it in module("checks/pages/pages_test").PAGES),
         "checks/faults/weaken 4", "checks/hosts/cost", "checks/hosts/sanitize", "checks/hosts/fuzz",
-        "python/run", "rust/run", "sqlite/run", "sqlite/run page", "postgres/run", "postgres/run page magnitudes",
+        "python/run", "rust/run", *(f"sqlite/run{it}" for it in ("", " page", " python")),
+        *(f"postgres/run{it}" for it in ("", " rows", " page magnitudes")),
     ]
 
     def status(self, fails="none", anew=""):
