@@ -42,6 +42,7 @@ pub extern "C" fn wkb_raw_parts(
 
 /// Lists the parts of the geometry at the start of bytes in which the check found this, and reports how many there are.
 /// Without room nothing is laid. Most geometries of a column are their only part, which needs no walk.
+#[tactic(auto, using(crate::proofs::Called::lacks_table))]
 #[inline(always)]
 pub fn list_parts(buf: &[u8], found: &Summary, parts: &mut [Part], count: &mut u64) -> u32
     requires accepted { DescribesFront buf.now found.now }

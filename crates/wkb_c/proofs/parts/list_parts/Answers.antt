@@ -1,15 +1,11 @@
 use Rattle.wkb_abi.proofs.Common.{arith, ap, ◌∙◌, append-nil, sets, set, subjects}
 use Rattle.wkb_abi.specs.Tables.{entries_from}
-use Rattle.wkb_c.proofs.Called.{fits_table, lacks_table, table_laid, one_geometry, whole_laid}
+use Rattle.wkb_c.proofs.Called.{fits_table, table_laid, one_geometry, whole_laid}
 use Rattle.wkb_c.proofs.parts.list_parts.Goals as goal
 
 pub lay_geometries-requires : goal.lay_geometries-requires
 lay_geometries-requires c =
     record { fit = fits_table c.requires.accepted c.args.parts.now (omega (arith, c.if-parts-found.false)) }
-
-pub returns-then-parts-found-clause-no_room : goal.returns-then-parts-found-clause-no_room
-returns-then-parts-found-clause-no_room c = λ told.
-    lacks_table c.requires.accepted (omega (arith, c.if-parts-found.true))
 
 pub returns-then-found-eq1-clause-listed : goal.returns-then-found-eq1-clause-listed
 returns-then-found-eq1-clause-listed c = λ ok.
