@@ -65,14 +65,14 @@ module _ {A : Type 0} (r whole : Reading A) (old mid new : Counts)
     (leads : costs (cost_of mid) r ≡ costs (cost_of old) whole) where
   pub spent_in_all : Spent mid new r.0 → Spent old new whole.0
   spent_in_all h = record {
-    turns = omega (arith, h.turns, ap (λ (s : Reading A). s.0.turns) leads);
-    slots = omega (arith, h.slots, ap (λ (s : Reading A). s.0.slots) leads);
+    turns = omega (arith, ap (λ (s : Reading A). s.0.turns) leads);
+    slots = omega (arith, ap (λ (s : Reading A). s.0.slots) leads);
   }
 
   pub at_most_in_all : AtMost mid new r.0 → AtMost old new whole.0
   at_most_in_all h = record {
-    turns = omega (arith, h.turns, ap (λ (s : Reading A). s.0.turns) leads);
-    slots = omega (arith, h.slots, ap (λ (s : Reading A). s.0.slots) leads);
+    turns = omega (arith, ap (λ (s : Reading A). s.0.turns) leads);
+    slots = omega (arith, ap (λ (s : Reading A). s.0.slots) leads);
   }
 
 -- all is read
@@ -94,7 +94,7 @@ module _ {A B : Type 0} (r : Reading A) (f : A → List ℕ → Reading B) (whol
   -- so where the whole can be counted, the part can
   pub part_counted : CanCount old whole.0 → CanCount mid r.0
   part_counted fits =
-      record { turns = omega (arith, part_within.0, fits.turns); slots = omega (arith, part_within.1, fits.slots) }
+      record { turns = omega (arith, part_within.0); slots = omega (arith, part_within.1) }
 
 -- a part that was read leads to what follows it
 pub part_leads : {A B : Type 0} (r : Reading A) (f : A → List ℕ → Reading B) (whole : Reading B) (old mid new : Counts)
@@ -113,4 +113,4 @@ part_stops (read_errors.Cause cause) (c, Err e) f whole old mid new leads h =
     (sym (ap (λ (s : Reading _). cause_of s.1) leads) ∙ h.0, spent_in_all _ whole old mid new leads h.1)
 part_stops read_errors.Memory r f whole old mid new leads most =
     let part = part_within r f whole old mid leads in
-    record { turns = omega (arith, most.turns, part.0); slots = omega (arith, most.slots, part.1) }
+    record { turns = omega arith; slots = omega arith }

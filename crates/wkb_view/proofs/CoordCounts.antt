@@ -25,7 +25,7 @@ module _ (w : ℕ) where
       let all : sum_by length (r ∷ rs) ≡ length r + sum_by length rs = sum_by-cons length r rs in
       let split : 8 * w * (length r + sum_by length rs) ≡ 8 * w * length r + 8 * w * sum_by length rs =
       mul-add (8 * w) (length r) (sum_by length rs) in
-      bytes ∙ omega (arith, more, split) ∙ ap (λ n. 4 * length (r ∷ rs) + 8 * w * n) (sym all)
+      bytes ∙ omega arith ∙ ap (λ n. 4 * length (r ∷ rs) + 8 * w * n) (sym all)
 
 pub rings_counted : (d : Dimension) (rs : List (List (List ℕ)))
     → rings_size (as_dimensions d) rs ≡ 4 + 4 * length rs + 8 * width d * sum_by length rs

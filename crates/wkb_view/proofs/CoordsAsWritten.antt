@@ -30,9 +30,9 @@ items_stand : {A : Type 0} (size : ℕ) (item : List ℕ → A) (f : A → List 
 items_stand size item f one zero y h long = let e : size * 0 ≡ 0 = omega arith in rw e refl
 items_stand size item f one (suc n) y h long =
     let e : size * suc n ≡ size + size * n = omega arith in
-    let first : f (item y) ≡ take size y = one y h (omega (arith, long, e)) in
+    let first : f (item y) ≡ take size y = one y h (omega arith) in
     let rest : flat_map f (items size item n (drop size y)) ≡ take (size * n) (drop size y) =
-    items_stand size item f one n (drop size y) (AreBytes-drop size y h) (omega (arith, long, e, length-drop size y)) in
+    items_stand size item f one n (drop size y) (AreBytes-drop size y h) (omega (arith, length-drop size y)) in
     rw (e, first, rest) (sym (take-add size (size * n) y))
 
 pub words_stand : (order : Endianness) (d : Dimension) (y : List ℕ) → AreBytes y → 8 * width d ≤ length y
@@ -54,5 +54,5 @@ pub ring_stands : (order : Endianness) (d : Dimension) (encoding : List ℕ) →
 ring_stands order d encoding h whole =
     let n = number order 4 encoding in
     let len = length-drop 4 encoding in
-    sym (coordinates_stand order d n (drop 4 encoding) (AreBytes-drop 4 encoding h) (omega (arith, whole, len))
-    ∙ take_all (8 * width d * n) (drop 4 encoding) (omega (arith, whole, len)))
+    sym (coordinates_stand order d n (drop 4 encoding) (AreBytes-drop 4 encoding h) (omega arith)
+    ∙ take_all (8 * width d * n) (drop 4 encoding) (omega arith))

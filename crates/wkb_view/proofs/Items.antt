@@ -71,7 +71,7 @@ few_bytes d i = mul-le-mul_right i (omega (arith, (width-within d).1))
 -- an item below the count ends where all do, or before
 pub next_within : (size i n : ℕ) → i < n → size * i + size ≤ size * n
 next_within size i n lt =
-    let b : size * (i + 1) ≤ size * n = mul-le-mul_left size (omega arith) in omega (arith, b, mul-add size i 1)
+    let b : size * (i + 1) ≤ size * n = mul-le-mul_left size (omega arith) in omega (arith, mul-add size i 1)
 
 -- ---- points that are empty, and those that are not
 

@@ -107,11 +107,11 @@ is_list : {A : Type 0} (k : ℕ) (l : Layout) (part : List ℕ → Reading A) (e
     → mid.slots ≡ old.slots + slots_asked k n (length (parts_start l.has_srid bytes))
     → IsList l part end bytes n old mid whole
 is_list k l part end bytes n old mid whole is turns slots = record {
-  grows = omega (arith, slots);
+  grows = omega arith;
   leads =
       ap (λ (c : Cost). costs c
       (and_then (parts_behind part l n bytes) (λ xs after. done (end xs (consumed bytes after)) after)))
-      (cost_is _ _ (omega (arith, turns)) slots)
+      (cost_is _ _ (omega arith) slots)
       ∙ sym (costs-costs (cost_of old) (slots_of (slots_asked k n (length (parts_start l.has_srid bytes)))) _)
       ∙ ap (λ (r : Reading Item). costs (cost_of old) r) (sym is);
 }
@@ -151,9 +151,9 @@ module _ (least : ℕ) (l : Layout) (bytes : List ℕ) where
         → new.slots ≡ old.slots + entries_asked least l bytes → Stops error list_or_cut old new
     list_refused (read_errors.Cause cause) old new none turns slots =
         let short : has_no_count ≡ true = lt-ltb _ _ none.1 in
-        rw (short, none.0) (refl, record { turns = omega (arith, turns); slots = omega (arith, slots, none.1) })
+        rw (short, none.0) (refl, record { turns = omega arith; slots = omega arith })
     list_refused read_errors.Memory old new none turns slots =
-        record { turns = omega (arith, turns); slots = omega (arith, slots, entries_within) }
+        record { turns = omega arith; slots = omega (arith, entries_within) }
 
 module _ (l : Layout) (bytes : List ℕ) where
   pub polygons_within : entries_asked 9 l bytes ≤ (multi_polygon_at l bytes).0.slots
@@ -172,7 +172,7 @@ pub points_here : (l : Layout) (bytes : List ℕ) (n : ℕ) (old : Counts)
     → IsList l (member_at 1 l.dimension) (list_item l multi_point_with) bytes n old old (multi_point_at l bytes)
 unfolding multi_point_at
 points_here l bytes n old counted enough =
-    let there : ltb (length bytes) (body_start l.has_srid + 4) ≡ false = le-ltb _ _ (omega (arith, enough)) in
+    let there : ltb (length bytes) (body_start l.has_srid + 4) ≡ false = le-ltb _ _ (omega arith) in
     let long : ltb (length bytes) (multi_point_end l.dimension l.has_srid n) ≡ false = le-ltb _ _ enough in
     is_list 4 l _ _ bytes n old old _ (rw (there, ← counted, long) refl) refl (omega arith)
 
@@ -190,7 +190,7 @@ module _ {A : Type 0} {n : ℕ} {l : Layout} {part : List ℕ → Reading A} {en
 
   -- the entries of its parts are among those of the whole
   pub list_costs : parts.0.slots ≤ whole.0.slots
-  list_costs = omega (arith, h.grows, (part_within parts made whole old mid h.leads).1)
+  list_costs = omega (arith, (part_within parts made whole old mid h.leads).1)
 
   -- a list whose parts are read
   pub list_reads : (new : Counts) (xs : List A) (rest : List ℕ) → parts.1 ≡ Ok (xs, rest) → Spent mid new parts.0

@@ -25,7 +25,7 @@ between : (start : ℕ) (ends encoding : List ℕ) (i : ℕ) → AreInOrder star
     → Between start ends encoding i (get_or (start ∷ ends) i 0) (get_or ends i 0)
 between start [] encoding i h lt = absurd (omega arith)
 between start (x ∷ ends) encoding zero h lt =
-    record { ordered = omega (arith, h.0.ordered); within = omega (arith, h.0.ordered, h.0.within); item = refl }
+    record { ordered = omega arith; within = omega arith; item = refl }
 between start (x ∷ ends) encoding (suc i) h lt =
     let b = between x ends encoding i h.1 (omega arith) in
     record { ordered = b.ordered; within = b.within; item = b.item }
@@ -111,7 +111,7 @@ drop-of-take start n xs h =
 start-le-last_end : (P : List ℕ → Type 0) (start : ℕ) (ends encoding : List ℕ) → ArePieces P start ends encoding
     → start ≤ last_end start ends
 start-le-last_end P start [] encoding h = omega arith
-start-le-last_end P start (x ∷ ends) encoding h = omega (arith, start-le-last_end P x ends encoding h.1, h.0.ordered)
+start-le-last_end P start (x ∷ ends) encoding h = omega (arith, start-le-last_end P x ends encoding h.1)
 
 pieces-take : (P : List ℕ → Type 0) (start : ℕ) (ends : List ℕ) (n : ℕ) (encoding : List ℕ)
     → ArePieces P start ends encoding → last_end start ends ≤ n
@@ -119,16 +119,16 @@ pieces-take : (P : List ℕ → Type 0) (start : ℕ) (ends : List ℕ) (n : ℕ
 pieces-take P start [] n encoding h le = (refl, omega (arith, length-take n encoding))
 pieces-take P start (x ∷ ends) n encoding h le =
     let low = start-le-last_end P x ends encoding h.1 in
-    let inner = drop-of-take start n encoding (omega (arith, h.0.ordered)) in
+    let inner = drop-of-take start n encoding (omega arith) in
     let same =
     ap (λ (t : List ℕ). take (x - start) t) inner
-    ∙ take-take (x - start) (n - start) (drop start encoding) (omega (arith, h.0.ordered)) in
+    ∙ take-take (x - start) (n - start) (drop start encoding) (omega arith) in
     let later = pieces-take P x ends n encoding h.1 le in (
       rw (same, later.0) refl,
       (
         record {
           ordered = h.0.ordered;
-          within = omega (arith, length-take n encoding, h.0.within);
+          within = omega (arith, length-take n encoding);
           form = subst P (sym same) h.0.form;
         },
         later.1,
@@ -180,9 +180,9 @@ module _ {A : Type 0} {least : ℕ} {P : List ℕ → Type 0} {seen : List ℕ �
       let size = length rest - length after in
       let long : length rest ≡ length bytes - last = ap length so_far.rest_is ∙ length-drop last bytes in
       let shorter = passed.shorter in
-      let end_is : end ≡ last + size = omega (arith, so_far.within) in
+      let end_is : end ≡ last + size = omega arith in
       let same_piece : take (end - last) (drop last bytes) ≡ consumed rest after =
-      rw (← so_far.rest_is) (ap (λ (n : ℕ). take n rest) (omega (arith, so_far.within))) in
+      rw (← so_far.rest_is) (ap (λ (n : ℕ). take n rest) (omega arith)) in
       let pushed : map seen (pieces start (ends ++ end ∷ []) bytes)
       ≡ map seen (pieces start ends bytes) ++ seen (consumed rest after) ∷ [] =
       pieces-push seen start ends end bytes
@@ -197,8 +197,8 @@ module _ {A : Type 0} {least : ℕ} {P : List ℕ → Type 0} {seen : List ℕ �
         rest_is = passed.rest_is ∙ ap (λ (b : List ℕ). drop size b) so_far.rest_is ∙ drop-drop size last bytes
             ∙ ap (λ (n : ℕ). drop n bytes) (sym end_is ∙ sym end_at);
         within = rw end_at (omega arith);
-        taken_in_all = rw more (omega (arith, so_far.taken_in_all));
-        as_many = omega (arith, more, so_far.as_many);
+        taken_in_all = rw more (omega arith);
+        as_many = omega arith;
       }
 
   -- what was read, in the encoding that was taken
@@ -208,7 +208,7 @@ module _ {A : Type 0} {least : ℕ} {P : List ℕ → Type 0} {seen : List ℕ �
   pieces_read le so_far =
       let last = last_end start ends in
       let cut : length bytes - length rest ≡ last =
-      omega (arith, ap length so_far.rest_is ∙ length-drop last bytes, so_far.within) in
+      omega (arith, ap length so_far.rest_is ∙ length-drop last bytes) in
       let end = parts_end le so_far.left in
       let taken_out = pieces-take P start ends last bytes so_far.stand (omega arith) in
       (rw (cut, taken_out.0) end.0, end.1, rw cut taken_out.1)
@@ -217,4 +217,4 @@ module _ {A : Type 0} {least : ℕ} {P : List ℕ → Type 0} {seen : List ℕ �
 pub parts_fit : (least n passed rest start all : ℕ) → 0 < least → least * n + rest + start ≤ all
     → least + passed ≤ rest → n < (all - start) / least
 parts_fit least n passed rest start all some so_far more =
-    let enough = le-div (n + 1) (all - start) least some (omega (arith, mul-add least n 1)) in omega (arith, enough)
+    let enough = le-div (n + 1) (all - start) least some (omega (arith, mul-add least n 1)) in omega arith

@@ -34,7 +34,7 @@ module _ (l : Layout) (ends bytes : List ℕ) (p : Listed (List (List Coordinate
       let long = size_of_spelled_lem seen.spelled seen.value bytes (in_full_lem seen.spelled seen.value bytes spells) in
       let srid = has_srid_in l.order l.has_srid bytes in
       rw (← view, rings_same)
-      (omega (arith, is, long, srid_size_is (is_some (srid_in l.order l.has_srid bytes)), ap srid_size srid))
+      (omega (arith, srid_size_is (is_some (srid_in l.order l.has_srid bytes)), ap srid_size srid))
 
   -- it has no fault
   pub polygon_writable : fault (fitted_polygon p) ≡ None

@@ -9,7 +9,7 @@ use Rattle.wkb_view.proofs.ends.pass_parts.Goals as goal
 
 pub overflow_add-counts : goal.overflow_add-counts
 overflow_add-counts g c =
-    omega (arith, (part_costs c.loop-test.true c.loop.invariant.so_far.left).0, c.requires.fits.turns)
+    omega (arith, (part_costs c.loop-test.true c.loop.invariant.so_far.left).0)
 
 pub returns-in_err-rest-clause-answer : goal.returns-in_err-rest-clause-answer
 returns-in_err-rest-clause-answer g c =
@@ -26,7 +26,7 @@ loop-preserved g c =
           rw c.push.ensures.entries
           (pieces_next _ _ (g.P.Parts.parts c.args.layout).counted c.loop-test.true c.loop.invariant.so_far
           gives.0 gives.1 c.in_ok-rest.ensures.passed);
-      room = omega (arith, c.push.ensures.room, c.loop.invariant.room);
+      room = omega arith;
     }
 
 pub returns-clause-answer : goal.returns-clause-answer
@@ -43,13 +43,7 @@ push-requires g c =
     let left = length c.args.bytes.now - (body_start c.args.layout.has_srid + 4) in
     let fit : length (entries c.loop.ends) < left / g.P.Parts.MIN_SIZE =
     parts_fit _ _ _ _ _ _ some so_far.taken_in_all c.in_ok-rest.ensures.passed.shorter in
-    omega (
-      arith,
-      fit,
-      so_far.as_many,
-      rw (parts_length c.args.layout.has_srid c.args.bytes.now) at c.loop.invariant.room,
-      c.loop-test.true,
-    )
+    omega (arith, rw (parts_length c.args.layout.has_srid c.args.bytes.now) at c.loop.invariant.room)
 
 pub loop-init : goal.loop-init
 loop-init g c =
@@ -59,10 +53,3 @@ loop-init g c =
           c.after_count-rest.ensures;
       room = c.requires.room;
     })
-
-pub overflow_sub-bytes : goal.overflow_sub-bytes
-overflow_sub-bytes g c =
-    omega (arith, c.loop.invariant.so_far.taken_in_all, c.in_ok-rest.ensures.passed.shorter)
-
-pub returns-clause-shorter : goal.returns-clause-shorter
-returns-clause-shorter g c = omega (arith, c.loop.invariant.so_far.taken_in_all)

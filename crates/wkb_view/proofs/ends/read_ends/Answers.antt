@@ -39,7 +39,7 @@ pub returns-in_err-count-clause-no_memory : goal.returns-in_err-count-clause-no_
 returns-in_err-count-clause-no_memory g c = λ none.
     let stopped = err_from_is_err_and c.from_residual.result c.from_residual.ensures.1 in
     rw (stopped.1, stopped.2) (rw c.MIN_SIZE.ensures at c.in_err-count.ensures.no_memory
-    (omega (arith, none, within g.P.Parts.parts c.args.layout c.args.bytes.now)))
+    (omega (arith, within g.P.Parts.parts c.args.layout c.args.bytes.now)))
 
 pub pass_parts-requires-clause-room : goal.pass_parts-requires-clause-room
 pass_parts-requires-clause-room g c =

@@ -8,7 +8,7 @@ use Rattle.wkb_view.proofs.multi_point.pass_points.Goals as goal
 
 pub overflow_add-counts : goal.overflow_add-counts
 overflow_add-counts c =
-    omega (arith, (part_costs c.loop-test.true c.loop.invariant.so_far.left).0, c.requires.fits.turns)
+    omega (arith, (part_costs c.loop-test.true c.loop.invariant.so_far.left).0)
 
 pub returns-in_err-rest-clause-points : goal.returns-in_err-rest-clause-points
 returns-in_err-rest-clause-points c =
@@ -31,17 +31,17 @@ loop-preserved c =
 
 pub returns-clause-points : goal.returns-clause-points
 returns-clause-points c =
-    let all : c.loop.counter ≡ c.args.count = omega (arith, c.loop-test.false) in
+    let all : c.loop.counter ≡ c.args.count = omega arith in
     let r = pieces_read c.loop-test.false c.loop.invariant.so_far in
     (rw all at r.0, r.1)
 
 pub returns-clause-each : goal.returns-clause-each
 returns-clause-each c =
-    let all : c.loop.counter ≡ c.args.count = omega (arith, c.loop-test.false) in
+    let all : c.loop.counter ≡ c.args.count = omega arith in
     rw all at (pieces_read c.loop-test.false c.loop.invariant.so_far).2
 
 pub returns-clause-end : goal.returns-clause-end
 returns-clause-end c =
-    let all : c.loop.counter ≡ c.args.count = omega (arith, c.loop-test.false) in
+    let all : c.loop.counter ≡ c.args.count = omega arith in
     let so_far = c.loop.invariant.so_far in
     rw all at (points_end c.args.layout c.loop.counter c.args.bytes.now c.loop.rest.now so_far.rest_is so_far.within)

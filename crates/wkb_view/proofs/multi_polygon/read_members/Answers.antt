@@ -8,15 +8,15 @@ use Rattle.wkb_view.proofs.Members.{all_more}
 use Rattle.wkb_view.proofs.multi_polygon.read_members.Goals as goal
 
 pub overflow_add-counts : goal.overflow_add-counts
-overflow_add-counts c = omega (arith, (part_costs c.loop-test.true c.loop.invariant.left).0, c.requires.fits.turns)
+overflow_add-counts c = omega (arith, (part_costs c.loop-test.true c.loop.invariant.left).0)
 
 pub read_member-requires : goal.read_member-requires
 read_member-requires c =
     let p = part_costs c.loop-test.true c.loop.invariant.left in
     record {
       fits = record {
-        turns = omega (arith, p.0, c.requires.fits.turns);
-        slots = omega (arith, p.1, c.requires.fits.slots);
+        turns = omega arith;
+        slots = omega arith;
       };
     }
 
@@ -30,7 +30,7 @@ pub returns-in_err-polygon-clause-no_memory : goal.returns-in_err-polygon-clause
 returns-in_err-polygon-clause-no_memory c =
     let p = err_from_is_err_and c.from_residual.result c.from_residual.ensures.1 in
     let costs = part_costs c.loop-test.true c.loop.invariant.left in
-    rw (p.1, p.2) (λ none. c.in_err-polygon.ensures.no_memory (omega (arith, costs.1, c.loop.invariant.grows, none)))
+    rw (p.1, p.2) (λ none. c.in_err-polygon.ensures.no_memory (omega arith))
 
 pub loop-preserved : goal.loop-preserved
 loop-preserved c =
@@ -41,7 +41,7 @@ loop-preserved c =
       left =
           rw (c.push.ensures.entries, map-append)
           (next_part c.loop-test.true c.loop.invariant.left _ _ _ answer.0 spent);
-      room = omega (arith, c.push.ensures.room, c.loop.invariant.room);
+      room = omega arith;
       taken_in_all =
           omega (
             arith,
@@ -50,10 +50,10 @@ loop-preserved c =
             c.loop.invariant.taken_in_all,
             c.in_ok-polygon.ensures.shorter,
           );
-      grows = omega (arith, spent.slots, c.loop.invariant.grows);
+      grows = omega arith;
       same = subst (AreOfDimension c.args.layout.dimension) (sym c.push.ensures.entries)
           (all_more _ _ _ c.loop.invariant.same c.in_ok-polygon.ensures.dimension);
-      as_many = omega (arith, ap length c.push.ensures.entries, more, c.loop.invariant.as_many);
+      as_many = omega (arith, ap length c.push.ensures.entries, more);
     }
 
 pub returns-clause-polygons : goal.returns-clause-polygons
@@ -61,9 +61,4 @@ returns-clause-polygons c = parts_end c.loop-test.false c.loop.invariant.left
 
 pub returns-clause-shorter : goal.returns-clause-shorter
 returns-clause-shorter c =
-    omega (
-      arith,
-      c.loop.invariant.taken_in_all,
-      c.requires.whole,
-      parts_length c.args.layout.has_srid c.args.bytes.now,
-    )
+    omega (arith, parts_length c.args.layout.has_srid c.args.bytes.now)

@@ -10,5 +10,5 @@ returns-clause-spells c =
     let x = c.args.self.now in
     let size = 8 * width x.dimension in
     subst (SpellsCoordinate x.order x.dimension (coordinate x.order x.dimension x.bytes.now))
-    (take_all size x.bytes.now (omega (arith, x.whole)))
-    (coordinate_is x.order x.dimension x.bytes.now (omega (arith, x.whole)))
+    (take_all size x.bytes.now (omega arith))
+    (coordinate_is x.order x.dimension x.bytes.now (omega arith))

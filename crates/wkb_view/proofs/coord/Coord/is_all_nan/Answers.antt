@@ -8,7 +8,7 @@ use Rattle.wkb_view.proofs.coord.Coord.is_all_nan.Goals as goal
 pub returns-then-not-is_nan : goal.returns-then-not-is_nan
 returns-then-not-is_nan c =
     let s = c.args.self.now in
-    let lt : c.loop-n.n < width s.dimension = omega (arith, c.width-n-end.ensures, c.loop-n-test.true) in
+    let lt : c.loop-n.n < width s.dimension = omega arith in
     let word =
     word_is s.order s.dimension c.loop-n.n c.u64_at.result s.bytes.now false lt c.u64_at.ensures
     c.if-not-is_nan.ensures in
@@ -18,13 +18,13 @@ returns-then-not-is_nan c =
 pub loop-n-preserved : goal.loop-n-preserved
 loop-n-preserved c =
     let s = c.args.self.now in
-    let lt : c.loop-n.n < width s.dimension = omega (arith, c.width-n-end.ensures, c.loop-n-test.true) in
+    let lt : c.loop-n.n < width s.dimension = omega arith in
     let word =
     word_is s.order s.dimension c.loop-n.n c.u64_at.result s.bytes.now true lt c.u64_at.ensures
     c.if-not-is_nan.ensures in
     let counted = length-items 8 (number s.order 8) (width s.dimension) s.bytes.now in
     let more =
-    list_all_more is_nan (coordinate s.order s.dimension s.bytes.now) c.loop-n.n 0 (omega (arith, counted)) in
+    list_all_more is_nan (coordinate s.order s.dimension s.bytes.now) c.loop-n.n 0 (omega arith) in
     record { so_far = more ∙ rw (c.loop-n.invariant.so_far, word) refl }
 
 pub returns : goal.returns
@@ -33,4 +33,4 @@ returns c =
     let counted = length-items 8 (number s.order 8) (width s.dimension) s.bytes.now in
     sym c.loop-n.invariant.so_far
     ∙ ap (λ (ws : List ℕ). all_nan ws)
-    (take_all c.loop-n.n _ (omega (arith, counted, c.width-n-end.ensures, c.loop-n-test.false)))
+    (take_all c.loop-n.n _ (omega arith))

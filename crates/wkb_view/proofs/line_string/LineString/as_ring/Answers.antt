@@ -12,7 +12,7 @@ invariant_of-result c =
     let whole = take_all (length l.buf.now - start) ring (omega (arith, length-drop start l.buf.now)) in
     rw (c.header_length.ensures, whole) (record {
       counted = l.counted;
-      whole = omega (arith, l.whole, length-drop start l.buf.now);
+      whole = omega (arith, length-drop start l.buf.now);
       in_range = AreBytes-drop start l.buf.now l.in_range;
     })
 

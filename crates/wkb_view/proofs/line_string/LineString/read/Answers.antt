@@ -10,7 +10,7 @@ invariant_of-line_string-clause-counted c =
     let l = c.args.layout in
     let read = c.in_ok-count.ensures in
     rw c.split_at.ensures.front (read.counted
-    ∙ sym (number_within l.order (body_start l.has_srid) c.in_ok-count.end c.args.bytes.now (omega (arith, read.end))))
+    ∙ sym (number_within l.order (body_start l.has_srid) c.in_ok-count.end c.args.bytes.now (omega arith)))
 
 pub invariant_of-line_string-clause-in_range : goal.invariant_of-line_string-clause-in_range
 invariant_of-line_string-clause-in_range c =
@@ -25,6 +25,6 @@ invariant_of-line_string-clause-spells c =
 pub returns-clause-passed : goal.returns-clause-passed
 returns-clause-passed c =
     let read = c.in_ok-count.ensures in
-    passed_by 9 c.args.bytes.now _ c.in_ok-count.end (omega (arith, read.end)) read.whole c.split_at.ensures.back
+    passed_by 9 c.args.bytes.now _ c.in_ok-count.end (omega arith) read.whole c.split_at.ensures.back
     (line_string_is_encoding c.args.layout c.args.bytes.now _ c.in_ok-count.count _ c.requires.head
     read.counted read.end read.whole refl read.answer)

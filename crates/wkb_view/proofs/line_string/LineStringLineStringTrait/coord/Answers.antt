@@ -2,10 +2,6 @@ use Rattle.wkb_view.specs.Prelude.{body_start}
 use Rattle.wkb_view.proofs.Items.{coordinate_behind}
 use Rattle.wkb_view.proofs.line_string.LineStringLineStringTrait.coord.Goals as goal
 
-pub returns-clause-value : goal.returns-clause-value
-returns-clause-value c =
-    rw (c.as_ring.ensures.encoding, c.as_ring.ensures.order, c.as_ring.ensures.dimension) at c.coord.ensures.value
-
 pub returns-clause-bytes : goal.returns-clause-bytes
 returns-clause-bytes c =
     let l = c.args.self.now in

@@ -13,7 +13,7 @@ returns-then-eq-clause-bytes c =
     let ring = drop start l.buf.now in
     let same : l.layout.order ≡ c.args.order = search rules in
     let len : length ring ≡ 4 + 8 * width l.layout.dimension * l.count =
-    omega (arith, l.whole, length-drop start l.buf.now) in
+    omega (arith, length-drop start l.buf.now) in
     c.coords_slice.ensures
     ∙ sym (drop-drop 4 start l.buf.now ∙ ap (λ (k : ℕ). drop k l.buf.now) (omega arith))
     ∙ ring_stands l.layout.order l.layout.dimension ring (AreBytes-drop start l.buf.now l.in_range)

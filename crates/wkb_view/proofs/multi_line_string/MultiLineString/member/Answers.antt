@@ -64,6 +64,3 @@ returns-in_err-buf-clause-value c =
     rw (c.from_residual.ensures, ← c.self.view_is)
     (members_seen 2 p.layout p.ends.items p.buf.now c.args.i (λ m. line_string_of m.value) _
     (rw (c.header_length.ensures, c.deref.ensures.value) at c.in_err-buf.ensures.part))
-
-pub returns-in_err-buf-clause-dimension : goal.returns-in_err-buf-clause-dimension
-returns-in_err-buf-clause-dimension c = rw c.from_residual.ensures tt

@@ -8,7 +8,7 @@ unfolding multi_line_string_at
 invariant_of-multi_line_string c =
     let bytes = c.args.bytes.now in
     let e = c.in_ok-ends.ensures in (
-      omega (arith, e.shorter, length-take (length bytes - length c.in_ok-ends.rest.now) bytes),
+      omega (arith, length-take (length bytes - length c.in_ok-ends.rest.now) bytes),
       e.ends,
       body_spelled bytes _ _ _ c.requires.head e.answer.0,
     )

@@ -26,7 +26,7 @@ returns c =
     let members = members_in 2 m.layout m.ends.items m.buf.now in
     let counted = rw (← c.self.view_is) at c.num_members-i-end.ensures in
     let all : length (map (λ i. line_string_of i.value) members) ≤ c.loop-i.i =
-    omega (arith, counted, c.loop-i-test.false) in
+    omega arith in
     let so_far = rw (← c.self.view_is) at c.loop-i.invariant.so_far in
     rw (← c.self.view_is) (λ _. record {
       bytes = is.bytes;

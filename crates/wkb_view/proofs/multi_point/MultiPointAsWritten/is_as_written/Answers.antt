@@ -27,7 +27,7 @@ returns c =
     record { order_is = is.order refl; plain = is.plain refl; code = is.code refl } in
     let members = points_in m.layout m.count m.buf.now in
     let all : length (map (λ i. point_of i.value) members) ≤ c.loop-i.i =
-    omega (arith, c.num_points-i-end.ensures, c.loop-i-test.false) in
+    omega arith in
     λ _. record {
       bytes = is.bytes;
       same = all_written (λ i. point_of i.value) members header all c.loop-i.invariant.so_far;

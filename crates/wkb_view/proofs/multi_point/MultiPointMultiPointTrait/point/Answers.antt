@@ -7,7 +7,7 @@ use Rattle.wkb_view.specs.Lawful.{member_dimension}
 use Rattle.wkb_view.proofs.Items.{next_within, point_encoding_is}
 use Rattle.wkb_view.proofs.Leaves.{member_seen}
 use Rattle.wkb_view.proofs.Members.{member_encoding, member_there, members_seen, spelling_seen, point_encoding}
-use Rattle.wkb_view.proofs.Members.{point_past, points_counted}
+use Rattle.wkb_view.proofs.Members.{point_past}
 use Rattle.wkb_view.proofs.multi_point.MultiPointMultiPointTrait.point.Goals as goal
 
 pub returns-then-i-self-clause-value : goal.returns-then-i-self-clause-value
@@ -74,16 +74,10 @@ returns-clause-bytes c =
     ∙ (rw c.coordinate_size-member.ensures at c.subslice-buf.ensures)
     ∙ ap (λ n. take (stride m.layout.dimension) (drop n m.buf.now)) c.point_offset-start.ensures
 
-pub point_offset-start-requires : goal.point_offset-start-requires
-point_offset-start-requires c =
-    let m = c.args.self.now in omega (arith, points_counted m.layout m.count m.buf.now, c.if-i-self.false)
-
 pub subslice-buf-requires : goal.subslice-buf-requires
 subslice-buf-requires c =
     let m = c.args.self.now in
     rw c.coordinate_size-member.ensures (omega (
       arith,
       next_within (stride m.layout.dimension) c.args.i m.count c.if-i-self.false,
-      m.whole,
-      c.point_offset-start.ensures,
     ))

@@ -29,11 +29,7 @@ invariant_of-multi_polygon c =
     let e = c.in_ok-members.ensures in
     let read =
     list_reads (here (goal.at.invariant_of-multi_polygon c).In_ok-count) _ _ _ e.polygons.0 e.polygons.1 in (
-      omega (
-        arith,
-        e.shorter,
-        length-take (length bytes - length c.in_ok-members.rest.now) bytes,
-      ),
+      omega (arith, length-take (length bytes - length c.in_ok-members.rest.now) bytes),
       subst (AreOfDimension l.dimension) (sym c.into_vec.ensures) e.dimension,
       rw c.into_vec.ensures (body_spelled bytes _ _ _ c.requires.head read.0),
     )
@@ -55,7 +51,7 @@ returns-in_err-members-clause-answer c =
 
 pub counted_list-requires-clause-fits : goal.counted_list-requires-clause-fits
 counted_list-requires-clause-fits c =
-    omega (arith, polygons_within c.args.layout c.args.bytes.now, c.requires.fits.slots)
+    omega (arith, polygons_within c.args.layout c.args.bytes.now)
 
 pub returns-in_err-count-clause-answer : goal.returns-in_err-count-clause-answer
 returns-in_err-count-clause-answer c =
@@ -69,20 +65,14 @@ pub returns-in_err-count-clause-no_memory : goal.returns-in_err-count-clause-no_
 returns-in_err-count-clause-no_memory c = λ none.
     let stopped = err_from_is_err_and c.from_residual.result c.from_residual.ensures.1 in
     rw (stopped.1, stopped.2)
-    (c.in_err-count.ensures.no_memory (omega (arith, none, polygons_within c.args.layout c.args.bytes.now)))
-
-pub slice_bounds-multi_polygon-count : goal.slice_bounds-multi_polygon-count
-slice_bounds-multi_polygon-count c = omega (arith, c.in_ok-members.ensures.shorter)
+    (c.in_err-count.ensures.no_memory (omega (arith, polygons_within c.args.layout c.args.bytes.now)))
 
 pub slice_bounds-multi_polygon-length : goal.slice_bounds-multi_polygon-length
 slice_bounds-multi_polygon-length c =
     omega (arith, length-take (length c.args.bytes.now - length c.in_ok-members.rest.now) c.args.bytes.now)
 
-pub returns-clause-shorter : goal.returns-clause-shorter
-returns-clause-shorter c = omega (arith, c.in_ok-members.ensures.shorter)
-
 pub returns-in_err-members-clause-no_memory : goal.returns-in_err-members-clause-no_memory
 returns-in_err-members-clause-no_memory c = λ none.
     let p = err_from_is_err_and c.from_residual-in_err-members.result c.from_residual-in_err-members.ensures.1 in
     let costs = list_costs (here (goal.at.returns-in_err-members-clause-no_memory c).In_ok-count) in
-    rw (p.1, p.2) (c.in_err-members.ensures.no_memory (omega (arith, none, costs)))
+    rw (p.1, p.2) (c.in_err-members.ensures.no_memory (omega arith))

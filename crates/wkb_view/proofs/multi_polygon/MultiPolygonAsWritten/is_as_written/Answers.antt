@@ -28,12 +28,7 @@ returns c =
     let parts = map (λ i. polygon_of i.value) members in
     let counted = rw (← c.self.view_is) at c.num_polygons-i-end.ensures in
     let all : length parts ≤ c.loop-i.i =
-    omega (
-      arith,
-      counted,
-      length-map parts (fitted_line_strings (as_dimensions m.layout.dimension)),
-      c.loop-i-test.false,
-    ) in
+    omega (arith, length-map parts (fitted_line_strings (as_dimensions m.layout.dimension))) in
     let so_far = rw (← c.self.view_is) at c.loop-i.invariant.so_far in
     rw (← c.self.view_is) (λ _. record {
       bytes = is.bytes;

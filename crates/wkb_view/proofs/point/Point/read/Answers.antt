@@ -20,5 +20,5 @@ pub returns-clause-passed : goal.returns-clause-passed
 returns-clause-passed c =
     let read = c.in_ok-end.ensures in
     let wide = (width-within c.args.layout.dimension).0 in
-    passed_by 9 c.args.bytes.now _ c.in_ok-end.end (omega (arith, read.end)) read.whole c.split_at.ensures.back
+    passed_by 9 c.args.bytes.now _ c.in_ok-end.end (omega arith) read.whole c.split_at.ensures.back
     (point_encoding c.args.layout c.args.bytes.now _ _ c.requires.head read.end read.whole refl read.answer)

@@ -4,15 +4,12 @@ use Rattle.wkb_view.specs.Lawful.{AreBytes-take, AreBytes-drop}
 use Rattle.wkb_view.proofs.Items.{words-take, point_encoding_is}
 use Rattle.wkb_view.proofs.point.Point.words.Goals as goal
 
-pub subslice-requires : goal.subslice-requires
-subslice-requires c = omega (arith, c.args.self.now.whole, c.header_length.ensures, c.coordinate_size.ensures)
-
 pub invariant_of-result : goal.invariant_of-result
 invariant_of-result c =
     let p = c.args.self.now in
     record {
       whole = rw (c.subslice.ensures, c.header_length.ensures, c.coordinate_size.ensures)
-          (omega (arith, p.whole, length-take {A = ℕ}, length-drop {A = ℕ}));
+          (omega (arith, length-take {A = ℕ}, length-drop {A = ℕ}));
       in_range = subst AreBytes (sym c.subslice.ensures) (AreBytes-take _ _ (AreBytes-drop _ _ p.in_range));
     }
 

@@ -7,13 +7,13 @@ pub overflow_mul-bytes : goal.overflow_mul-bytes
 overflow_mul-bytes c =
     let sized = view_counted _ _ _ _ c.self.view_is c.length_after_header.ensures.bytes c.self.invariant.2 _
     c.length_after_header.ensures.size in
-    omega (arith, sized, c.num_rings.ensures)
+    omega arith
 
 pub overflow_sub-bytes-2 : goal.overflow_sub-bytes-2
 overflow_sub-bytes-2 c =
     let sized = view_counted _ _ _ _ c.self.view_is c.length_after_header.ensures.bytes c.self.invariant.2 _
     c.length_after_header.ensures.size in
-    omega (arith, sized, c.num_rings.ensures)
+    omega arith
 
 pub returns : goal.returns
 returns c =

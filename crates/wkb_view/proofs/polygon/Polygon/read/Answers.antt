@@ -8,7 +8,7 @@ unfolding polygon_at
 invariant_of-polygon c =
     let bytes = c.args.bytes.now in
     let e = c.in_ok-ends.ensures in (
-      omega (arith, e.shorter, length-take (length bytes - length c.in_ok-ends.rest.now) bytes),
+      omega (arith, length-take (length bytes - length c.in_ok-ends.rest.now) bytes),
       e.ends,
       body_spelled bytes _ _ _ c.requires.head (rw map-id at e.answer.0),
     )

@@ -29,9 +29,3 @@ returns-in_err-bytes-clause-value c =
     rw (c.from_residual.ensures, ← c.self.view_is)
     (piece_seen (ring_in p.layout.order p.layout.dimension) _ p.ends.items p.buf.now c.args.i _
     (rw (c.header_length.ensures, c.deref.ensures.value) at c.in_err-bytes.ensures.part))
-
-pub returns-clause-dimension : goal.returns-clause-dimension
-returns-clause-dimension c = rw (← c.self.view_is) c.of_encoding.ensures.dimension
-
-pub returns-clause-order : goal.returns-clause-order
-returns-clause-order c = rw (← c.self.view_is) c.of_encoding.ensures.order
