@@ -16,14 +16,14 @@ pub record Top {A : Type 0} (xs : List A) (n : ℕ) (o : A) : Type 0 where
 pub top : {A : Type 0} (xs : List A) (n : ℕ) (o : A) → length xs ≡ suc n → o ≡ slice_index_or xs n o → Top xs n o
 top xs n o l is =
     let all : xs ≡ take n xs ++ o ∷ [] =
-    sym (take_all (suc n) xs (omega (arith, l))) ∙ take-suc xs n o (omega (arith, l))
+    sym (take_all (suc n) xs (omega arith)) ∙ take-suc xs n o (omega arith)
     ∙ ap (λ z. take n xs ++ z ∷ []) (sym is) in
     record {
       below = reverse (take n xs);
       is = backwards xs (take n xs) o all;
       set_is =
           λ y. backwards _ (take n xs) y
-          (sym (take_all (suc n) _ (omega (arith, l, length-set xs n y))) ∙ take-suc-set xs n y (omega (arith, l)));
+          (sym (take_all (suc n) _ (omega (arith, length-set xs n y))) ∙ take-suc-set xs n y (omega arith));
       count = omega (arith, ap length all, length-append (take n xs) (o ∷ []), length-reverse (take n xs));
     }
 

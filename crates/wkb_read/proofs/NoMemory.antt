@@ -13,7 +13,7 @@ unfoldable use Rattle.wkb_geom.specs.Reading.{collection_at}
 
 -- what asks for no entry costs none
 asked_by : (buf : List ℕ) (r : Reading Item) → AsksForNone buf → Agrees buf r → r.0.slots ≡ 0
-asked_by buf (c, Ok x) none h = omega (arith, h.2, none.front x.0.spelled x.0.value x.1 h.0)
+asked_by buf (c, Ok x) none h = omega (arith, none.front x.0.spelled x.0.value x.1 h.0)
 asked_by buf (c, Err e) none h = none.refusal e.cause c.turns c.slots h
 
 asked : (buf : List ℕ) (r : Reading Item) → AsksForNone buf → geometry_at max_nesting buf ≡ r → r.0.slots ≡ 0
@@ -21,7 +21,7 @@ asked buf r none e = asked_by buf r none (subst (Agrees buf) e (geometry_agrees_
 
 -- what begins no part takes no turn
 takes_no_turn_by : (buf : List ℕ) (r : Reading Item) → BeginsNone buf → Agrees buf r → r.0.turns ≡ 0
-takes_no_turn_by buf (c, Ok x) none h = omega (arith, h.1, none.front x.0.spelled x.0.value x.1 h.0)
+takes_no_turn_by buf (c, Ok x) none h = omega (arith, none.front x.0.spelled x.0.value x.1 h.0)
 takes_no_turn_by buf (c, Err e) none h = none.refusal e.cause c.turns c.slots h
 
 takes_no_turn : (buf : List ℕ) (r : Reading Item) → BeginsNone buf → geometry_at max_nesting buf ≡ r → r.0.turns ≡ 0

@@ -46,7 +46,7 @@ read_by depth bytes (c, Ok x) h w rest e long =
       part =
           record {
             spelled = ∣ h.spelled ∣₁;
-            long = omega (arith, ap length h.whole, length-append x.0.encoding x.1, left, long);
+            long = omega (arith, ap length h.whole, length-append x.0.encoding x.1);
             shallow = h.shallow;
           };
     })
@@ -101,13 +101,7 @@ closed l bytes members rest head counted long behind each =
     all (omega arith) refl refl).spelled ∣₁) in
     let holds : HoldsMembers l.has_srid encoding members = record {
       long =
-          omega (
-            arith,
-            ap length p.body,
-            length-drop start encoding,
-            length-append field (joined_encodings members),
-            p.number.len,
-          );
+          omega (arith, ap length p.body, length-drop start encoding, length-append field (joined_encodings members));
       behind = ap (λ (b : List ℕ). drop 4 b) p.body ∙ drop_front 4 field (joined_encodings members) p.number.len;
       each = each;
     } in

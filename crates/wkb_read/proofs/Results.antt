@@ -21,9 +21,9 @@ zero_counts = record { turns = 0; slots = 0 }
 
 counted_of : (whole : Reading Item) (r : Result Wkb ReadError) (old new : Counts) → ReadsAs whole r old new
     → AtMost old new whole.0
-counted_of whole (Ok w) old new h = record { turns = omega (arith, h.1.turns); slots = omega (arith, h.1.slots) }
+counted_of whole (Ok w) old new h = record { turns = omega arith; slots = omega arith }
 counted_of whole (Err (read_errors.Cause cause)) old new h =
-    record { turns = omega (arith, h.1.turns); slots = omega (arith, h.1.slots) }
+    record { turns = omega arith; slots = omega arith }
 counted_of whole (Err read_errors.Memory) old new h = h
 
 pub count_bounded : (buf : List ℕ) (r : Result Wkb ReadError) (new : Counts) → ReadsAs (reading_of buf) r zero_counts new
@@ -52,7 +52,7 @@ read_by buf (c, Ok x) h w rest new is spent =
     (record {
       front = front;
       one_front = only_front buf x.0 front;
-      counts = (omega (arith, spent.turns, h.1), omega (arith, spent.slots, h.2));
+      counts = (omega arith, omega arith);
     })
 read_by buf (c, Err f) h w rest new is spent = absurd cc
 
@@ -88,8 +88,8 @@ refused_by : (buf : List ℕ) (r : Reading Item) → Agrees buf r → (cause : C
 refused_by buf (c, Ok x) h cause new is spent = absurd cc
 refused_by buf (c, Err e) h cause new is spent =
     let same : e.cause ≡ cause = cc in
-    let turns : c.turns ≡ new.turns = omega (arith, spent.turns) in
-    let slots : c.slots ≡ new.slots = omega (arith, spent.slots) in
+    let turns : c.turns ≡ new.turns = omega arith in
+    let slots : c.slots ≡ new.slots = omega arith in
     rw (← same, ← turns, ← slots) h
 
 -- what holds of each error of the refusal holds of the result
@@ -106,10 +106,10 @@ if_told P buf e read_errors.Memory new h tells step = absurd tells
 at_most : (buf : List ℕ) (new : Counts) → AtMost zero_counts new (reading_of buf).0 → CountsAtMost buf new
 at_most buf new h = record {
   front = λ s t rest f. let e = ap (λ (r : Reading Item). r.0) (front_is_read_lem buf s t rest f) in
-      (omega (arith, h.turns, ap (λ (c : Cost). c.turns) e), omega (arith, h.slots, ap (λ (c : Cost). c.slots) e));
+      (omega (arith, ap (λ (c : Cost). c.turns) e), omega (arith, ap (λ (c : Cost). c.slots) e));
   refusal =
       λ cause turns slots q. let e = ap (λ (r : Reading Item). r.0) (refusal_is_read_lem buf cause turns slots q) in
-      (omega (arith, h.turns, ap (λ (c : Cost). c.turns) e), omega (arith, h.slots, ap (λ (c : Cost). c.slots) e));
+      (omega (arith, ap (λ (c : Cost). c.turns) e), omega (arith, ap (λ (c : Cost). c.slots) e));
 }
 
 if_memory : (e : WkbError) (P : Type 0) → P → IfMemory (Err e) P

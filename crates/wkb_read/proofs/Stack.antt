@@ -123,12 +123,12 @@ more_open depth o next m rest n h part =
     ap length n.items ∙ length-append (entries o.members) (m ∷ []) in
     record {
       head = rw (n.layout, n.bytes) h.head;
-      count = rw (n.layout, n.bytes) (h.count ∙ omega (arith, longer, n.left));
+      count = rw (n.layout, n.bytes) (h.count ∙ omega arith);
       behind = rw (n.layout, n.bytes, n.items) (h.behind ∙ sym (one_more (entries o.members) m rest));
       each = rw n.items (all_more BytesSpell (entries o.members) m h.each part.spelled);
-      within = rw (n.layout, n.bytes) (omega (arith, longer, h.within, part.long, length-append m.encoding rest));
-      room = rw (n.layout, n.bytes) (omega (arith, longer, n.left, n.capacity_kept, h.room));
-      shallow = rw n.items (omega (arith, nest_more (entries o.members) m, h.shallow, part.shallow));
+      within = rw (n.layout, n.bytes) (omega (arith, part.long, length-append m.encoding rest));
+      room = rw (n.layout, n.bytes) (omega arith);
+      shallow = rw n.items (omega (arith, nest_more (entries o.members) m, part.shallow));
     }
 
 -- the next member begins
@@ -161,12 +161,12 @@ completes o os m members rest spent whole none is f =
     let h = f.stand.0 in
     let front = entries o.members in
     let c : Closed o.layout o.bytes.now members rest = rw is (closed o.layout o.bytes.now (front ++ m ∷ []) rest h.head
-    (h.count ∙ omega (arith, none, length-append front (m ∷ []))) (omega (arith, h.within))
+    (h.count ∙ omega (arith, length-append front (m ∷ []))) (omega arith)
     (h.behind ∙ sym (one_more front m rest))
     (all_more BytesSpell front m h.each f.part.spelled)) in
     let encoding = consumed o.bytes.now rest in
     let deep : nest_each (values members) + suc (length os) ≤ max_nesting =
-    rw is (omega (arith, nest_more front m, h.shallow, f.part.shallow)) in
+    rw is (omega (arith, nest_more front m)) in
     let last : in_collection (length os) o m rest ≡ closing o.layout o.bytes.now members rest =
     rw (none, is) (repeated_none member rest (λ xs after. closing o.layout o.bytes.now (front ++ m ∷ xs) after)) in
     let out =
@@ -174,15 +174,15 @@ completes o os m members rest spent whole none is f =
     ∙ done_then (list_item o.layout collection_with members encoding) rest (outward os) in
     record {
       collection = c.collection;
-      shallow = omega (arith, deep);
+      shallow = omega arith;
       finishes = record {
         so_far = ap (λ (r : Reading Item). costs (cost_of spent) r) (sym out) ∙ f.so_far;
         stand = subst (AreOpen os) c.whole f.stand.1;
         part =
             record {
               spelled = c.collection.1;
-              long = omega (arith, c.collection.0.long);
-              shallow = omega (arith, deep);
+              long = omega arith;
+              shallow = omega arith;
             };
       };
     }

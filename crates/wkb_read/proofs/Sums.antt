@@ -30,4 +30,4 @@ pub collection_counted : (l : Layout) (ms : List Item) (encoding : List ℕ)
     → sum_by coordinates_inside ms + (1 + sum_by parts_inside ms) ≤ length encoding
 collection_counted l ms encoding spells =
     let within = bytes_counted (list_item l collection_with ms encoding) spells in
-    omega (arith, within, coordinates_summed ms, members_summed ms)
+    omega (arith, coordinates_summed ms, members_summed ms)

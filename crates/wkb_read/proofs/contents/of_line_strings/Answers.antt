@@ -10,7 +10,7 @@ overflow_add-coordinates c =
     let at = rw c.unwrap.ensures at c.line_string.ensures.part in
     let more = sum_more length m.parts c.loop-i.i c.loop-i.coordinates c.num_coords-coordinates.result _ at
     c.num_coords-coordinates.ensures c.loop-i.invariant in
-    omega (arith, more, bytes_counted (multi_line_string_seen m) c.buf-bytes.ensures.spells, c.size-size.ensures)
+    omega (arith, bytes_counted (multi_line_string_seen m) c.buf-bytes.ensures.spells)
 
 pub loop-i-preserved : goal.loop-i-preserved
 loop-i-preserved c =

@@ -12,7 +12,7 @@ overflow_add-coordinates c =
     let more = sum_more (λ (rings : List (List Coordinate)). sum_by length rings) m.parts c.loop-i.i
     c.loop-i.coordinates c.num_coords-coordinates.result _ at c.num_coords-coordinates.ensures
     c.loop-i.invariant.coordinates_left in
-    omega (arith, more, bytes_counted (multi_polygon_seen m) c.buf-bytes.ensures.spells, c.size-size.ensures)
+    omega (arith, bytes_counted (multi_polygon_seen m) c.buf-bytes.ensures.spells)
 
 -- the parts with those of one polygon more are fewer than the bytes
 parts_fit : (c : After-num_rings) → c.loop-i.members + (1 + c.num_rings.result) ≤ c.size-size.result
@@ -22,7 +22,7 @@ parts_fit c =
     let more = sum_more (λ (rings : List (List Coordinate)). 1 + length rings) m.parts c.loop-i.i
     c.loop-i.members (1 + c.num_rings.result) _ at (ap (λ n. 1 + n) c.num_rings.ensures)
     c.loop-i.invariant.members_left in
-    omega (arith, more, bytes_counted (multi_polygon_seen m) c.buf-bytes.ensures.spells, c.size-size.ensures)
+    omega (arith, bytes_counted (multi_polygon_seen m) c.buf-bytes.ensures.spells)
 
 pub overflow_add-members-in-loop-i : goal.overflow_add-members-in-loop-i
 overflow_add-members-in-loop-i c =

@@ -22,10 +22,7 @@ GeometryCollection::contents-overflow_add-coordinates t c =
     let within = collection_counted g.layout g.members.items g.buf.now c.self.invariant.0.1 in
     omega (
       arith,
-      more,
-      within,
       ap (sum_by coordinates_inside) c.deref-member-items.ensures.value,
-      c.size-size.ensures,
       ap (λ w. length w.encoding) c.self.view_is,
     )
 
@@ -45,10 +42,7 @@ parts_fit t c =
     let within = collection_counted g.layout g.members.items g.buf.now c.self.invariant.0.1 in
     omega (
       arith,
-      more,
-      within,
       ap (sum_by parts_inside) c.deref-member-items.ensures.value,
-      c.size-size.ensures,
       ap (λ w. length w.encoding) c.self.view_is,
     )
 
@@ -72,13 +66,13 @@ GeometryCollection::contents-returns t c =
     record {
       coordinates_are =
           sum_all coordinates_inside items i c.loop-member.coordinates
-          (omega (arith, c.loop-member-test.false, c.deref-member-items.ensures.len))
+          (omega arith)
           c.loop-member.invariant.coordinates_left
           ∙ ap (sum_by coordinates_inside) same ∙ sym (coordinates_summed ms)
           ∙ ap (λ w. coordinate_count_each w.parts) c.self.view_is;
       members_are =
           sum_all parts_inside items i c.loop-member.members
-          (omega (arith, c.loop-member-test.false, c.deref-member-items.ensures.len))
+          (omega arith)
           c.loop-member.invariant.members_left
           ∙ ap (sum_by parts_inside) same ∙ sym (members_summed ms)
           ∙ ap (λ w. member_count_each w.parts) c.self.view_is;

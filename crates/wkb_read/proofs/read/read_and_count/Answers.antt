@@ -8,7 +8,7 @@ use Rattle.wkb_read.proofs.read.read_and_count.Goals as goal
 pub read_geometry-requires : goal.read_geometry-requires
 read_geometry-requires c =
     let b = reading_is_bounded_lem c.args.buf.now in
-    record { fits = record { turns = omega (arith, b.0); slots = omega (arith, b.1) } }
+    record { fits = record { turns = omega arith; slots = omega arith } }
 
 pub returns-in-Ok-clause-reads : goal.returns-in-Ok-clause-reads
 returns-in-Ok-clause-reads c =

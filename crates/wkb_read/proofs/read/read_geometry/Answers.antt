@@ -10,8 +10,8 @@ pub read_collection-requires-clause-fits : goal.read_collection-requires-clause-
 read_collection-requires-clause-fits c =
     let begun = (rw c.in-Ok-Opened.field-0-is at c.in-Ok-Opened.ensures.begins).0 in
     record {
-      turns = omega (arith, ap (λ (s : Reading Item). s.0.turns) begun, c.requires.fits.turns);
-      slots = omega (arith, ap (λ (s : Reading Item). s.0.slots) begun, c.requires.fits.slots);
+      turns = omega (arith, ap (λ (s : Reading Item). s.0.turns) begun);
+      slots = omega (arith, ap (λ (s : Reading Item). s.0.slots) begun);
     }
 
 pub returns-in-Ok-Opened-clause-reads : goal.returns-in-Ok-Opened-clause-reads
@@ -19,13 +19,3 @@ returns-in-Ok-Opened-clause-reads c =
     reads_on c.read_collection.result _ (geometry_at max_nesting c.args.buf.now) c.args.counts.now
     c.read_front.new.counts c.read_collection.new.counts
     (rw c.in-Ok-Opened.field-0-is at c.in-Ok-Opened.ensures.begins).0 c.read_collection.ensures
-
-pub returns-in-Ok-Opened-clause-no_memory : goal.returns-in-Ok-Opened-clause-no_memory
-returns-in-Ok-Opened-clause-no_memory c = λ none.
-    absurd ((rw c.in-Ok-Opened.field-0-is at c.in-Ok-Opened.ensures.no_memory) none)
-
-pub returns-in-Err-clause-reads : goal.returns-in-Err-clause-reads
-returns-in-Err-clause-reads c = c.in-Err.ensures.begins
-
-pub returns-in-Err-clause-no_memory : goal.returns-in-Err-clause-no_memory
-returns-in-Err-clause-no_memory c = c.in-Err.ensures.no_memory

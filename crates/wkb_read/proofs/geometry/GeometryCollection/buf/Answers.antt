@@ -8,4 +8,4 @@ pub returns : goal.returns
 returns c =
     let spells = c.self.invariant.0.1 in
     subst (λ p. Lends (collection_seen p) c.self.inside.buf.now) c.self.view_is
-    (lends (collection_seen _) _ refl spells (omega (arith, c.self.invariant.2)) c.are_bytes.ensures)
+    (lends (collection_seen _) _ refl spells (omega arith) c.are_bytes.ensures)

@@ -4,10 +4,4 @@ use Rattle.wkb_read.proofs.geometry.Wkb.num_parts.Goals as goal
 
 pub overflow_add-result : goal.overflow_add-result
 overflow_add-result c =
-    omega (
-      arith,
-      bytes_counted c.args.self.now c.buf-bytes.ensures.spells,
-      ap length c.buf-bytes.ensures.encoding,
-      c.contents.ensures.members_are,
-      c.buf-bytes.type_inv,
-    )
+    omega (arith, bytes_counted c.args.self.now c.buf-bytes.ensures.spells, ap length c.buf-bytes.ensures.encoding)

@@ -24,7 +24,7 @@ returns-then-count-eq0-clause-begins c =
           (omega arith) c.in_ok-count.ensures.whole c.in_ok-count.ensures.count back
           (without_members l bytes _ _ c.in_ok-count.count _ _ c.if-count-eq0.true front
           (c.into_vec.ensures ∙ c.in_ok-count.ensures.empty)),
-      omega (arith, c.split_at.ensures.back_len, c.header_length.ensures),
+      omega arith,
     )
 
 pub returns-clause-begins : goal.returns-clause-begins
@@ -34,7 +34,7 @@ returns-clause-begins c =
     let items = c.in_ok-count.ensures.empty in
     let back = rw c.header_length.ensures at c.split_at.ensures.back in
     let behind : length c.split_at.result.1.now + (body_start l.has_srid + 4) ≡ length bytes =
-    omega (arith, c.split_at.ensures.back_len, c.header_length.ensures, c.in_ok-count.ensures.whole) in
+    omega arith in
     let none : length (entries c.in_ok-count.members) ≡ 0 = ap length items in
     rw (c.counted_list.ensures.turns, c.counted_list.ensures.slots) (
       opens l bytes c.args.depth c.in_ok-count.count (cost_of c.args.counts.now) _ _
@@ -44,10 +44,10 @@ returns-clause-begins c =
       omega arith,
       record {
         head = c.requires.head;
-        count = sym c.in_ok-count.ensures.count ∙ omega (arith, none);
+        count = sym c.in_ok-count.ensures.count ∙ omega arith;
         behind = rw items (drop-drop 4 (body_start l.has_srid) bytes ∙ sym back);
         each = rw items tt;
-        within = omega (arith, none, behind);
+        within = omega arith;
         room = rw none (omega (arith, c.in_ok-count.ensures.room, c.in_ok-count.ensures.count, behind));
         shallow = rw items (omega arith);
       },
@@ -75,10 +75,6 @@ returns-then-depth-ge-MAX_WKB_NESTING_DEPTH-clause-begins c =
     too_many_around c.args.layout c.args.bytes.now c.args.depth c.args.counts.now
     c.if-depth-ge-MAX_WKB_NESTING_DEPTH.true
 
-pub returns-clause-no_memory : goal.returns-clause-no_memory
-returns-clause-no_memory c = λ none.
-    let asked = none c.in_ok-count.ensures.whole in absurd (omega (arith, asked, c.in_ok-count.ensures.count))
-
 module _ (l : Layout) (bytes : List ℕ) where
   within : (member : List ℕ → Reading Item) → entries_asked 9 l bytes ≤ (collection_at member l bytes).0.slots
   unfolding collection_at
@@ -92,7 +88,7 @@ module _ (l : Layout) (bytes : List ℕ) where
 
   module _ (depth : ℕ) (shallow : depth < max_nesting) where
     level : max_nesting - depth ≡ suc (max_nesting - suc depth)
-    level = omega (arith, shallow)
+    level = omega arith
 
     members_within : entries_asked 9 l bytes ≤ (collection_inside l depth bytes).0.slots
     members_within = rw level (within _)
@@ -103,11 +99,7 @@ module _ (l : Layout) (bytes : List ℕ) where
 
 pub counted_list-requires-clause-fits : goal.counted_list-requires-clause-fits
 counted_list-requires-clause-fits c =
-    omega (
-      arith,
-      members_within c.args.layout c.args.bytes.now c.args.depth c.if-depth-ge-MAX_WKB_NESTING_DEPTH.false,
-      c.requires.fits.slots,
-    )
+    omega (arith, members_within c.args.layout c.args.bytes.now c.args.depth c.if-depth-ge-MAX_WKB_NESTING_DEPTH.false)
 
 pub returns-in_err-count-clause-begins : goal.returns-in_err-count-clause-begins
 returns-in_err-count-clause-begins c =

@@ -1,7 +1,7 @@
 use Rattle.wkb_read.proofs.Prelude.{◌≡◌, ◌<◌, ◌-◌, ℕ, ◌∷◌, [], ◌++◌, length, reverse, length-append}
 use Rattle.wkb_read.proofs.Prelude.{length-reverse, length-set, refl, sym, ap, ◌∙◌, arith, vec_len, List, slice_set}
 use Rattle.wkb_read.proofs.Prelude.{Item, Reading, costs, Open, cost_of, outward}
-use Rattle.std.proofs.Common.{length-take, true, false}
+use Rattle.std.proofs.Common.{true, false}
 use Rattle.std.proofs.lemmas.Bool.{false≢true}
 use Rattle.wkb_view.specs.Entries.{entries}
 use Rattle.wkb_view.specs.Outcome.{next_turn}
@@ -13,7 +13,7 @@ use Rattle.wkb_read.proofs.read.stack.close_finished.Goals.{After-push}
 on_top : (c : After-push) → Top c.loop-top.stack.items (vec_len c.loop-top.stack - 1) c.in-Some.top.now
 on_top c =
     top c.loop-top.stack.items (vec_len c.loop-top.stack - 1) c.in-Some.top.now
-    (omega (arith, c.in-Some.ensures.variant.0 refl, c.loop-top.stack.ok))
+    (omega (arith, c.in-Some.ensures.variant.0 refl))
     c.in-Some.ensures.value
 
 -- the top with the finished part, and this number of members after it
@@ -44,11 +44,11 @@ begins c more =
     next_begins o (filled c (o.left - 1)) (on_top c).below c.loop-top.finished c.args.rest.now c.loop-top.counts _
     (whole c)
     (record {
-      left = omega (arith, more);
+      left = omega arith;
       layout = refl;
       bytes = refl;
       items = c.push.ensures.entries;
-      capacity_kept = omega (arith, c.push.ensures.room);
+      capacity_kept = omega arith;
     }) (finishes c) refl
 
 pub overflow_add-counts : goal.overflow_add-counts
@@ -57,7 +57,6 @@ overflow_add-counts c =
       arith,
       ap (λ (s : Reading Item). s.0.turns)
           (begins (goal.at.overflow_add-counts c).After-push c.if-top-gt0.true).so_far,
-      c.requires.fits,
     )
 
 pub returns-then-top-gt0 : goal.returns-then-top-gt0
@@ -68,7 +67,7 @@ returns-then-top-gt0 c =
     let as_many = length-set c.loop-top.stack.items (vec_len c.loop-top.stack - 1) top_left in
     record {
       settles = rw ((on_top p).set_is _) (r.so_far, r.stand);
-      fewer = omega (arith, as_many, c.loop-top.invariant.fewer);
+      fewer = omega arith;
     }
 
 -- what is taken off is the top, now with all its members
@@ -96,7 +95,7 @@ pub invariant_of-finished : goal.invariant_of-finished
 invariant_of-finished c =
     let p = (goal.at.invariant_of-finished c).After-push in
     let same = (taken_off p _ _ c.in-Some-pop.ensures.items).0 in
-    let all = all_in p _ _ same c.into_vec-members.ensures (omega (arith, c.if-top-gt0.false)) in
+    let all = all_in p _ _ same c.into_vec-members.ensures (omega arith) in
     (rw (sym same) all.collection, rw c.deref.ensures.value at c.count_with_srids-with_srids.ensures, all.shallow)
 
 pub loop-top-preserved : goal.loop-top-preserved
@@ -104,41 +103,17 @@ loop-top-preserved c =
     let p = (goal.at.loop-top-preserved c).After-push in
     let off = taken_off p _ _ c.in-Some-pop.ensures.items in
     rw (sym off.0, sym off.1) (record {
-      finishes = (all_in p _ _ off.0 c.into_vec-members.ensures (omega (arith, c.if-top-gt0.false))).finishes;
-      fewer =
-          omega (
-            arith,
-            c.loop-top.invariant.fewer,
-            length-reverse c.pop.new.self.items,
-            ap length off.1,
-            (on_top p).count,
-          );
+      finishes = (all_in p _ _ off.0 c.into_vec-members.ensures (omega arith)).finishes;
+      fewer = omega (arith, length-reverse c.pop.new.self.items, ap length off.1, (on_top p).count);
     })
-
-pub loop-top-init : goal.loop-top-init
-loop-top-init c = record {
-  finishes = record { so_far = refl; stand = c.requires.stand; part = c.requires.part };
-  fewer = omega arith;
-}
 
 pub push-requires : goal.push-requires
 push-requires c =
     let t =
     top c.loop-top.stack.items (vec_len c.loop-top.stack - 1) c.in-Some.top.now
-    (omega (arith, c.in-Some.ensures.variant.0 refl, c.loop-top.stack.ok)) c.in-Some.ensures.value in
+    (omega (arith, c.in-Some.ensures.variant.0 refl)) c.in-Some.ensures.value in
     let f = rw t.is at c.loop-top.invariant.finishes in
-    omega (
-      arith,
-      f.stand.0.room,
-      f.stand.0.within,
-      f.part.long,
-      length-append c.loop-top.finished.encoding c.args.rest.now,
-    )
-
-pub slice_bounds-finished-length : goal.slice_bounds-finished-length
-slice_bounds-finished-length c =
-    let bytes = c.in-Some-pop.collection.bytes.now in
-    omega (arith, length-take (length bytes - length c.args.rest.now) bytes)
+    omega (arith, length-append c.loop-top.finished.encoding c.args.rest.now)
 
 -- an empty stack
 none_in : (os : List Open) (n : ℕ) → n ≡ length os → (0 < n → false ≡ true) → os ≡ []
@@ -148,21 +123,11 @@ none_in (o ∷ os) n is some = absurd (false≢true (some (omega arith)))
 pub returns-in_default : goal.returns-in_default
 returns-in_default c =
     let s = c.loop-top.stack in
-    let none = ap reverse (none_in s.items (vec_len s) (omega (arith, s.ok)) c.in_default.ensures.variant.1) in
+    let none = ap reverse (none_in s.items (vec_len s) (omega arith) c.in_default.ensures.variant.1) in
     record { settles = (none, (rw none at c.loop-top.invariant.finishes).so_far); fewer = c.loop-top.invariant.fewer }
-
-pub unreachable-requires : goal.unreachable-requires
-unreachable-requires c = false≢true (c.in_default-pop.ensures.variant.1 (c.in-Some.ensures.variant.0 refl))
 
 pub loop-top-smaller : goal.loop-top-smaller
 loop-top-smaller c =
     let p = (goal.at.loop-top-smaller c).After-push in
     let off = taken_off p _ _ c.in-Some-pop.ensures.items in
-    omega (
-      arith,
-      ap length off.1,
-      length-reverse c.pop.new.self.items,
-      (on_top p).count,
-      c.pop.new.self.ok,
-      c.loop-top.stack.ok,
-    )
+    omega (arith, ap length off.1, length-reverse c.pop.new.self.items, (on_top p).count)

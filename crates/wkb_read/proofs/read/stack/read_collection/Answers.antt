@@ -9,7 +9,7 @@ use Rattle.wkb_read.proofs.read.stack.read_collection.Goals as goal
 use Rattle.wkb_read.proofs.read.stack.read_collection.Goals.{After-len, In-Ok-Opened, In-Ok-Whole}
 
 as_many : (c : After-len) → length (reverse c.loop-collection.stack.items) ≡ c.len.result
-as_many c = omega (arith, length-reverse c.loop-collection.stack.items, c.loop-collection.stack.ok.0, c.len.ensures)
+as_many c = omega (arith, length-reverse c.loop-collection.stack.items)
 
 -- the first member of a collection that was opened begins, and a turn is counted
 opened : (c : In-Ok-Opened) (after : Counts) → length (reverse c.loop-collection.stack.items) ≡ c.len.result
@@ -48,7 +48,6 @@ push_collection-requires-in-Ok-Opened c =
       fits = omega (
         arith,
         ap (λ (s : Reading Item). s.0.turns) (opened p.In-Ok-Opened after (as_many p.After-len) refl).so_far,
-        c.requires.fits.turns,
       );
     }
 
@@ -76,7 +75,7 @@ loop-collection-preserved-in-Ok-Opened c =
     record {
       reaches =
           rw new (opened p.In-Ok-Opened _ (as_many p.After-len) c.in_ok-push_collection-in-Ok-Opened.ensures.turn);
-      shallow = omega (arith, ap length entered, longer, as_many p.After-len, length-reverse items, begun.2);
+      shallow = omega (arith, ap length entered, as_many p.After-len, length-reverse items);
     }
 
 pub close_finished-requires : goal.close_finished-requires
@@ -86,7 +85,7 @@ close_finished-requires c =
     record {
       part = f.part;
       stand = f.stand;
-      fits = omega (arith, ap (λ (s : Reading Item). s.0.turns) f.so_far, c.requires.fits.turns);
+      fits = omega (arith, ap (λ (s : Reading Item). s.0.turns) f.so_far);
     }
 
 pub returns-in-Some : goal.returns-in-Some
@@ -103,14 +102,7 @@ loop-collection-preserved c =
     let now = length-reverse c.close_finished.new.stack.items in
     record {
       reaches = record { so_far = after.0 ∙ (part p.In-Ok-Whole (as_many p.After-len)).so_far; stand = after.1 };
-      shallow =
-          omega (
-            arith,
-            c.in_default.ensures.fewer,
-            now,
-            length-reverse c.loop-collection.stack.items,
-            c.loop-collection.invariant.shallow,
-          );
+      shallow = omega (arith, length-reverse c.loop-collection.stack.items);
     }
 
 pub returns-in-Err : goal.returns-in-Err
