@@ -5,7 +5,8 @@ import shutil
 import sys
 import unittest
 
-sys.path.insert(0, str(pathlib.Path(__file__).resolve().parents[1] / "tools"))
+sys.path[:0] = [str(pathlib.Path(__file__).resolve().parents[1] / it) for it in ("tools", "checks")]
+import kept
 import library
 import pages
 
@@ -49,30 +50,33 @@ def on_each(paths, new, said):
 
 
 class Kept(unittest.TestCase):
-    """Tests over copies of these files alone: one that passed isn't run again before one of them changes."""
+    """Tests that read these files alone: one that passed isn't run again before one of them changes."""
 
     reads = []
 
-    def run(self, result=None):
-        from checks import kept
-
+    def key(self):
+        """The sum of all that the verdict depends on."""
         own = [__file__, kept.__file__, sys.modules[type(self).__module__].__file__]
-        sums = [kept.sum_of(it) for it in [*map(pathlib.Path, own), *(pages.ROOT / it for it in self.reads)]]
-        key = kept.key_of(self.id(), kept.output_of(kept.MACHINE), sums)
-        if self.reads and kept.read(key):
+        read = [*map(pathlib.Path, own), *(pages.ROOT / it for it in self.reads)]
+        return kept.key_of(self.id(), kept.output_of(kept.MACHINE), [*map(kept.sum_of.__wrapped__, read)])
+
+    def run(self, result=None):
+        key = self.key() if self.reads else None
+        if key and kept.read(key):
             print(f"kept: {self.id()}", file=sys.stderr)
             result.startTest(self)
             result.addSuccess(self)
             return result.stopTest(self)
-        before = self.complaints(result)
+        before = complaints(result)
         super().run(result)
-        if self.reads and self.complaints(result) == before:
+        if key and complaints(result) == before and self.key() == key:
             kept.write(key, "ok")
         return result
 
-    @staticmethod
-    def complaints(result):
-        return len(result.failures + result.errors + result.skipped)
+
+def complaints(result):
+    """How many tests weren't passed."""
+    return len(result.failures + result.errors + result.skipped)
 
 
 class Judge(unittest.TestCase):

@@ -8,7 +8,7 @@ import tempfile
 import unittest
 from unittest import mock
 
-from checks import judge, kept
+from checks import judge
 from pages import ROOT, text_of
 
 CONTROL = "README.md", "", "lost", "it begins with lost"
@@ -110,11 +110,11 @@ class Keeping(unittest.TestCase):
                         self.skipTest(ends)
                     self.assertEqual(ends, "passed")
 
-            with mock.patch.dict(os.environ, ANEW=anew), mock.patch.object(kept, "sum_of", lambda _: of):
+            with mock.patch.dict(os.environ, ANEW=anew), mock.patch.object(judge.Kept, "key", lambda _: of):
                 return failures_of(Reading), len(ran)
 
         bad = {"test_it"}
-        with tempfile.TemporaryDirectory() as folder, mock.patch.object(kept, "FOLDER", pathlib.Path(folder)):
+        with tempfile.TemporaryDirectory() as folder, mock.patch.object(judge.kept, "FOLDER", pathlib.Path(folder)):
             self.assertEqual([run("failed"), run("skipped"), run("passed")], [(bad, 1), (set(), 2), (set(), 3)])
             self.assertEqual([run("failed"), run("failed", "another")], [(set(), 3), (bad, 4)])
             self.assertEqual([run("failed", anew="1"), run("failed")], [(bad, 5), (set(), 5)])
@@ -151,7 +151,7 @@ class Run(unittest.TestCase):
         with tempfile.TemporaryDirectory() as name:
             top = pathlib.Path(name)
             (top / "checks").mkdir()
-            for path in ("checks/run", "checks/judge.py", "checks/__init__.py"):
+            for path in ("checks/run", "checks/judge.py", "checks/kept.py", "checks/__init__.py"):
                 shutil.copy2(ROOT / path, top / path)
             os.symlink(ROOT / "tools", top / "tools")
             head = "import unittest\nfrom checks import judge\nclass It(unittest.TestCase):\n    def test_it(self):\n"

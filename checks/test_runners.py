@@ -112,6 +112,15 @@ class Faults(Copy):
         ended, printed = self.ran("checks/faults/run")
         self.assertEqual((ended, printed.count(": found by ")), (0, len(names)), printed)
 
+    def test_each_has_the_files_of_its_own_words(self):
+        script = '#!/bin/sh\ncat "$1" && grep one c/it || echo it is gone\ngrep one c/it && test -e "$1"\n'
+        self.write("checks/pages/pages_test", script, 0o755)
+        for name, page in ("first", "README.md"), ("second", "docs/START_C.md"):
+            self.write(page, "a page\n")
+            self.write_fault(name, f"red: checks/pages/pages_test {page}", *self.CASES[0][2:4])
+        status, printed = self.ran("checks/faults/run")
+        self.assertEqual((status, printed.count(": found by ")), (0, 2), printed)
+
     def test_which_verdicts_are_kept(self):
         script = "#!/bin/sh\ngrep one c/it || echo it is gone\ngrep one c/it\n"
         self.write("python/run", script, 0o755)
@@ -155,7 +164,7 @@ echo "tried: $it"
 echo "$it" >>"$TOP/said"
 [ "$it" != "$FAILS" ] || exit 101
 """
-    reads = ["checks/library/run", "checks/library/try", "checks/kept.py", "tools/pages.py"]
+    reads = ["checks/library/run", "checks/library/try", "checks/kept.py", "tools/pages.py", "checks/pages/pages_test"]
     # What is never kept; and what is asked for the sum of the crates.
     ALWAYS = {"tools/sums compare", "make -s -C c", "checks/faults/proved_test"}
     SUMS = "tools/sums"

@@ -24,8 +24,10 @@ def sources_in(*languages):
             yield str(path.relative_to(ROOT))
 
 
-class Linters(judge.unittest.TestCase):
+class Linters(judge.Kept):
     """A linter over the scripts of a language, and over one that is wrong."""
+
+    reads = [path for _, languages, *_ in LINTERS for path in sources_in(*languages)]
 
     def checked(self, command, *paths):
         ran = subprocess.run([*command, *paths], cwd=ROOT, capture_output=True, text=True)
