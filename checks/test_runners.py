@@ -282,45 +282,6 @@ class Program(Copy):
         self.assertRegex(errors, "^wkb_hex: rt of the Rattle kit, .* is not on the PATH\n$")
 
 
-class LeftOut(unittest.TestCase):
-    """checks/sources/left_out over logs, on machines that lack a package or none, and have or lack all else."""
-
-    OK = "== step: checks/run\nRan 99 tests in 9.9s\n\nOK (skipped=1)\n"
-    # A log, whether a package is missing, whether the commands of OTHERS find what they look for, and what is wrong.
-    CASES = [
-        (OK, False, False, []),
-        (f"{OK}Ran 98 tests in 9.9s\n\nFAILED\n", False, False, ["checks/run ran 98 of 50 tests: FAILED"]),
-        (OK.replace("99", "9") + OK.replace("checks", "rust"), False, False, ["checks/run ran 9 of 50 tests: OK"]),
-        ("== step: checks/run\nOK\n", False, False, ["checks/run ran 0 of 50 tests: none"]),
-        ("== step: it\nit: left out: this, since it rains\n", True, True, []),
-        ("== step: it\nit: left out: this, since it rains\n", False, False, ["it left out this, since it rains"]),
-        ("== step: it\nleft out: this, since there is no rt\n", False, False, []),
-        ("== step: it\nleft out: this, since there is no rt\n", True, True, ["it left out this, since there is no rt"]),
-        ("== step: it\ntried: false commits\n", False, True, []),
-        ("== step: it\ntried: false commits\n", False, False, ["it tried false commits, which"]),
-        ("== step: rt ci\nleft out: it, since it rains\n", False, False, []),
-    ]
-
-    def test_each(self):
-        left_out = module("checks/sources/left_out")
-        for log, is_missing, has_all, wrong in self.CASES:
-            with self.subTest(log=log, is_missing=is_missing):
-                found = [*left_out.faults(log, ["it"] * is_missing, lambda _: has_all)]
-                self.assertEqual([it[: len(say)] for it, say in zip(found, wrong)], wrong)
-                self.assertEqual(len(found), len(wrong))
-
-    def test_its_status(self):
-        for log, status in (self.OK, 0), ("== step: checks/run\n", 1):
-            with tempfile.NamedTemporaryFile("w") as file:
-                file.write(log)
-                file.flush()
-                with contextlib.redirect_stdout(io.StringIO()):
-                    self.assertEqual(module("checks/sources/left_out").main([file.name]), status)
-
-    def test_the_machine(self):
-        self.assertEqual([*map(module("checks/sources/left_out").is_here, ("true", "false"))], [True, False])
-
-
 class Memory(Copy):
     """checks/memory/run over a program that allocates once."""
 
