@@ -46,19 +46,21 @@ READS = {
     "postgres/run": f"{C} postgres/* tools/version",
     "page magnitudes": "README.md docs/RECIPES.md docs/START_SQL.md",
     "python rows": f"{PYTHON} checks/hosts/hostile.py",
-    "c/proved/prove": f"{SOURCES} c/proved/* c/wkb_proved.S",
+    "c/proved/prove checks/faults/proved_test": f"{SOURCES} c/proved/* c/wkb_proved.S c/wkb.h",
     "checks/systems/second_compiler": f"{C} {SOURCES}",
 }
 # What they copy beside this: a page for its links, and a crate for tools/sums, so that nothing else of it counts.
 CARRIED = {
-    "README.md c/proved/prove checks/systems/second_compiler": "crates/*",
+    "README.md c/proved/prove checks/faults/proved_test checks/systems/second_compiler": "crates/*",
     "checks/systems/dist_test c/package/package.md": "crates/* SECURITY.md CHANGELOG.md docs/SYSTEMS.md docs/FORMAT.md "
     "docs/RECIPES.md docs/START_[CSP]*.md",
 }
 LINK = re.compile(r"\[[^]]*\]\([^)]*\)")
-# What else a command finds: the system, and what is installed in it.
+# What else a command finds: the system, what is installed in it, and whether git's history has the commit of PROVED.
 MACHINE = """id -u; uname -srvm; rt version; ls -lL "$(dirname "$(rt doc)")"/{bin,toolchain/bin}
 cargo -V; rustc -V; cat /var/lib/dpkg/status || date +%N
+git merge-base --is-ancestor "$(sed -n "s/^commit //p" c/proved/PROVED)" HEAD; echo $?
+git rev-list --max-parents=0 HEAD; git rev-parse --is-shallow-repository
 ls -d ~/.pyenv/versions/* {/usr/local,~/.pyenv/versions/*}/lib/python3*/*-packages/* ~/.cargo/registry/src/*/* \
   ~/.cache/python-aarch64
 env | grep -E "^(PATH|CC|CXX|[A-Z]*FLAGS|PROVED|PYTHON|PYENV_ROOT|CALL|STRICT)=" | sort"""

@@ -166,10 +166,11 @@ echo "$it" >>"$TOP/said"
 """
     reads = ["checks/library/run", "checks/library/try", "checks/kept.py", "tools/pages.py", "checks/pages/pages_test"]
     # What is never kept; and what is asked for the sum of the crates.
-    ALWAYS = {"tools/sums compare", "make -s -C c", "checks/faults/proved_test"}
+    ALWAYS = {"tools/sums compare", "make -s -C c"}
     SUMS = "tools/sums"
     PAGE = "checks/pages/pages_test"
-    PROOF = {"c/proved/prove c/out/proved", "tools/sums same c/out/proved", "checks/systems/second_compiler"}
+    PROOF = {"c/proved/prove c/out/proved", "tools/sums same c/out/proved", "checks/systems/second_compiler",
+             "checks/faults/proved_test"}
     SYSTEMS = {f"checks/systems/{it}_test" for it in "cross pads windows unrun cmake install dist wheels".split()}
     CALLS = [
         *ALWAYS, *PROOF, *SYSTEMS, "checks/library/lasting", "checks/library/lasting others",
@@ -228,6 +229,13 @@ echo "$it" >>"$TOP/said"
         self.assertEqual(self.status()[1], self.ALWAYS | of_crates)
         self.write("sqlite/run", "#!/bin/sh\necho left out: it\n", 0o755)
         self.assertEqual([self.status()[2].count("kept: sqlite/run") for _ in range(2)], [0, 0])
+
+    def test_which_parts_are_kept_of_another_history(self):
+        need("git")
+        commit = "git init -q; git add -A; git -c user.name=it -c user.email=it@example.org commit -qm"
+        for message in "first", "other --amend":
+            subprocess.run(["bash", "-c", f"{commit} {message}"], cwd=self.top, check=True)
+            self.assertEqual([self.status()[1] for _ in range(2)], [{*self.CALLS}, self.ALWAYS])
 
     def test_it_fails_with_each(self):
         self.status()
