@@ -1,6 +1,6 @@
 -- A walk that visits coordinates part by part.
-use Rattle.std.proofs.Common.{◌≡◌, ℕ, suc, ◌+◌, ◌<◌, ◌≤◌, List, [], ◌∷◌, ◌++◌, flat_map, drop, length}
-use Rattle.std.proofs.Common.{Some, slice_get, refl, sym, ap, subst, ◌∙◌, arith, append_assoc, append-nil}
+use Rattle.std.proofs.Common.{◌≡◌, ℕ, ◌+◌, ◌<◌, ◌≤◌, List, [], ◌∷◌, ◌++◌, flat_map, drop, length}
+use Rattle.std.proofs.Common.{Some, slice_get, refl, sym, ap, subst, ◌∙◌, append_assoc, append-nil}
 use Rattle.std.specs.Prelude.{Option, option_map, slice_index_or}
 use Rattle.std.proofs.lemmas.List.{drop_all}
 use Rattle.std.proofs.lemmas.Option.{slice_get-get_or}
@@ -32,13 +32,11 @@ module _ {S : Type 0} (has : S → List Coordinate → Type 0) where
       → VisitsBefore f old now xs i → slice_get xs i ≡ Some x → Visits has now next (f x)
       → VisitsBefore f old next xs (i + 1)
   visits_next f old now next xs i x so_far at step =
-      let after : i + 1 ≡ suc i = omega arith in
       record {
         left = λ new h.
             so_far.left new
             (subst (λ l. Visits has now new (flat_map f l)) (sym (drop_at xs i x at))
-            (visits_both now next new (f x) (flat_map f (drop (suc i) xs)) step
-            (subst (λ n. Visits has next new (flat_map f (drop n xs))) after h)));
+            (visits_both now next new (f x) (flat_map f (drop (i + 1) xs)) step h));
       }
 
   -- as a call that may find none returned the item

@@ -180,14 +180,15 @@ pub begins_there : {start : ℕ} {part whole : List ℕ} → StandsAt start part
 begins_there {start = start} {part = part} {whole = whole} h =
     sym (take-append-drop (length part) (drop start whole)) ∙ ap (λ t. t ++ drop (length part) (drop start whole)) h.is
 
--- The bytes of a number hold it, and what follows them is behind them.
-pub number_is_read : (order : Endianness) (n x : ℕ) (rest : List ℕ) → x < 256 ^ n
-    → (n ≤ length (number_bytes order n x ++ rest))
-    × (number order n (number_bytes order n x ++ rest) ≡ x)
-    × (drop n (number_bytes order n x ++ rest) ≡ rest)
-number_is_read order n x rest fits =
-    begins_number order n x (number_bytes order n x ++ rest) rest
-    (record { front = number_bytes order n x; whole = refl; first = IsNumber-number_bytes order n x fits })
+-- The bytes of a number at an offset hold it, and what follows them is behind them.
+pub number_is_read : (order : Endianness) (n x at : ℕ) (blob rest : List ℕ) → x < 256 ^ n
+    → drop at blob ≡ number_bytes order n x ++ rest
+    → (n ≤ length (drop at blob)) × (number order n (drop at blob) ≡ x) × (drop (at + n) blob ≡ rest)
+number_is_read order n x at blob rest fits is =
+    let read =
+    begins_number order n x (drop at blob) rest
+    (record { front = number_bytes order n x; whole = is; first = IsNumber-number_bytes order n x fits }) in
+    (read.0, read.1, sym (drop-drop n at blob) ∙ read.2)
 
 -- ---- what views count, and the options' SRID
 

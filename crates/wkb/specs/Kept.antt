@@ -1,10 +1,7 @@
 -- Lemmas: the turns of a loop that keeps some items of a list, told by a relation.
-use Rattle.std.proofs.Common.{◌≡◌, ℕ, suc, ◌+◌, ◌<◌, ◌≤◌, List, [], ◌∷◌, ◌++◌, drop, length, sym, subst, arith}
-use Rattle.std.proofs.Common.{append_assoc, append-nil}
+use Rattle.std.proofs.Common.{ℕ, ◌+◌, ◌<◌, ◌≤◌, List, [], ◌∷◌, ◌++◌, drop, length, sym, subst, append_assoc, append-nil}
 use Rattle.std.specs.Prelude.{slice_index_or}
-use Rattle.std.proofs.lemmas.List.{drop_all}
-use Rattle.std.proofs.lemmas.Option.{slice_get-get_or}
-use Rattle.wkb.specs.Ranges.{drop_at}
+use Rattle.std.proofs.lemmas.List.{drop_all, drop_more}
 pub use Rattle.wkb.specs.Terms.{Keeps, none, kept, left, KeepsBefore}
 
 -- Before the first item none is kept.
@@ -16,26 +13,22 @@ pub keeps_one : {A : Type 0} (P Q : A → Type 0) (xs ks : List A) (i : ℕ) (x 
     → i < length xs → P (slice_index_or xs i x) → KeepsBefore P Q xs (ks ++ (slice_index_or xs i x ∷ [])) (i + 1)
 keeps_one P Q xs ks i x so_far inside is =
     let y = slice_index_or xs i x in
-    let next : i + 1 ≡ suc i = omega arith in
     record {
       before = λ more h.
           subst (Keeps P Q xs) (sym (append_assoc ks (y ∷ []) more))
           (so_far.before (y ∷ more)
-          (subst (λ l. Keeps P Q l (y ∷ more)) (sym (drop_at xs i y (slice_get-get_or xs i x inside)))
-          (kept y (drop (suc i) xs) more is (subst (λ n. Keeps P Q (drop n xs) more) next h))));
+          (subst (λ l. Keeps P Q l (y ∷ more)) (sym (drop_more xs i x inside)) (kept y (drop (i + 1) xs) more is h)));
     }
 
 -- A loop leaves the item at an index out, of which Q holds.
 pub leaves_one : {A : Type 0} (P Q : A → Type 0) (xs ks : List A) (i : ℕ) (x : A) → KeepsBefore P Q xs ks i
     → i < length xs → Q (slice_index_or xs i x) → KeepsBefore P Q xs ks (i + 1)
 leaves_one P Q xs ks i x so_far inside is =
-    let y = slice_index_or xs i x in
-    let next : i + 1 ≡ suc i = omega arith in
     record {
       before = λ more h.
           so_far.before more
-          (subst (λ l. Keeps P Q l more) (sym (drop_at xs i y (slice_get-get_or xs i x inside)))
-          (left y (drop (suc i) xs) more is (subst (λ n. Keeps P Q (drop n xs) more) next h)));
+          (subst (λ l. Keeps P Q l more) (sym (drop_more xs i x inside))
+          (left (slice_index_or xs i x) (drop (i + 1) xs) more is h));
     }
 
 -- Behind the last item all were looked at.

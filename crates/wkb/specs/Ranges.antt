@@ -1,14 +1,18 @@
 -- Lemmas: what a range says of the numbers that it was widened by, and of those of a value on an axis.
-use Rattle.std.proofs.Common.{◌≡◌, ℕ, zero, suc, ◌+◌, ◌≤◌, List, [], ◌∷◌, ◌++◌, take, drop, Bool, true, false, Some}
-use Rattle.std.proofs.Common.{refl, sym, ap, subst, ◌∙◌, slice_get, nat_lt, if◌then◌else◌, arith}
+use Rattle.std.proofs.Common.{◌≡◌, ℕ, zero, suc, ◌+◌, ◌≤◌, List, [], ◌∷◌, ◌++◌, length, take, drop, Bool, true, false}
+use Rattle.std.proofs.Common.{Some, refl, sym, ap, subst, ◌∙◌, slice_get, nat_lt, if◌then◌else◌, arith}
+use Rattle.std.specs.Prelude.{slice_index}
 use Rattle.std.proofs.lemmas.Bool.{ltb-true, ltb-false}
+use Rattle.std.proofs.lemmas.List.{drop_all, drop_more}
+use Rattle.std.proofs.lemmas.Option.{slice_get_within, get_or_from_slice_get}
 use Rattle.wkb.specs.Prelude.{Dimension, is_nan}
 use Rattle.wkb.specs.Values.{Coordinate, Value, Values, no_members, member}
 use Rattle.wkb.specs.Checks.{Range, rank, lower, higher, with_number, with_word, widened, range_of, no_numbers, Axis}
 use Rattle.wkb.specs.Checks.{axis_place, words_in, words_on, Bounds, AreBounds, x_axis, y_axis, z_axis, m_axis}
-use Rattle.wkb.specs.Reads.{list_of_values}
+use Rattle.wkb.specs.Lawful.{x_is_there, y_is_there}
+use Rattle.wkb.specs.Reads.{list_of_values, Coord, words_seen}
 use Rattle.wkb_bounds.specs.Ordinates.{words_of_each, word_at, words_on_each}
-pub use Rattle.wkb.specs.Terms.{IsWithin, BringsWithin}
+pub use Rattle.wkb.specs.Terms.{IsWithin, BringsWithin, WidenedBefore}
 
 -- ---- a range that is widened by a word
 
@@ -113,30 +117,53 @@ member_within a (member u ts) (suc k) t x at h =
 -- ---- a loop over coordinates
 
 -- The items from an index on are the one there and those behind it.
-pub drop_at : {A : Type 0} (xs : List A) (i : ℕ) (x : A) → slice_get xs i ≡ Some x → drop i xs ≡ x ∷ drop (suc i) xs
-drop_at [] i x at = absurd (cc)
-drop_at (y ∷ xs) zero x at =
-    let same : y ≡ x = cc in
-    ap (λ z. z ∷ xs) same
-drop_at (y ∷ xs) (suc i) x at = drop_at xs i x at
-
--- A range that the coordinate of this number has widened is still to be widened by those after it.
-pub widened_next : (a : Axis) (d : Dimension) (r : Range) (cs : List Coordinate) (i n w : ℕ) (c : Coordinate)
-    → axis_place a d ≡ Some n → slice_get cs i ≡ Some c → slice_get c n ≡ Some w
-    → widened (with_word r w) (words_in a d (drop (i + 1) cs)) ≡ widened r (words_in a d (drop i cs))
-widened_next a d r cs i n w c place at word =
-    let next : i + 1 ≡ suc i = omega arith in
-    ap (λ k. widened (with_word r w) (words_in a d (drop k cs))) next
-    ∙ sym (ap (λ l. widened r (words_in a d l)) (drop_at cs i c at)
-    ∙ ap (λ ws. widened r (ws ++ words_in a d (drop (suc i) cs))) (word_on a d c n w place word))
+pub drop_at : {A : Type 0} (xs : List A) (i : ℕ) (x : A) → slice_get xs i ≡ Some x → drop i xs ≡ x ∷ drop (i + 1) xs
+drop_at xs i x at =
+    drop_more xs i x (slice_get_within xs i x at) ∙ ap (λ y. y ∷ drop (i + 1) xs) (get_or_from_slice_get xs i x x at)
 
 counted_by : (r : Range) (w : ℕ) (b : Bool) → (if b then r else with_number r w).count ≤ r.count + 1
 counted_by r w true = omega arith
 counted_by r w false = omega arith
 
--- A word counts at most once.
-pub counts_once : (r : Range) (w : ℕ) → (with_word r w).count ≤ r.count + 1
-counts_once r w = counted_by r w (is_nan w)
+-- Before the first coordinate the range has no number.
+pub widening_starts : (a : Axis) (d : Dimension) (r : Range) (cs : List Coordinate) → r ≡ no_numbers
+    → WidenedBefore a d r cs 0
+widening_starts a d r cs empty =
+    record { left = ap (λ q. widened q (words_in a d cs)) empty; few = omega (arith, ap (λ q. q.count) empty) }
+
+-- The word of the coordinate at an index widens it.
+pub widens_next : (a : Axis) (d : Dimension) (r next : Range) (cs : List Coordinate) (i n w : ℕ) (c : Coordinate)
+    → WidenedBefore a d r cs i → axis_place a d ≡ Some n → slice_get cs i ≡ Some c → slice_get c n ≡ Some w
+    → next ≡ with_word r w → WidenedBefore a d next cs (i + 1)
+widens_next a d r next cs i n w c so_far place at word is = record {
+  left =
+      ap (λ q. widened q (words_in a d (drop (i + 1) cs))) is
+      ∙ sym (ap (λ l. widened r (words_in a d l)) (drop_at cs i c at)
+      ∙ ap (λ ws. widened r (ws ++ words_in a d (drop (i + 1) cs))) (word_on a d c n w place word))
+      ∙ so_far.left;
+  few = omega (arith, so_far.few, ap (λ q. q.count) is, counted_by r w (is_nan w));
+}
+
+-- So does the x of a coordinate that was read, on the axis of x; and its y, on that of y.
+pub widens_x : (d : Dimension) (r next : Range) (cs : List Coordinate) (i w : ℕ) (c : Coord)
+    → WidenedBefore x_axis d r cs i → slice_get cs i ≡ Some (words_seen c) → w ≡ slice_index (words_seen c) 0
+    → next ≡ with_word r w → WidenedBefore x_axis d next cs (i + 1)
+widens_x d r next cs i w c so_far at word =
+    widens_next x_axis d r next cs i 0 w (words_seen c) so_far refl at (x_is_there c w word)
+
+pub widens_y : (d : Dimension) (r next : Range) (cs : List Coordinate) (i w : ℕ) (c : Coord)
+    → WidenedBefore y_axis d r cs i → slice_get cs i ≡ Some (words_seen c) → w ≡ slice_index (words_seen c) 1
+    → next ≡ with_word r w → WidenedBefore y_axis d next cs (i + 1)
+widens_y d r next cs i w c so_far at word =
+    widens_next y_axis d r next cs i 1 w (words_seen c) so_far refl at (y_is_there c w word)
+
+-- Behind the last coordinate it is the range of all.
+pub widening_ends : (a : Axis) (d : Dimension) (r : Range) (cs : List Coordinate) (i : ℕ) → WidenedBefore a d r cs i
+    → length cs ≤ i → r ≡ range_of (words_in a d cs)
+widening_ends a d r cs i so_far all =
+    sym (ap (λ l. widened r (words_in a d l)) (drop_all i cs all)) ∙ so_far.left
+
+pub ruleset widening_laws = (widening_starts, widens_x, widens_y, widening_ends)
 
 -- ---- the bounds of a value
 

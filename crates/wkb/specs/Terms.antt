@@ -7,11 +7,11 @@ use Rattle.wkb_geom.specs.declared.geom.GeometryType.TheVariants.{MultiLineStrin
 use Rattle.wkb_view.specs.declared.point.Point as points
 use Rattle.wkb_view.specs.declared.line_string.LineString as lines
 use Rattle.wkb_view.specs.declared.multi_point.MultiPoint as multi_points
-use Rattle.wkb.specs.Prelude.{Endianness, Ewkb, is_nan}
+use Rattle.wkb.specs.Prelude.{Dimension, Endianness, Ewkb, is_nan}
 use Rattle.wkb.specs.Values.{Coordinate, nest}
 use Rattle.wkb.specs.Spellings.{Spelling, SpellsCoordinates, Front, max_nesting, HasOptions, header}
 use Rattle.wkb.specs.Geometries.{Geometry, normal}
-use Rattle.wkb.specs.Checks.{Range, rank, widened}
+use Rattle.wkb.specs.Checks.{Axis, Range, range_of, rank, widened, words_in}
 use Rattle.wkb.specs.Writes.{WriteOptions}
 use Rattle.wkb.specs.Reads.{Listed, Item, order_of, LinearRing, ring_seen, ring_encoding, IsFront}
 use Rattle.wkb.specs.Reads.{IsOnlyFront}
@@ -25,6 +25,11 @@ pub record IsWithin (r : Range) (w : ℕ) : Type 0 where
 -- Whatever range is widened by these words, the word is within it.
 abbrev pub BringsWithin : List ℕ → ℕ → Type 0
 BringsWithin ws w = (r : Range) → IsWithin (widened r ws) w
+
+-- The coordinates before an index have widened the range: widened by those from it on, it is the range of all.
+pub record WidenedBefore (a : Axis) (d : Dimension) (r : Range) (cs : List Coordinate) (i : ℕ) : Type 0 where
+  pub left : widened r (words_in a d (drop i cs)) ≡ range_of (words_in a d cs)
+  pub few : r.count ≤ i
 
 -- The least and the greatest of a range are numbers.
 pub record HasNumbers (r : Range) : Type 0 where

@@ -33,17 +33,11 @@ record Says (flags order kind : ℕ) (empty : Bool) : Type 0 where
 
 says : (order kind : ℕ) (empty : Bool) → order ≤ 1 → kind ≤ 1
     → Says (order + 2 * kind + (if empty then 16 else 0)) order kind empty
-says order kind true low few = record {
-  clear = omega arith;
-  order_is = omega arith;
-  kind_is = omega arith;
-  empty_is = sym (le-leb 16 _ (omega arith));
-}
-says order kind false low few = record {
-  clear = omega arith;
-  order_is = omega arith;
-  kind_is = omega arith;
-  empty_is = sym (lt-leb 16 _ (omega arith));
+says order kind empty low few = record {
+  clear = grind arith;
+  order_is = grind arith;
+  kind_is = grind arith;
+  empty_is = grind arith;
 }
 
 header_is : (h : BlobHeader) (rest : List ℕ) → h.envelope ≤ 1 → h.srs < 2 ^ 32
@@ -51,7 +45,7 @@ header_is : (h : BlobHeader) (rest : List ℕ) → h.envelope ≤ 1 → h.srs < 
 header_is h rest few fits long =
     let order = order_again h.order in
     let said = says (order_byte h.order) h.envelope h.empty order.0 few in
-    let srs = number_is_read h.order 4 h.srs rest fits in
+    let srs = number_is_read h.order 4 h.srs 4 (header_bytes h ++ rest) rest fits refl in
     record {
       g = refl;
       p = refl;
@@ -83,33 +77,21 @@ around_own false v w p q =
     rw (p, q, le-leb (rank v) (rank v) (omega arith), le-leb (rank w) (rank w) (omega arith)) refl
 
 module _ (order : Endianness) (blob : List ℕ) where
-  two_words : (at v w : ℕ) (rest : List ℕ) → v < 2 ^ 64 → w < 2 ^ 64
-      → drop at blob ≡ (number_bytes order 8 v ++ number_bytes order 8 w) ++ rest
-      → (number order 8 (drop at blob) ≡ v)
-      × (number order 8 (drop (at + 8) blob) ≡ w)
-      × (drop (at + 8 + 8) blob ≡ rest)
-  two_words at v w rest low high is =
-      let first = number_is_read order 8 v (number_bytes order 8 w ++ rest) low in
-      let second = number_is_read order 8 w rest high in
-      let here = is ∙ append_assoc (number_bytes order 8 v) (number_bytes order 8 w) rest in
-      let next = sym (drop-drop 8 at blob) ∙ ap (drop 8) here ∙ first.2 in (
-        ap (number order 8) here ∙ first.1,
-        ap (number order 8) next ∙ second.1,
-        sym (drop-drop 8 (at + 8) blob) ∙ ap (drop 8) next ∙ second.2,
-      )
-
   -- the words that are written of an axis are around it
   axis_written : (at : ℕ) (r : Range) (ws rest : List ℕ) → IsOfWords r → r ≡ range_of ws
       → drop at blob ≡ range_bytes order r ++ rest
       → (axis_around order blob at r ≡ true) × (drop (at + 8 + 8) blob ≡ rest)
   axis_written at r ws rest words of is =
       let none = r.count == 0 in
+      let v = word_or_nan none r.least in
+      let w = word_or_nan none r.greatest in
       let numbers = subst HasNumbers (sym of) (range_has_numbers ws) in
-      let t = two_words at (word_or_nan none r.least) (word_or_nan none r.greatest) rest
-      (fits none r.least words.low) (fits none r.greatest words.high) is in (
-        (λ i. is_around none (t.0 i) (t.1 i) r.least r.greatest)
+      let low = number_is_read order 8 v at blob (number_bytes order 8 w ++ rest) (fits none r.least words.low)
+      (is ∙ append_assoc (number_bytes order 8 v) (number_bytes order 8 w) rest) in
+      let high = number_is_read order 8 w (at + 8) blob rest (fits none r.greatest words.high) low.2 in (
+        (λ i. is_around none (low.1 i) (high.1 i) r.least r.greatest)
             ∙ around_own none r.least r.greatest numbers.least numbers.greatest,
-        t.2,
+        high.2,
       )
 
   envelope_written : (b : Bounds) (t : Value) (body : List ℕ) (kind : ℕ) → IsOfWords b.x → IsOfWords b.y
@@ -120,7 +102,7 @@ module _ (order : Endianness) (blob : List ℕ) where
       let p = axis_written 8 b.x (words_on x_axis t) (range_bytes order b.y ++ body) x (bounded x_axis)
       (is ∙ append_assoc (range_bytes order b.x) (range_bytes order b.y) body) in
       let q = axis_written 24 b.y (words_on y_axis t) body y (bounded y_axis) p.1 in
-      (λ i. p.0 i && (q.0 i && true), q.1)
+      (λ i. (p.0 i && q.0 i) && true, q.1)
   envelope_written b t body (suc (suc k)) x y bounded few is = absurd (omega (arith, few))
 
 some_bytes : (buf : List ℕ) (w : Item) → IsFront buf w → 0 < length buf
@@ -133,10 +115,10 @@ pub written : (h : BlobHeader) (w : Item) (b : Bounds) (blob : List ℕ) → h.e
     → blob ≡ header_bytes h ++ (envelope_bytes h.order h.envelope b ++ w.encoding) → HoldsGeometry blob h w
 written h w b blob few fits x y iso front bounded is =
     let rest = envelope_bytes h.order h.envelope b ++ w.encoding in
-    let behind : drop 8 blob ≡ rest = ap (drop 8) is ∙ (number_is_read h.order 4 h.srs rest fits).2 in
+    let behind = (number_is_read h.order 4 h.srs 4 blob rest fits (ap (drop 4) is)).2 in
     let e = envelope_written h.order blob b w.value w.encoding h.envelope x y bounded few behind in
     let long : start_behind h.envelope ≤ length (header_bytes h ++ rest) =
     omega (arith, length-drop (start_behind h.envelope) blob, ap length e.1, ap length is, some_bytes w.encoding w front) in
     let head = subst (λ l. IsBlobHeader l h) (sym is) (header_is h rest few fits long) in
-    holds blob w.encoding h b w head (sym (ap (λ k. drop (start_behind k) blob) (sym head.envelope) ∙ e.1)) iso bounded
+    holds blob w.encoding h head (sym (ap (λ k. drop (start_behind k) blob) (sym head.envelope) ∙ e.1)) b w iso bounded
     (sym e.0) front

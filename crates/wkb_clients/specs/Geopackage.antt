@@ -81,7 +81,7 @@ others_around order kind blob b =
 abbrev pub envelope_around : Endianness → ℕ → List ℕ → Bounds → Bool
 envelope_around order kind blob b =
     if kind == 0 then true
-    else axis_around order blob 8 b.x && (axis_around order blob 24 b.y && others_around order kind blob b)
+    else (axis_around order blob 8 b.x && axis_around order blob 24 b.y) && others_around order kind blob b
 
 -- whether the code has a flag of EWKB, of which the WKB of ISO 13249-3 has none
 abbrev pub is_ewkb : List ℕ → Bool
@@ -93,8 +93,7 @@ pub record HoldsGeometry (blob : List ℕ) (h : BlobHeader) (w : Item) : Type 0 
   pub header : IsBlobHeader blob h
   pub iso : is_ewkb (body_of blob) ≡ false
   pub front : IsFront (body_of blob) w
-  pub around : (b : Bounds) → AreBounds b w.value
-      → envelope_around (header_order blob) (envelope_kind blob) blob b ≡ true
+  pub around : (b : Bounds) → AreBounds b w.value → envelope_around h.order h.envelope blob b ≡ true
 
 abbrev pub HoldsNoGeometry : List ℕ → Type 0
 HoldsNoGeometry blob = (h : BlobHeader) (w : Item) → HoldsGeometry blob h w → ⊥
@@ -105,7 +104,7 @@ pub record HasWrongEnvelope (blob : List ℕ) : Type 0 where
   pub is_header : IsBlobHeader blob header
   pub bounds : Bounds
   pub front : BoundsFront (body_of blob) bounds
-  pub wrong : envelope_around (header_order blob) (envelope_kind blob) blob bounds ≡ false
+  pub wrong : envelope_around header.order header.envelope blob bounds ≡ false
 
 -- There is a header, and EWKB behind it.
 pub record HoldsEwkb (blob : List ℕ) : Type 0 where

@@ -1,12 +1,14 @@
 //! A word of a ring of a polygon in a collection at an offset in a blob: where it is in the blob, or that there is none.
 
+ghost use Rattle.wkb.specs.Geometries.{IsItemAt};
+ghost use Rattle.wkb.specs.Reads.{ring_seen};
 ghost use Rattle.wkb_clients.specs.Collections.{FindsRing, FindsRingWord};
 
 use crate::geopackage::from_offset;
 use std::alloc::Global;
 use wkb::error::WkbResult;
 use wkb::geom::{CoordTrait, GeometryTrait, GeometryType, LineStringTrait, PolygonTrait};
-use wkb::reader::{LinearRing, Wkb, read_wkb};
+use wkb::reader::{LinearRing, Polygon, Wkb, read_wkb};
 
 /// Which word of a collection is meant, each index from 0: the member, its ring (0 is the exterior), the ring's
 /// coordinate, and the word of that (0 is x).
@@ -16,6 +18,17 @@ pub struct WordPath {
     pub ring: usize,
     pub coordinate: usize,
     pub word: usize,
+}
+
+/// A ring of a polygon, the exterior first.
+fn ring_at<'a>(polygon: &Polygon<'a>, ring: usize) -> Option<LinearRing<'a>>
+    ensures { IsItemAt ring_seen result polygon.now.parts ring }
+{
+    if ring == 0 {
+        polygon.exterior()
+    } else {
+        polygon.interior(ring - 1)
+    }
 }
 
 /// A ring of the polygon that is a member of this collection, the exterior first.
@@ -33,11 +46,7 @@ pub fn ring_of_member<'a>(geometry: &Wkb<'a>, member: usize, ring: usize) -> Opt
     let GeometryType::Polygon(polygon) = found.as_type() else {
         return None;
     };
-    if ring == 0 {
-        polygon.exterior()
-    } else {
-        polygon.interior(ring - 1)
-    }
+    ring_at(polygon, ring)
 }
 
 /// The word on this path in the collection at the offset in the blob.

@@ -1,7 +1,7 @@
 //! A reader and a writer of GeoPackage blobs (OGC 12-128, clause 2.1.3): which blobs are read, why no other is, and that
 //! what was written of a geometry is read as it.
 
-ghost use Rattle.std.specs.Prelude.{◌≡◌, ◌+◌, ◌++◌, ◌<◌, ◌≤◌, ◌⊎◌, MatchOption, IfOk, IfErr, drop, length};
+ghost use Rattle.std.specs.Prelude.{◌≡◌, ◌+◌, ◌++◌, ◌<◌, ◌≤◌, ◌⊎◌, ◌&&◌, MatchOption, IfOk, IfErr, drop, length};
 ghost use Rattle.wkb.specs.Prelude.{number_bytes};
 ghost use Rattle.wkb_clients.specs.Geopackage.{IsBlobHeader, HasNoBlobHeader, start_behind, order_said, body_of, is_ewkb};
 ghost use Rattle.wkb_clients.specs.Geopackage.{is_number_at_most, axis_around, other_around, others_around, envelope_around};
@@ -147,6 +147,14 @@ fn others_around(blob: &[u8], order: Endianness, kind: u8, found: Bounds) -> boo
     }
 }
 
+/// Whether the words of x and of y are around those of the bounds.
+fn plane_around(blob: &[u8], order: Endianness, found: Bounds) -> bool
+    requires { 40 ≤ length blob.now }
+    ensures { result ≡ (axis_around order blob.now 8 found.x && axis_around order blob.now 24 found.y) }
+{
+    axis_around(blob, 8, order, found.x) && axis_around(blob, 24, order, found.y)
+}
+
 /// Whether the envelope is around the bounds.
 fn envelope_around(blob: &[u8], order: Endianness, kind: u8, found: Bounds) -> bool
     requires { start_behind kind ≤ length blob.now }
@@ -155,8 +163,7 @@ fn envelope_around(blob: &[u8], order: Endianness, kind: u8, found: Bounds) -> b
     if kind == 0 {
         return true;
     }
-    axis_around(blob, 8, order, found.x)
-        && (axis_around(blob, 24, order, found.y) && others_around(blob, order, kind, found))
+    plane_around(blob, order, found) && others_around(blob, order, kind, found)
 }
 
 /// What the blob holds, or why it isn't read.

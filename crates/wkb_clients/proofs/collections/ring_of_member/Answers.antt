@@ -1,4 +1,4 @@
-use Rattle.std.proofs.Common.{slice_get, Some, sym, ap, ◌∙◌, arith}
+use Rattle.std.proofs.Common.{Some, sym, ap, ◌∙◌}
 use Rattle.wkb.specs.Handed.{not_polygon}
 use Rattle.wkb.specs.Members.{item_found, item_missing, no_member}
 use Rattle.wkb_clients.specs.Common.{polygon}
@@ -20,22 +20,10 @@ returns-in_default-as_type c =
     c.in-GeometryCollection.ensures.view (item_found members c.args.member _ l.0 l.1)
     (not_polygon c.in-Some.found.now c.as_type-2.result c.as_type-2.ensures.view c.in_default-as_type.not-Polygon)
 
-pub returns-then-ring-eq0 : goal.returns-then-ring-eq0
-returns-then-ring-eq0 c =
+pub returns : goal.returns
+returns c =
     let members = c.in-GeometryCollection.members.now in
-    let p = c.in-Polygon.polygon.now in
     let l = c.in-Some.ensures.lookup in
-    ring_or_none c.args.geometry.now members c.args.member c.args.ring p c.exterior.result
+    ring_or_none c.args.geometry.now members c.args.member c.args.ring c.in-Polygon.polygon.now c.ring_at.result
     c.in-GeometryCollection.ensures.view
-    (item_found members c.args.member _ l.0 l.1 ∙ ap Some (sym c.in-Polygon.ensures.view))
-    (c.exterior.ensures.part ∙ ap (slice_get p.parts) (sym c.if-ring-eq0.true))
-
-pub returns-else-ring-eq0 : goal.returns-else-ring-eq0
-returns-else-ring-eq0 c =
-    let members = c.in-GeometryCollection.members.now in
-    let p = c.in-Polygon.polygon.now in
-    let l = c.in-Some.ensures.lookup in
-    ring_or_none c.args.geometry.now members c.args.member c.args.ring p c.interior.result
-    c.in-GeometryCollection.ensures.view
-    (item_found members c.args.member _ l.0 l.1 ∙ ap Some (sym c.in-Polygon.ensures.view))
-    (c.interior.ensures.part ∙ ap (slice_get p.parts) (omega (arith, c.if-ring-eq0.false)))
+    (item_found members c.args.member _ l.0 l.1 ∙ ap Some (sym c.in-Polygon.ensures.view)) c.ring_at.ensures
