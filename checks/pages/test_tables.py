@@ -2,8 +2,7 @@
 
 - docs/PROGRAM.md: the output of each command, and each status with its line, in runs of the program `wkb_hex`, which
   write nothing to standard error.
-- ARCHITECTURE.md: its crates are those of crates.txt, each below those that use it. A path in the table of rules is one
-  of the crate that its row names last.
+- ARCHITECTURE.md: its crates are those of crates.txt, each below those that use it.
 - c/package/package.md: each file is in the package that c/package/dist writes.
 - README's rows of other programs are those of docs/DIFFERENCES.md. How many times as fast it says the bounds are,
   beside OGR and GEOS, is what the bars of docs/SPEED.md show, and where plain C is faster what its quotients say.
@@ -18,7 +17,7 @@ import subprocess
 
 from checks import judge
 from library import wkb
-from pages import ROOT, paths, program, rows_of, spans, text_of, texts
+from pages import ROOT, paths, program, rows_of, spans, text_of
 
 SPEED, PEERS = "docs/SPEED.md", "docs/DIFFERENCES.md"
 QUOTIENTS = "our time / plain C"
@@ -142,47 +141,6 @@ def wrong_crates():
                 yield f"ARCHITECTURE.md: {crate} uses {below}, which stands further down"
 
 
-def is_there(path):
-    """Whether a file or folder of this path is there, with or without its ending."""
-    return (ROOT / path).exists() or any(ROOT.glob(f"{path}.*"))
-
-
-@functools.lru_cache(maxsize=None)
-def code_of(crate):
-    """The code of a crate."""
-    return "\n".join(texts(f"crates/{crate}/src/**/*.rt").values())
-
-
-def defines(crates, name):
-    """Whether the code of one of the crates has an item of this name."""
-    return any(re.search(rf"\b(fn|struct|enum|trait|type|const) {name}\b", code_of(crate)) for crate in crates)
-
-
-def place_of(span, crate, folder):
-    """The path that a name of the table of rules stands for: in a crate, in the last one, or beside the last file."""
-    first = span.split("/")[0]
-    if (ROOT / "crates" / first).is_dir():
-        return f"crates/{span}"
-    if first in ("src", "specs", "proofs"):
-        return f"crates/{crate}/{span}"
-    return span if "/" in span else f"{folder}/{span}"
-
-
-def lost_places():
-    """The places in the table of rules that are not in the crate that their row names last."""
-    for number, heads, row in rows_of("ARCHITECTURE.md"):
-        named = spans(row[1]) if heads == ["rule", "place"] else []
-        crates = [it.split("/")[0] for it in named if (ROOT / "crates" / it.split("/")[0]).is_dir()]
-        crate, folder = "", "crates"
-        for span in named:
-            path = place_of(span, crate, folder)
-            if is_there(path):
-                crate = path.split("/")[1] if path.startswith("crates/") else crate
-                folder = path if (ROOT / path).is_dir() else os.path.dirname(path)
-            elif "/" in span or "." in span or not all(defines(crates, it) for it in span.split("::")):
-                yield f"ARCHITECTURE.md:{number}: {crate or 'the row'} has no `{span}`"
-
-
 def packaged():
     """The files and folders of the package, by the lines of c/package/dist that copy, make and write them."""
     text = text_of("c/package/dist").replace("\\\n", " ")
@@ -245,8 +203,6 @@ class Tables(judge.Judge):
 
     controls = [
         ("ARCHITECTURE.md", "| `wkb_laws` | lemmas", "| `wkb_lost` | lemmas", "of the table differ"),
-        ("ARCHITECTURE.md", "| `wkb_geom/src/error.rt` (", "| `wkb_view/src/error.rt` (", "no `wkb_view/src/error.rt`"),
-        ("ARCHITECTURE.md", "`Fault`), `specs/Errors`", "`Fault`), `specs/Pieces`", "has no `specs/Pieces`"),
         ("crates.txt", "wkb_geom: byteorder", "wkb_geom: wkb_read", "wkb_geom uses wkb_read"),
         ("c/package/package.md", "| `SUMS` |", "| `SUM` |", "no `SUM`"),
         ("README.md", "| rejected | rejected | crash", "| rejected | rejected | no crash", "collections: docs/DIFF"),
@@ -259,8 +215,7 @@ class Tables(judge.Judge):
     is_apart = True
 
     def wrong(self):
-        yield from (*wrong_crates(), *lost_places())
-        yield from (*lost_files(), *wrong_peers(), *wrong_times(), *wrong_losses())
+        yield from (*wrong_crates(), *lost_files(), *wrong_peers(), *wrong_times(), *wrong_losses())
 
 
 class Program(judge.Judge):
