@@ -10,7 +10,7 @@ use Rattle.wkb_check.specs.declared.skip.MemberKind.TheVariants as members
 use Rattle.wkb_geom.specs.Fronts.{max_nesting}
 use Rattle.wkb_geom.specs.Reading.{Reading, Item, ring_in, line_string_of, polygon_of, list_item, list_at}
 use Rattle.wkb_geom.specs.Reading.{multi_point_with, member_at, multi_line_string_at, multi_polygon_at, body_at}
-use Rattle.wkb_geom.specs.Reading.{collection_within, at_no_cost, ring_part, member_body, type_kind, layout_of}
+use Rattle.wkb_geom.specs.Reading.{collection_within, at_no_cost, ring_part, type_kind, layout_of}
 unfoldable use Rattle.wkb_geom.specs.Reading.{repeated, geometry_at, point_at, line_string_at, polygon_at}
 unfoldable use Rattle.wkb_geom.specs.Reading.{multi_point_at}
 use Rattle.wkb_geom.specs.Counted.{coordinate_count}
@@ -79,11 +79,7 @@ rings_walked l n bytes = walked (sum_by (ring_coordinates l)) (repeated n (ring_
 abbrev pub polygon_walked : Layout → List ℕ → Tally → Walked
 polygon_walked l bytes = walked (coordinates_by 3) (polygon_at l bytes)
 
--- a member of this kind behind its header, one with its header, and n of them
-abbrev pub member_body_walked : MemberKind → Layout → List ℕ → Tally → Walked
-member_body_walked kind l bytes =
-    let k = number_of_member kind in walked (coordinates_by k) (member_body k l bytes)
-
+-- a member of this kind with its header, and n of them
 abbrev pub member_walked : MemberKind → Dimension → List ℕ → Tally → Walked
 member_walked kind d bytes =
     let k = number_of_member kind in walked (coordinates_by k) (member_at k d bytes)
