@@ -4,7 +4,7 @@ use Rattle.wkb_abi.proofs.Common.{Column, IsRow}
 use Rattle.std.specs.Prelude.{max, drop}
 use Rattle.std.proofs.lemmas.List.{length-take}
 use borrow.Author.Count.{below_more}
-use Rattle.wkb_abi.specs.Columns.{IsSpan, HasNoSpan, HasNoSlice, EndBy, IsReach}
+use Rattle.wkb_abi.specs.Columns.{IsSpan, HasNoSpan, HasNoSlice, EndBy, IsReach, Reach}
 use Rattle.wkb_abi.specs.Columns.{RowsFollow, RowsFit, total_length}
 
 module _ (bytes offsets : List ℕ) (size : ℕ) where
@@ -30,6 +30,10 @@ module _ (bytes offsets : List ℕ) (size : ℕ) where
         (λ j above s e is. r.enough j s e above is) (λ s e is. absurd (none s e is)) j below s e is;
     least = λ limit by. r.least limit (fewer i limit by);
   }
+
+-- they reach no further than the bytes
+pub reach_inside : (c : Column) (i reach : ℕ) → Reach c i reach → reach ≤ length c.bytes.now
+reach_inside c i reach r = r.least (length c.bytes.now) (λ j s e below is. is.inside)
 
 -- without a span there is no slice
 pub no_span : {i : ℕ} (c : Column) → HasNoSpan c.bytes.now c.offsets.now c.offset_size i

@@ -1,6 +1,6 @@
 //! A column as Arrow has it: the bytes of its rows, where each of them begins, and which rows are null.
 
-ghost use Rattle.std.specs.Prelude.{◌≡◌, ◌+◌, ◌<◌, ◌^◌, IfSome, IfNone, IfOk, IfErr};
+ghost use Rattle.std.specs.Prelude.{◌≡◌, ◌+◌, ◌*◌, ◌<◌, ◌≤◌, ◌^◌, length, IfSome, IfNone, IfOk, IfErr};
 ghost use Rattle.wkb_check.specs.Public.{DescribesFront};
 ghost use Rattle.wkb_abi.specs.Classes.{IsRowStatus, FitsByte};
 ghost use Rattle.wkb_abi.specs.Columns.{is_unset_bit, IsOffset, HasNoOffset, IsSpan, HasNoSpan, Reach, RowsFollow};
@@ -8,7 +8,7 @@ ghost use Rattle.wkb_abi.specs.Columns.{RowsFit, IsRow, LacksRow, IsRefusedWith}
 
 use crate::fault::status_of_cause;
 use crate::status::{BAD_OFFSETS, NULL_ROW};
-use wkb_check::{Summary, check, check_plain};
+use wkb_check::{Steps, Summary, check_counted, check_plain_counted};
 use wkb_geom::Endianness;
 use wkb_geom::words::{u32_at, u64_at};
 
@@ -36,6 +36,8 @@ impl<'a> Column<'a> {
         requires small { i < 2 ^ 63 }
         requires before { Reach self.now i reach.old }
         ensures reach { Reach self.now (i + 1) reach.new }
+        ensures rises { reach.old ≤ reach.new }
+        ensures fits { IfOk result (λ row. reach.old + length row.now ≤ reach.new) }
         ensures row { IfOk result (λ row. IsRow self.now i row.now) }
         ensures none { IfErr result (λ status. LacksRow self.now i status) }
         ensures known { IfErr result IsRowStatus }
@@ -144,12 +146,13 @@ fn span_of_row(bytes: &[u8], offsets: &[u8], size: usize, i: usize) -> Option<(u
 ///
 /// It isn't inlined, so that rows that take the short way don't pay for its frame.
 #[inline(never)]
-pub fn check_row(row: &[u8]) -> Result<Summary, u32>
+pub fn check_row<S: Steps>(row: &[u8], steps: &mut S) -> Result<Summary, u32>
     ensures accepted { IfOk result (λ found. DescribesFront row.now found) }
     ensures refused { IfErr result (λ status. IsRefusedWith row.now status) }
     ensures known { IfErr result FitsByte }
+    ensures steps { S.counted steps.new ≤ S.counted steps.old + length row.now + 2 }
 {
-    match check(row) {
+    match check_counted(row, steps) {
         Ok(found) => Ok(found),
         Err(refused) => Err(status_of_cause(refused.cause)),
     }
@@ -158,13 +161,14 @@ pub fn check_row(row: &[u8]) -> Result<Summary, u32>
 /// What is at the start of a row, or the status of its refusal. The short way comes first: most rows hold no
 /// collection, and it counts in registers.
 #[inline(always)]
-pub fn found_in(row: &[u8]) -> Result<Summary, u32>
+pub fn found_in<S: Steps>(row: &[u8], steps: &mut S) -> Result<Summary, u32>
     ensures accepted { IfOk result (λ found. DescribesFront row.now found) }
     ensures refused { IfErr result (λ status. IsRefusedWith row.now status) }
     ensures known { IfErr result FitsByte }
+    ensures steps { S.counted steps.new ≤ S.counted steps.old + 2 * length row.now + 2 }
 {
-    match check_plain(row) {
+    match check_plain_counted(row, steps) {
         Some(plain) => Ok(plain),
-        None => check_row(row),
+        None => check_row(row, steps),
     }
 }
