@@ -5,10 +5,11 @@ import shutil
 import sys
 import unittest
 
-sys.path[:0] = [str(pathlib.Path(__file__).resolve().parents[1] / it) for it in ("tools", "checks")]
-import kept
+sys.path.insert(0, str(pathlib.Path(__file__).resolve().parents[1] / "tools"))
 import library
 import pages
+
+from checks import kept
 
 # How the reason begins of a test that the machine has no program for.
 LACKING = "there is no "
