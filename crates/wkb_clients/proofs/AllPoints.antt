@@ -43,8 +43,11 @@ normal_points : (cs : List Coordinate)
 normal_points [] = refl
 normal_points (c ∷ cs) = ap (λ l. normal_point (Some c) ∷ l) (normal_points cs)
 
-module _ (options : WriteOptions) (t : Value) (form : IsForm options.form)
-    (fit : AreCoordinates (as_dimensions (dimension t)) (coordinates_of t)) where
+-- all coordinates of a value have its dimension
+abbrev pub Fit : Value → Type 0
+Fit t = AreCoordinates (as_dimensions (dimension t)) (coordinates_of t)
+
+module _ (options : WriteOptions) (t : Value) (form : IsForm options.form) (fit : Fit t) where
   -- what was written is the encoding of that multi point, and is read as it
   pub are_points : (bytes : List ℕ) → bytes ≡ encoding_of options (points_meant t)
       → fault_of options (points_meant t) ≡ None → ArePoints options t bytes

@@ -1,9 +1,9 @@
 -- What is written of a package, and that the blob holds it.
 use Rattle.std.proofs.Common.{◌≡◌, ℕ, zero, suc, ◌+◌, ◌*◌, ◌/◌, ◌%◌, ◌<◌, ◌≤◌, ◌^◌, List, [], ◌∷◌, ◌++◌, Bool, true, false}
-use Rattle.std.proofs.Common.{if◌then◌else◌, ◌&&◌, length, drop, drop-drop, length-drop, append_assoc, refl, sym, ap, subst}
+use Rattle.std.proofs.Common.{if◌then◌else◌, ◌&&◌, length, drop, length-drop, append_assoc, refl, sym, ap, subst}
 use Rattle.std.proofs.Common.{◌∙◌, arith}
 use Rattle.std.specs.Prelude.{◌==◌, nat_le}
-use Rattle.std.proofs.lemmas.Bool.{le-leb, lt-leb}
+use Rattle.std.proofs.lemmas.Bool.{le-leb}
 use Rattle.wkb.specs.Bridges.{number_is_read}
 use Rattle.wkb.specs.Checks.{Range, Bounds, AreBounds, rank, range_of, words_on, x_axis, y_axis}
 use Rattle.wkb.specs.Known.{never_both}
@@ -120,5 +120,5 @@ written h w b blob few fits x y iso front bounded is =
     let long : start_behind h.envelope ≤ length (header_bytes h ++ rest) =
     omega (arith, length-drop (start_behind h.envelope) blob, ap length e.1, ap length is, some_bytes w.encoding w front) in
     let head = subst (λ l. IsBlobHeader l h) (sym is) (header_is h rest few fits long) in
-    holds blob w.encoding h head (sym (ap (λ k. drop (start_behind k) blob) (sym head.envelope) ∙ e.1)) b w iso bounded
+    holds blob w.encoding h b w head (sym (ap (λ k. drop (start_behind k) blob) (sym head.envelope) ∙ e.1)) iso bounded
     (sym e.0) front

@@ -1,20 +1,19 @@
 -- What is found in a GeoPackage blob, and what isn't.
 use Rattle.std.proofs.Common.{◌≡◌, List, ℕ, true, false, sym, ap, subst, ◌∙◌, ◌⊎◌, inl, inr, drop, Result, Ok, Err}
 use Rattle.std.specs.Prelude.{IfOk, IfErr}
-use Rattle.wkb.specs.Bridges.{memory_or}
-use Rattle.wkb.specs.Checks.{Bounds, AreBounds, BoundsFront, BoundsOnlyFront}
+use Rattle.wkb.specs.Checks.{Bounds, AreBounds}
 use Rattle.wkb.specs.Known.{has_one_front}
 use Rattle.wkb.specs.OwnBytes.{no_refusal, one_geometry}
-use Rattle.wkb.specs.Prelude.{number, WkbError, IsMemory}
+use Rattle.wkb.specs.Prelude.{number}
 use Rattle.wkb.specs.Ranges.{same_bounds}
-use Rattle.wkb.specs.Reads.{IsFront, IsRefusal, IfRefused}
+use Rattle.wkb.specs.Reads.{IsFront}
 use Rattle.wkb_clients.specs.Common.{Item}
 use Rattle.wkb_clients.specs.declared.geopackage.BlobHeader.{BlobHeader}
 use Rattle.wkb_clients.specs.declared.geopackage.Package.{Package}
 use Rattle.wkb_clients.specs.declared.geopackage.Unread.{Unread}
 use Rattle.wkb_clients.specs.declared.geopackage.Unread.TheVariants as reasons
-use Rattle.wkb_clients.specs.Geopackage.{IsBlobHeader, HoldsGeometry, HoldsNoGeometry, HasWrongEnvelope, IsNotRead, IsWhy}
-use Rattle.wkb_clients.specs.Geopackage.{body_of, envelope_around, is_ewkb, IsWantOfMemory, GivesBack}
+use Rattle.wkb_clients.specs.Geopackage.{IsBlobHeader, HoldsGeometry, HoldsNoGeometry, body_of, envelope_around}
+use Rattle.wkb_clients.specs.Geopackage.{is_ewkb, IsWhy, IsWantOfMemory, GivesBack}
 
 -- a blob has one header
 one_header : (blob : List ℕ) (h g : BlobHeader) → IsBlobHeader blob h → IsBlobHeader blob g → h ≡ g
@@ -46,42 +45,17 @@ none_by blob (reasons.Geometry e) why =
       | inr refusal ↦ inr (λ h w holds. no_refusal holds.front refusal)
     ]
 
-module _ (blob body : List ℕ) (h : BlobHeader) (head : IsBlobHeader blob h) (same : body ≡ body_of blob) where
-  -- a geometry is there, and the envelope is around its bounds
-  pub holds : (b : Bounds) (w : Item) → false ≡ is_ewkb body → AreBounds b w.value
-      → true ≡ envelope_around h.order h.envelope blob b → IsFront body w → HoldsGeometry blob h w
-  holds b w iso bounded around front =
-      record {
-        header = head;
-        iso = sym (iso ∙ ap is_ewkb same);
-        front = subst (λ l. IsFront l w) same front;
-        around = λ c is. ap (envelope_around h.order h.envelope blob) (same_bounds c b w.value is bounded) ∙ sym around;
-      }
-
-  -- as the bounds of the bytes and what is read of them say
-  pub reads : (b : Bounds) (w : Item) → false ≡ is_ewkb body → true ≡ envelope_around h.order h.envelope blob b
-      → BoundsOnlyFront body b → IsFront body w → HoldsGeometry blob h w
-  reads b w iso around only front =
-      holds b w iso (only w.spelled w.value front.rest front.front) around front
-
-  -- a geometry is there, and the envelope isn't around its bounds
-  pub wrong_envelope : (b : Bounds) → BoundsFront body b → false ≡ envelope_around h.order h.envelope blob b
-      → HasWrongEnvelope blob
-  wrong_envelope b front wrong = record {
-    header = h;
-    is_header = head;
-    bounds = b;
-    front = subst (λ l. BoundsFront l b) same front;
-    wrong = sym wrong;
-  }
-
-  -- what is behind the header is rejected
-  pub not_read : (e : WkbError) → IfRefused (Err e) (IsRefusal body) → IsNotRead blob e
-  not_read e refusal = record {
-    header = h;
-    is_header = head;
-    why = subst (λ l. IsMemory e ⊎ IsRefusal l e) same (memory_or (IsRefusal body) e refusal);
-  }
+-- a geometry is there, and the envelope is around its bounds
+pub holds : (blob body : List ℕ) (h : BlobHeader) (b : Bounds) (w : Item) → IsBlobHeader blob h → body ≡ body_of blob
+    → false ≡ is_ewkb body → AreBounds b w.value → true ≡ envelope_around h.order h.envelope blob b → IsFront body w
+    → HoldsGeometry blob h w
+holds blob body h b w head same iso bounded around front =
+    record {
+      header = head;
+      iso = sym (iso ∙ ap is_ewkb same);
+      front = subst (λ l. IsFront l w) same front;
+      around = λ c is. ap (envelope_around h.order h.envelope blob) (same_bounds c b w.value is bounded) ∙ sym around;
+    }
 
 -- what a blob holds is what is read of it
 pub given_back : (blob : List ℕ) (r : Result Package Unread) → IfOk r (λ p. HoldsGeometry blob p.header p.geometry)

@@ -1,21 +1,19 @@
 use Rattle.std.proofs.Common.{◌≡◌, [], map, Some, ap, subst, sym, ◌∙◌}
 use Rattle.wkb.specs.AllCoordinates.{coordinates_fit, words_are_whole, coordinates_again}
 use Rattle.wkb.specs.Encodings.{encoding_of, fault_of}
-use Rattle.wkb.specs.Geometries.{AreCoordinates, multi_point}
+use Rattle.wkb.specs.Geometries.{multi_point}
 use Rattle.wkb.specs.Levels.{points_dimensions, points_points}
 use Rattle.wkb.specs.Plain.{line_string_coordinates, coordinates_in}
-use Rattle.wkb.specs.Prelude.{as_dimensions}
 use Rattle.wkb.specs.Values.{dimension}
 use Rattle.wkb.specs.Writes.{IsVecError}
 use Rattle.wkb.specs.Coordinates.{coordinates_of, words_of, HasOnly}
 use Rattle.wkb_clients.specs.Coordinates.{points_meant}
-use Rattle.wkb_clients.proofs.AllPoints.{are_points, want_of_room}
+use Rattle.wkb_clients.proofs.AllPoints.{Fit, are_points, want_of_room}
 use Rattle.wkb_clients.proofs.coordinates.as_multi_point.Goals as goal
 use Rattle.wkb_clients.proofs.coordinates.as_multi_point.Goals.{After-as_slice, After-to_vec}
 
 -- every coordinate fits the dimension
-fit : (c : After-as_slice)
-    → AreCoordinates (as_dimensions (dimension c.args.geometry.now.value)) (coordinates_of c.args.geometry.now.value)
+fit : (c : After-as_slice) → Fit c.args.geometry.now.value
 fit c =
     let t = c.args.geometry.now.value in
     coordinates_fit (dimension t) t c.buf.ensures.read.lawful
@@ -27,8 +25,7 @@ words_are c =
     c.as_slice.ensures.value ∙ c.in_ok-visit_coordinates.ensures.visited [] c.new.ensures.items
 
 -- the multi point that is written is that of the value
-meant : (c : After-to_vec)
-    → AreCoordinates (as_dimensions (dimension c.args.geometry.now.value)) (coordinates_of c.args.geometry.now.value)
+meant : (c : After-to_vec) → Fit c.args.geometry.now.value
     → c.as_slice.result.now ≡ words_of (coordinates_of c.args.geometry.now.value)
     → multi_point (points_dimensions c.new-3.result) (points_points c.new-3.result)
     ≡ points_meant c.args.geometry.now.value
@@ -52,15 +49,13 @@ pub returns-in-Ok-clause-ok : goal.returns-in-Ok-clause-ok
 returns-in-Ok-clause-ok c =
     let p = (goal.at.returns-in-Ok-clause-ok c).After-as_slice in
     let same = meant (goal.at.returns-in-Ok-clause-ok c).After-to_vec (fit p) (words_are p) in
-    let options = c.args.options.now in
-    are_points options c.args.geometry.now.value c.srid_fits.ensures (fit p) c.in-Ok.bytes.items
-    (c.in-Ok.ensures.ok ∙ ap (encoding_of options) same)
-    (ap (fault_of options) (sym same) ∙ c.in-Ok.ensures.writable)
+    are_points c.args.options.now c.args.geometry.now.value c.srid_fits.ensures (fit p) c.in-Ok.bytes.items
+    (c.in-Ok.ensures.ok ∙ ap (encoding_of c.args.options.now) same)
+    (ap (fault_of c.args.options.now) (sym same) ∙ c.in-Ok.ensures.writable)
 
 pub returns-clause-err : goal.returns-clause-err
 returns-clause-err c =
     let p = (goal.at.returns-clause-err c).After-as_slice in
     let same = meant (goal.at.returns-clause-err c).After-to_vec (fit p) (words_are p) in
-    let options = c.args.options.now in
-    want_of_room options c.args.geometry.now.value c.srid_fits.ensures (fit p) c.in-Err.e
-    (subst (λ g. IsVecError options g c.in-Err.e) same c.in-Err.ensures.err)
+    want_of_room c.args.options.now c.args.geometry.now.value c.srid_fits.ensures (fit p) c.in-Err.e
+    (subst (λ g. IsVecError c.args.options.now g c.in-Err.e) same c.in-Err.ensures.err)

@@ -4,8 +4,7 @@ use Rattle.wkb_clients.proofs.members.polygon_bytes.Goals as goal
 
 pub returns-in-Some : goal.returns-in-Some
 returns-in-Some c =
-    let m = c.args.multi.now in
     let p = c.in-Some.polygon.now in
     let o = c.in-Some.ensures in
-    member_stands (multi_polygon_seen m) c.args.i (polygon_seen p)
-    (polygon_is_member m c.args.i p o.dimension o.spelled o.part) c.buf.ensures c.buf-in-Some.ensures
+    let member = polygon_is_member c.args.multi.now c.args.i p o.dimension o.spelled o.part in
+    member_stands (multi_polygon_seen c.args.multi.now) c.args.i (polygon_seen p) member c.buf.ensures c.buf-in-Some.ensures

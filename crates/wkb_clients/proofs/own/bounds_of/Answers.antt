@@ -1,11 +1,7 @@
 use Rattle.wkb_clients.proofs.own.bounds_of.Goals as goal
 
 pub unreachable-requires : goal.unreachable-requires
-unreachable-requires c =
-    let f = c.buf.ensures.front in
-    c.in-Err.ensures.refused.no_front c.args.w.now.spelled c.args.w.now.value f.rest f.front
+unreachable-requires c = c.in-Err.ensures.refused.no_front _ _ _ c.buf.ensures.front.front
 
 pub returns : goal.returns
-returns c =
-    let f = c.buf.ensures.front in
-    c.in-Ok.ensures.one_front c.args.w.now.spelled c.args.w.now.value f.rest f.front
+returns c = c.in-Ok.ensures.one_front _ _ _ c.buf.ensures.front.front
