@@ -18,8 +18,6 @@ use Rattle.wkb_clients.specs.Geopackage.{IsBlobHeader, HoldsGeometry, order_said
 use Rattle.wkb_clients.specs.Geopackage.{axis_around, envelope_around, header_bytes, word_or_nan, range_bytes, envelope_bytes}
 use Rattle.wkb_clients.proofs.Packages.{holds}
 
--- ---- the header
-
 order_again : (order : Endianness) → (order_byte order ≤ 1) × (order_said (order_byte order) ≡ order)
 order_again BigEndian = (omega arith, refl)
 order_again LittleEndian = (omega arith, refl)
@@ -59,8 +57,6 @@ header_is h rest few fits long =
       srs = sym srs.1;
     }
 
--- ---- the envelope
-
 -- a range whose ends have 64 bits
 pub record IsOfWords (r : Range) : Type 0 where
   pub low : r.least < 2 ^ 64
@@ -81,6 +77,7 @@ module _ (order : Endianness) (blob : List ℕ) where
   axis_written : (at : ℕ) (r : Range) (ws rest : List ℕ) → IsOfWords r → r ≡ range_of ws
       → drop at blob ≡ range_bytes order r ++ rest
       → (axis_around order blob at r ≡ true) × (drop (at + 8 + 8) blob ≡ rest)
+  unfolding axis_around
   axis_written at r ws rest words of is =
       let none = r.count == 0 in
       let v = word_or_nan none r.least in

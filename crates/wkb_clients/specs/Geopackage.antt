@@ -62,7 +62,7 @@ is_around none low high least greatest =
     else is_number_at_most low least && (not (is_nan high) && nat_le (rank greatest) (rank high))
 
 -- whether the two words at an offset are around the range
-abbrev pub axis_around : Endianness → List ℕ → ℕ → Range → Bool
+unfoldable pub axis_around : Endianness → List ℕ → ℕ → Range → Bool
 axis_around order blob at r =
     is_around (r.count == 0) (number order 8 (drop at blob)) (number order 8 (drop (at + 8) blob)) r.least r.greatest
 

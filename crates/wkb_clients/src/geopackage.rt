@@ -110,6 +110,7 @@ fn is_ewkb(body: &[u8]) -> bool
 }
 
 /// Whether the two words at an offset are numbers around the range, or NaNs if it has no number, as in an empty geometry.
+#[tactic(auto, unfolding(crate::specs::Geopackage::axis_around))]
 fn axis_around(blob: &[u8], at: usize, order: Endianness, range: Range) -> bool
     requires { at + 16 ≤ length blob.now }
     ensures { result ≡ axis_around order blob.now at range }
