@@ -97,12 +97,14 @@ double now() {
   return double(time.tv_sec) + 1e-9 * double(time.tv_nsec);
 }
 
+// A run is of as many calls as take a millisecond, since the clock may stand still for shorter.
 double seconds_of(const call &it, const input &from) {
   double shortest = 1e9;
   for (int round = 0; round < 2; round++) {
     const double begin = now();
-    it.run(from);
-    shortest = std::min(shortest, now() - begin);
+    double taken = 0, calls = 0;
+    for (; taken < 0.001; taken = now() - begin, calls++) it.run(from);
+    shortest = std::min(shortest, taken / calls);
   }
   return shortest;
 }

@@ -47,15 +47,20 @@ def of_sqlite(extension):
 
 
 def seconds(call, *given):
-    """The processor's time of the shorter of two runs."""
+    """The processor's time of a call in the shorter of two runs.
+
+    A run is of as many calls as take a millisecond, since the clock may stand still for shorter.
+    """
     found = []
     for _ in range(2):
-        begin = time.process_time()
-        try:
-            call(*given)
-        except ValueError:
-            pass
-        found.append(time.process_time() - begin)
+        begin, taken, calls = time.process_time(), 0, 0
+        while taken < 0.001:
+            try:
+                call(*given)
+            except ValueError:
+                pass
+            taken, calls = time.process_time() - begin, calls + 1
+        found.append(taken / calls)
     return min(found)
 
 

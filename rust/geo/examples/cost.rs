@@ -105,6 +105,16 @@ fn now() -> f64 {
     time[0] as f64 + 1e-9 * time[1] as f64
 }
 
+/// The processor's seconds of a call: of as many as take a millisecond, since the clock may stand still for shorter.
+fn seconds(call: impl Fn()) -> f64 {
+    let (begin, mut taken, mut calls) = (now(), 0.0, 0.0);
+    while taken < 0.001 {
+        call();
+        (taken, calls) = (now() - begin, calls + 1.0);
+    }
+    taken / calls
+}
+
 fn main() {
     let words: Vec<String> = env::args().skip(1).collect();
     for file in &words[1..] {
@@ -112,8 +122,7 @@ fn main() {
         for (name, takes, run) in CALLS.iter().filter(|it| it.0.contains(&words[0])) {
             let (is_levels, is_one) = (input.offsets.is_empty(), input.offsets.len() == 2);
             if (*takes == Takes::Levels) == is_levels && (is_one || *takes != Takes::One) {
-                let seconds = || (now(), run(&input, &Options::default()), now());
-                let shortest = (0..2).map(|_| seconds()).map(|it| it.2 - it.0).fold(f64::MAX, f64::min);
+                let shortest = (0..2).map(|_| seconds(|| run(&input, &Options::default()))).fold(f64::MAX, f64::min);
                 println!("{name} {file} {shortest:.9}");
             }
         }
