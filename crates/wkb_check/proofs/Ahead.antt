@@ -19,7 +19,7 @@ use Rattle.wkb_check.specs.Known.{HasGeometry}
 use Rattle.wkb_laws.proofs.OneFront.{one_spelling}
 use Rattle.wkb_check.specs.declared.answer.Summary.{Summary}
 use Rattle.wkb_check.specs.Public.{DescribesFront}
-use Rattle.wkb_check.specs.Pieces.{count_of, leading, piece_of, bare_head, HeaderIs, IsHeaderAt}
+use Rattle.wkb_check.specs.Pieces.{count_of, leading, piece_of, bare_head, HeaderIs, IsHeaderAt, IsPieceAt}
 use Rattle.wkb_check.specs.declared.pieces.Piece.{Piece}
 use Rattle.wkb_check.proofs.Public.{geometry_opens}
 use Rattle.wkb_check.proofs.Bodies.{rest_smaller}
@@ -53,10 +53,8 @@ type_dimension_is _ = refl
 pub record Says (bytes : List ℕ) (s : Spelling) (t : Value) (h : Head) : Type 0 where
   pub long : body_start h.has_srid ≤ length bytes
   pub start_is : body_start h.has_srid ≡ 5 + srid_size (is_some (header s).srid)
-  pub kind_is : type_kind h.wkb_type ≡ kind t
-  pub dimension_is : type_dimension h.wkb_type ≡ dimension t
-  pub order_is : h.order ≡ (header s).order
-  pub srid_is : srid_in h.order h.has_srid bytes ≡ (header s).srid
+  pub header_is :
+      HeaderIs s t (type_kind h.wkb_type) (type_dimension h.wkb_type) h.order (srid_in h.order h.has_srid bytes)
   pub counts : kind t ≢ 1
       → (body_start h.has_srid + 4 ≤ length bytes)
       × (number h.order 4 (drop (body_start h.has_srid) bytes) ≡ count_of t)
@@ -77,10 +75,12 @@ says bytes (node own words ss) t rest b h head =
     (record {
       long = said.long;
       start_is = refl;
-      kind_is = type_kind_is t;
-      dimension_is = type_dimension_is t;
-      order_is = refl;
-      srid_is = said.srid;
+      header_is = record {
+        kind_is = type_kind_is t;
+        dimension_is = type_dimension_is t;
+        order_is = refl;
+        srid_is = said.srid;
+      };
       counts = λ differs.
           let c = counted own.order words t y.front (y.rest ++ rest) y.first differs in
           (omega (arith, c.0, ap length cut, length-drop start bytes), ap (number own.order 4) cut ∙ c.1);
@@ -138,69 +138,57 @@ bare_meant k least most =
     omega arith ∙ (λ i. iso_code (sym type.0 i) (sym type.1 i)) in
     ap meaning_of code ∙ iso_meant (type_of k Xy)
 
--- what the header that a geometry was spelled with says
 module _ (bytes : List ℕ) (begin : ℕ) (g : HasGeometry (drop begin bytes)) where
-  pub own_says : Says (drop begin bytes) g.spelled g.value
+  -- what the header says that the geometry was spelled with
+  own_says : Says (drop begin bytes) g.spelled g.value
       (head_of (header g.spelled).order (kind g.value) (dimension g.value) (is_some (header g.spelled).srid))
   own_says =
       says (drop begin bytes) g.spelled g.value g.rest g.begins _
       (geometry_opens (drop begin bytes) g.spelled g.value g.rest g.begins).head
 
   -- what a header says that was read
-  pub read_header : (h : Head) → head_at (drop begin bytes) ≡ Ok h
-      → HeaderIs g.spelled g.value (type_kind h.wkb_type) (type_dimension h.wkb_type) h.order
-      (srid_in h.order h.has_srid (drop begin bytes))
-  read_header h head =
-      let y = says (drop begin bytes) g.spelled g.value g.rest g.begins h head in
-      record { kind_is = y.kind_is; dimension_is = y.dimension_is; order_is = y.order_is; srid_is = y.srid_is }
+  pub read_says : (from : List ℕ) (h : Head) → from ≡ drop begin bytes → head_at from ≡ Ok h
+      → Says from g.spelled g.value h
+  read_says from h is head =
+      let b = g.begins in
+      says from g.spelled g.value g.rest (record { front = b.front; whole = is ∙ b.whole; first = b.first }) h head
 
   -- what a header says whose code is the number of its kind
-  pub bare_header : (order : Endianness) (k : ℕ) → head_at (drop begin bytes) ≡ Ok (bare_head order k) → 1 ≤ k → k ≤ 7
-      → HeaderIs g.spelled g.value k Xy order None
-  bare_header order k head least most =
-      let type = type_kind-type_of k Xy (omega (arith, least)) (omega (arith, most)) in
-      let read = read_header (bare_head order k) head in
-      record {
-        kind_is = sym type.0 ∙ read.kind_is;
-        dimension_is = sym type.1 ∙ read.dimension_is;
-        order_is = read.order_is;
-        srid_is = read.srid_is;
-      }
+  pub bare_header : (from : List ℕ) (order : Endianness) (k : ℕ) → from ≡ drop begin bytes
+      → head_at from ≡ Ok (bare_head order k) → 1 ≤ k → k ≤ 7 → HeaderIs g.spelled g.value k Xy order None
+  bare_header from order k is head least most =
+      let type = type_kind-type_of k Xy least most in
+      rw (type.0, type.1) at (read_says from (bare_head order k) is head).header_is
 
-  module _ {k : ℕ} {d : Dimension} {order : Endianness} {srid : Option ℕ}
-      (is : HeaderIs g.spelled g.value k d order srid) where
-    srid_long : srid_size (is_some srid) ≡ srid_size (is_some (header g.spelled).srid)
-    srid_long = ap (λ s. srid_size (is_some s)) is.srid_is
+module _ (bytes : List ℕ) (begin : ℕ) {k : ℕ} {d : Dimension} {order : Endianness} {srid : Option ℕ}
+    (is : IsHeaderAt bytes begin k d order srid) where
+  srid_long : (g : HasGeometry (drop begin bytes))
+      → srid_size (is_some srid) ≡ srid_size (is_some (header g.spelled).srid)
+  srid_long g = ap (λ s. srid_size (is_some s)) (is g).srid_is
 
-    -- the header is inside the bytes
-    pub header_inside : begin + 5 + srid_size (is_some srid) ≤ length bytes
-    header_inside =
-        omega (arith, own_says.long, own_says.start_is, srid_long, length-drop begin bytes, begins_inside bytes begin g)
+  -- the header is inside the bytes
+  pub header_inside : HasGeometry (drop begin bytes) → begin + 5 + srid_size (is_some srid) ≤ length bytes
+  header_inside g =
+      let own = own_says bytes begin g in
+      omega (arith, own.long, own.start_is, srid_long g, length-drop begin bytes, begins_inside bytes begin g)
 
-    -- and the count, of all but a point
-    pub count_inside : k ≢ 1 → begin + 9 + srid_size (is_some srid) ≤ length bytes
-    count_inside other =
-        omega (
-          arith,
-          (own_says.counts (λ e. other (is.kind_is ∙ e))).0,
-          own_says.start_is,
-          srid_long,
-          length-drop begin bytes,
-          begins_inside bytes begin g,
-        )
+  -- and the count, of all but a point
+  pub count_inside : HasGeometry (drop begin bytes) → k ≢ 1 → begin + 9 + srid_size (is_some srid) ≤ length bytes
+  count_inside g other =
+      let own = own_says bytes begin g in
+      let long = (own.counts (λ e. other ((is g).kind_is ∙ e))).0 in
+      omega (arith, long, own.start_is, srid_long g, length-drop begin bytes, begins_inside bytes begin g)
 
-    -- the piece, by its header and its count
-    pub counted_piece : (n offset : ℕ) → k ≢ 1
-        → n ≡ number order 4 (drop (begin + 5 + srid_size (is_some srid)) bytes)
-        → offset ≡ begin + 9 + srid_size (is_some srid)
-        → ◌≡◌ {A = Piece}
-        (record { kind = k; dimension = d; order = order; srid = srid; count = n; begin = begin; offset = offset })
-        (piece_of begin g.spelled g.value)
-    counted_piece n offset differs n_is offset_is =
-        let other : kind g.value ≢ 1 = λ e. differs (is.kind_is ∙ e) in
-        let at : begin + 5 + srid_size (is_some srid) ≡ begin + body_start (is_some (header g.spelled).srid) =
-        omega (arith, srid_long, own_says.start_is) in
-        piece_is begin g.spelled g.value is n offset
-        (rw (n_is, is.order_is, at, ← drop-drop (body_start (is_some (header g.spelled).srid)) begin bytes)
-        (own_says.counts other).1)
-        (omega (arith, offset_is, srid_long, other_leads (header g.spelled) g.value other))
+  -- the piece, by its header and its count
+  pub counted_piece : (n size offset : ℕ) → k ≢ 1 → size ≡ srid_size (is_some srid)
+      → n ≡ number order 4 (drop (begin + 5 + size) bytes) → offset ≡ begin + 5 + size + 4
+      → IsPieceAt bytes begin
+      (record { kind = k; dimension = d; order = order; srid = srid; count = n; begin = begin; offset = offset })
+  counted_piece n size offset differs size_is n_is offset_is = λ g.
+      let own = own_says bytes begin g in
+      let other : kind g.value ≢ 1 = λ e. differs ((is g).kind_is ∙ e) in
+      let start = body_start (is_some (header g.spelled).srid) in
+      let at : begin + 5 + size ≡ begin + start = omega (arith, size_is, srid_long g, own.start_is) in
+      piece_is begin g.spelled g.value (is g) n offset
+      (rw (n_is, (is g).order_is, at, ← drop-drop start begin bytes) (own.counts other).1)
+      (omega (arith, offset_is, size_is, srid_long g, other_leads (header g.spelled) g.value other))

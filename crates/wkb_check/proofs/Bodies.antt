@@ -1,33 +1,12 @@
 -- What stands at the start of the bytes of a geometry, and behind its header.
 use Rattle.std.proofs.Common.{◌≡◌, ℕ, ◌+◌, ◌≤◌, List, [], ◌∷◌, ◌++◌, length}
-use Rattle.std.proofs.Common.{Err, refl, sym, ap, ◌∙◌, arith, length-append}
-use Rattle.wkb_laws.specs.Prelude.{Cause, Endianness, Dimension, number, IsEach, Coordinate, Value, Values, no_members}
-use Rattle.wkb_laws.specs.Prelude.{member, kind, dimension, Spelling, node, Spellings, no_spellings, spelling}
-use Rattle.wkb_laws.specs.Prelude.{SpellsCoordinates, Spells, SpellsEach, Wanted, any, ring_end}
-unfoldable use Rattle.wkb_laws.specs.Prelude.{head_at}
+use Rattle.std.proofs.Common.{refl, sym, ap, ◌∙◌, arith, length-append}
+use Rattle.wkb_laws.specs.Prelude.{Endianness, Dimension, number, IsEach, Coordinate, Value, kind, dimension, Spelling}
+use Rattle.wkb_laws.specs.Prelude.{node, SpellsCoordinates, Spells, ring_end}
 use Rattle.wkb_laws.proofs.Parts.{then_length, then_append, drop_front, header_length}
 use Rattle.wkb_laws.proofs.Complete.{ring_read}
 use Rattle.wkb_laws.proofs.Lengths.{coordinates_length}
 use Rattle.wkb_check.specs.Known.{AreWhole, decoded_rings, HasGeometry}
-use Rattle.wkb_check.proofs.Public.{geometry_opens}
-
--- the members of one kind are geometries
-pub wanted_by_any : (w : Wanted) (ss : Spellings) (ts : Values) (x : List ℕ) → SpellsEach w ss ts x
-    → SpellsEach any ss ts x
-wanted_by_any w no_spellings no_members x h = h
-wanted_by_any w (spelling s ss) (member t ts) x h =
-    record {
-      front = h.front;
-      rest = h.rest;
-      whole = h.whole;
-      first = (h.first.0, tt);
-      second = wanted_by_any w ss ts h.rest h.second;
-    }
-wanted_by_any w _ _ x h = absurd h
-
--- a geometry has a header
-pub always_header : (bytes : List ℕ) (c : Cause) → HasGeometry bytes → head_at bytes ≡ Err c → ⊥
-always_header bytes c g e = absurd (cc (sym (geometry_opens bytes g.spelled g.value g.rest g.begins).head ∙ e))
 
 -- what follows a geometry is shorter
 pub spelled_long : (s : Spelling) (t : Value) (x : List ℕ) → Spells s t x → 5 ≤ length x

@@ -1,13 +1,13 @@
 -- The pieces that are to come, one after another.
-use Rattle.std.proofs.Common.{◌≡◌, ◌≢◌, ℕ, zero, suc, ◌+◌, ◌-◌, ◌<◌, ◌≤◌, List, [], ◌∷◌, ◌++◌, length, drop}
+use Rattle.std.proofs.Common.{◌≡◌, ◌≢◌, ℕ, ◌+◌, ◌-◌, ◌<◌, ◌≤◌, List, [], ◌∷◌, ◌++◌, length, drop}
 use Rattle.std.proofs.Common.{refl, sym, ap, ◌∙◌, subst, arith, append-nil, append_assoc, length-drop}
 use Rattle.std.proofs.Common.{lt-ltb, le-ltb}
 use Rattle.std.specs.Prelude.{Some, None}
 use Rattle.std.specs.Iterator.{MakesProgress, Yields, at_most}
-use Rattle.wkb_laws.specs.Prelude.{Endianness, Dimension, number}
-use Rattle.wkb_check.specs.Known.{HasGeometry, HasGeometries, decoded_rings}
+use Rattle.wkb_laws.specs.Prelude.{Endianness, Dimension, number, any}
+use Rattle.wkb_check.specs.Known.{HasGeometry, decoded_rings}
 use Rattle.wkb_check.specs.Subjects.{subjects, subjects_of_rings, subjects_of_each}
-use Rattle.wkb_check.specs.Pieces.{Ahead, own_end, ring_piece, piece_of, last_end, pieces_from, pieces_of, first_rings}
+use Rattle.wkb_check.specs.Pieces.{Ahead, own_end, ring_piece, last_end, pieces_from, pieces_of, first_rings}
 use Rattle.wkb_check.specs.Pieces.{IsPieceAt, IsInside, IsAhead, HasAhead, Takes, Steps}
 use Rattle.wkb_check.specs.Pieces.{bytes_left, AreRings, IsRing}
 use Rattle.wkb_check.specs.declared.pieces.Piece.{Piece}
@@ -15,7 +15,7 @@ use Rattle.wkb_check.specs.declared.pieces.Pieces.{Pieces}
 use Rattle.wkb_check.proofs.Placing.{First, alone, first_one, Inside, leaf_inside, rings_inside}
 use Rattle.wkb_check.proofs.Placing.{members_inside, inner, itself_first, geometry_inside, onward, none_of, begun_at}
 use Rattle.wkb_check.proofs.Rings.{NextRing, next_ring}
-use Rattle.wkb_check.proofs.Joining.{few_geometries, join_spellings, join_values, joined}
+use Rattle.wkb_check.proofs.Joining.{few_geometries, joined}
 
 pub ahead_first : (buf : List ℕ) (order : Endianness) (d : Dimension) (g : HasGeometry buf)
     → Ahead buf order d 0 1 0 (pieces_of 0 g.spelled g.value)
@@ -27,13 +27,6 @@ ahead_first buf order d g = record {
 }
 
 -- ---- a ring
-
--- this piece comes first, and these others from this byte on
-pub record Taken (buf : List ℕ) (order : Endianness) (d : Dimension) (rings geometries at : ℕ) (xs : List Piece)
-    (p : Piece) : Type 0 where
-  pub rest : List Piece
-  pub first : xs ≡ p ∷ rest
-  pub ahead : Ahead buf order d rings geometries at rest
 
 -- the ring that was read at the next byte is taken
 module _ (w : Pieces) (ahead : HasAhead w) (some : 0 < w.rings) (p : Piece)
@@ -77,103 +70,65 @@ module _ (w : Pieces) (ahead : HasAhead w) (some : 0 < w.rings) (p : Piece)
     same = refl;
   }
 
+pub ruleset ring_laws = (ring_inside, ring_takes)
+
 -- ---- a geometry
-
--- geometries are to come, and no ring before them
-record Coming (buf : List ℕ) (n at : ℕ) (xs : List Piece) : Type 0 where
-  pub more : List ℕ
-  pub all : HasGeometries n (drop at buf) more
-  pub are : xs ≡ pieces_from at (subjects_of_each all.spelled all.values)
-
-coming : (buf : List ℕ) (order : Endianness) (d : Dimension) (r n at : ℕ) (xs : List Piece) → r ≡ 0
-    → Ahead buf order d r n at xs
-    → Coming buf n at xs
-coming buf order d (suc r) n at xs e a = absurd (omega (arith, e))
-coming buf order d zero n at xs e a =
-    record { more = a.more; all = a.all; are = a.are }
 
 pub none_ahead : {buf : List ℕ} {order : Endianness} {d : Dimension} {r n at : ℕ} {xs : List Piece}
     → Ahead buf order d r n at xs → r ≤ 0 → n ≤ 0 → xs ≡ []
-none_ahead {buf = buf} {order = order} {d = d} {r = r} {n = n} {at = at} {xs = xs} a e none =
-    let c = coming buf order d r n at xs (omega (arith, e)) a in
+none_ahead {buf = buf} {order = order} {d = d} {n = n} {at = at} {xs = xs} a e none =
+    let c : Ahead buf order d 0 n at xs = subst (λ r. Ahead buf order d r n at xs) (omega (arith, e)) a in
     c.are
     ∙ ap (λ ts. pieces_from at (subjects_of_each c.all.spelled ts))
     (none_of c.all.values (omega (arith, none, c.all.counted)))
 
-module _ {buf : List ℕ} {order : Endianness} {d : Dimension} {r n at : ℕ} {xs : List Piece}
-    (a : Ahead buf order d r n at xs) (none : r ≡ 0) (some : 0 < n) where
-  to_come : Coming buf n at xs
-  to_come = coming buf order d r n at xs none a
+module _ (w : Pieces) {xs : List Piece} (a : IsAhead w xs) (none : w.rings ≡ 0) (some : 0 < w.geometries) where
+  to_come : Ahead w.bytes.now w.order w.dimension 0 w.geometries w.at xs
+  to_come = subst (λ r. Ahead w.bytes.now w.order w.dimension r w.geometries w.at xs) none a
 
-  one : First n (drop at buf) to_come.more to_come.all (n - 1)
-  one = first_one n (n - 1) (drop at buf) to_come.more to_come.all (omega (arith, some))
+  one : First w.geometries (drop w.at w.bytes.now) to_come.more to_come.all (w.geometries - 1)
+  one =
+      first_one w.geometries (w.geometries - 1) (drop w.at w.bytes.now) to_come.more to_come.all (omega (arith, some))
 
-  pub geometry_there : HasGeometry (drop at buf)
+  pub geometry_there : HasGeometry (drop w.at w.bytes.now)
   geometry_there = one.geometry
 
-  -- its piece comes first, and then what is inside it
-  taken : (p : Piece) → p ≡ piece_of at one.geometry.spelled one.geometry.value
-      → {o : Endianness} {e : Dimension} {rings m next : ℕ}
-      → next ≡ own_end p → Inside buf one.geometry.spelled one.geometry.value one.geometry.rest o e rings m next
-      → Taken buf o e rings (n - 1 + m) next xs p
-  taken p is {o} {e} {rings} {m} {next} ends i =
-      let g = one.geometry in
-      let x = i.all in
-      let y = one.others in
-      let j = joined x.spelled y.spelled x.values y.values x.begins.front y.begins.front x.begins.first
-      y.begins.first in
-      let own = first_rings o e rings (drop next buf) in
-      let others = subjects_of_each y.spelled y.values in
-      let joins : inner g.spelled g.value ++ others
-      ≡ own ++ subjects_of_each (join_spellings x.spelled y.spelled) (join_values x.values y.values) =
-      ap (λ l. l ++ others) i.are ∙ append_assoc own (subjects_of_each x.spelled x.values) others
-      ∙ ap (λ l. own ++ l) (sym j.are) in
-      record {
-        rest =
-            pieces_from next
-            (own ++ subjects_of_each (join_spellings x.spelled y.spelled) (join_values x.values y.values));
-        first =
-            to_come.are ∙ ap (pieces_from at) one.are
-            ∙ ap (λ l. pieces_from at (l ++ others)) (itself_first g.spelled g.value)
-            ∙ (λ k. sym is k ∷ pieces_from (sym (ends ∙ ap own_end is) k) (joins k));
-        ahead = record {
-          more = to_come.more;
-          whole = i.whole;
-          all = record {
-            spelled = join_spellings x.spelled y.spelled;
-            values = join_values x.values y.values;
-            begins = record {
-              front = x.begins.front ++ y.begins.front;
-              whole = x.begins.whole ∙ ap (λ z. x.begins.front ++ z) y.begins.whole
-                  ∙ sym (append_assoc x.begins.front y.begins.front to_come.more);
-              first = j.spelled;
-            };
-            counted = omega (arith, x.counted, y.counted, j.many);
-          };
-          are = refl;
-        };
-      }
-
--- the geometry that was read at the next byte is taken
+-- the geometry that was read at the next byte is taken: its piece comes first, and then what is inside it
 module _ (w : Pieces) (ahead : HasAhead w) (none : w.rings ≡ 0) (some : 0 < w.geometries) (p : Piece)
     (is : IsPieceAt w.bytes.now w.at p) where
   there : HasGeometry (drop w.at w.bytes.now)
-  there = geometry_there ahead.are none some
+  there = geometry_there w ahead.are none some
 
   pub piece_inside : (next : ℕ) → next ≡ own_end p → IsInside w.bytes.now w.at next p
   piece_inside next ends = geometry_inside w.bytes.now w.at next there p (is there) ends
 
-  takes : {o : Endianness} {e : Dimension} {rings m next : ℕ} → next ≡ own_end p
-      → ((g : HasGeometry (drop w.at w.bytes.now))
-      → Inside w.bytes.now g.spelled g.value g.rest o e rings m next)
-      → (r n : ℕ) → r ≡ rings → n ≡ w.geometries - 1 + m
+  takes : {o : Endianness} {e : Dimension} {r m next : ℕ} → next ≡ own_end p
+      → ((g : HasGeometry (drop w.at w.bytes.now)) → Inside w.bytes.now g.spelled g.value g.rest o e r m next)
+      → (n : ℕ) → n ≡ w.geometries - 1 + m
       → Takes w (record w { at = next; rings = r; geometries = n; order = o; dimension = e }) p
-  unfolding one geometry_there
-  takes {o} {e} {rings} {m} {next} ends inside r n r-is n-is = record {
+  takes {o} {e} {r} {m} {next} ends inside n n-is = record {
     steps = λ xs a.
-        let g = geometry_there a none some in
-        let t : Taken w.bytes.now o e r n next xs p = rw (r-is, n-is) (taken a none some p (is g) ends (inside g)) in
-        record { rest = t.rest; first = t.first; ahead = t.ahead };
+        let c = to_come w a none some in
+        let f = one w a none some in
+        let g = f.geometry in
+        let i = inside g in
+        let x = i.all in
+        let others = subjects_of_each f.others.spelled f.others.values in
+        let j = joined any x.spelled x.values x.begins.front {m = n} {n = w.geometries - 1} {xs = others}
+        x.begins.first (record { all = f.others; are = refl }) (omega (arith, n-is, x.counted)) in
+        let own = first_rings o e r (drop next w.bytes.now) in
+        let behind = own ++ subjects_of_each j.all.spelled j.all.values in
+        let joins : inner g.spelled g.value ++ others ≡ behind =
+        ap (λ l. l ++ others) i.are ∙ append_assoc own (subjects_of_each x.spelled x.values) others
+        ∙ ap (λ l. own ++ l) (sym j.are) in
+        record {
+          rest = pieces_from next behind;
+          first =
+              c.are ∙ ap (pieces_from w.at) f.are
+              ∙ ap (λ l. pieces_from w.at (l ++ others)) (itself_first g.spelled g.value)
+              ∙ (λ k. sym (is g) k ∷ pieces_from (sym (ends ∙ ap own_end (is g)) k) (joins k));
+          ahead = record { more = c.more; whole = i.whole; all = begun_at x.begins.whole j.all; are = refl };
+        };
     inside = piece_inside next ends;
     same = refl;
   }
@@ -181,9 +136,8 @@ module _ (w : Pieces) (ahead : HasAhead w) (none : w.rings ≡ 0) (some : 0 < w.
   module _ (next : ℕ) (ends : next ≡ own_end p) where
     pub leaf_takes : p.kind ≤ 3 → p.kind ≢ 3 → Takes w (record w { at = next; geometries = w.geometries - 1 }) p
     leaf_takes low other =
-        takes ends (λ g. leaf_inside w.bytes.now w.at g p (is g) next ends
-        (lt-ltb p.kind 3 (omega (arith, low, other))) w.order w.dimension)
-        w.rings (w.geometries - 1) none (omega arith)
+        takes {m = 0} ends (λ g. rw none (leaf_inside w.bytes.now w.at g p (is g) next ends
+        (lt-ltb p.kind 3 (omega (arith, low, other))) w.order w.dimension)) (w.geometries - 1) (omega arith)
 
     pub polygon_takes : p.kind ≡ 3
         → Takes w
@@ -195,22 +149,22 @@ module _ (w : Pieces) (ahead : HasAhead w) (none : w.rings ≡ 0) (some : 0 < w.
           dimension = p.dimension;
         }) p
     polygon_takes three =
-        takes ends (λ g. rings_inside w.bytes.now w.at g p (is g) next ends three) p.count (w.geometries - 1) refl
-        (omega arith)
+        takes {m = 0} ends (λ g. rings_inside w.bytes.now w.at g p (is g) next ends three) (w.geometries - 1) (omega arith)
 
-    module _ (high : 3 < p.kind) (other : p.kind ≢ 3) where
-      pub members_takes : Takes w (record w { at = next; geometries = w.geometries - 1 + p.count }) p
-      members_takes =
-          takes ends (λ g. members_inside w.bytes.now w.at g p (is g) next ends
-          (le-ltb p.kind 3 (omega (arith, high))) other w.order w.dimension)
-          w.rings (w.geometries - 1 + p.count) none refl
+    pub members_takes : 3 < p.kind → p.kind ≢ 3
+        → Takes w (record w { at = next; geometries = w.geometries - 1 + p.count }) p
+    members_takes high other =
+        takes {m = p.count} ends (λ g. rw none (members_inside w.bytes.now w.at g p (is g) next ends
+        (le-ltb p.kind 3 (omega (arith, high))) other w.order w.dimension)) (w.geometries - 1 + p.count) refl
 
-      -- no more members are counted than there are bytes
-      pub members_few : w.geometries - 1 + p.count ≤ length w.bytes.now
-      members_few =
-          let a = (members_takes.steps ahead.pieces ahead.are).ahead in
-          let from = last_end next (first_rings w.order w.dimension w.rings (drop next w.bytes.now)) in
-          omega (arith, few_geometries _ _ _ a.all, length-drop from w.bytes.now)
+  -- no more members are counted than there are bytes
+  pub members_few : 3 < p.kind → p.kind ≢ 3 → w.geometries - 1 + p.count ≤ length w.bytes.now
+  members_few high other =
+      let a = ((members_takes (own_end p) refl high other).steps ahead.pieces ahead.are).ahead in
+      let from = last_end (own_end p) (first_rings w.order w.dimension w.rings (drop (own_end p) w.bytes.now)) in
+      omega (arith, few_geometries _ _ _ a.all, length-drop from w.bytes.now)
+
+pub ruleset piece_laws = (piece_inside, leaf_takes, polygon_takes, members_takes)
 
 -- ---- the iterator
 

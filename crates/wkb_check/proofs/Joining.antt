@@ -2,50 +2,41 @@
 use Rattle.std.proofs.Common.{◌≡◌, ℕ, ◌+◌, ◌≤◌, List, ◌++◌, length, sym, ap, subst, arith}
 use Rattle.std.proofs.Common.{length-append, append_assoc, refl, ◌∙◌}
 use Rattle.wkb_laws.specs.Prelude.{Value, Values, no_members, member, count}
-use Rattle.wkb_laws.specs.Prelude.{Spelling, Spellings, no_spellings, spelling, SpellsEach, any, Front}
+use Rattle.wkb_laws.specs.Prelude.{Spelling, Spellings, no_spellings, spelling, SpellsEach, Wanted, any, Front}
 use Rattle.wkb_laws.proofs.Parts.{then_length, then_append}
 use Rattle.wkb_check.specs.Known.{HasGeometry, HasGeometries}
-use Rattle.wkb_check.specs.Subjects.{subjects, subjects_of_each}
+use Rattle.wkb_check.specs.Subjects.{Subject, subjects, subjects_of_each}
 use Rattle.wkb_check.proofs.Bodies.{spelled_long}
 
-abbrev pub join_spellings : Spellings → Spellings → Spellings
-join_spellings no_spellings us = us
-join_spellings (spelling s ss) us = spelling s (join_spellings ss us)
+-- n geometries at the start of the bytes, and their subjects
+pub record Joined (n : ℕ) (bytes more : List ℕ) (xs : List Subject) : Type 0 where
+  pub all : HasGeometries n bytes more
+  pub are : subjects_of_each all.spelled all.values ≡ xs
 
-abbrev pub join_values : Values → Values → Values
-join_values no_members vs = vs
-join_values (member t ts) vs = member t (join_values ts vs)
-
--- these geometries are there, and their subjects are those of the two, one after another
-pub record Joined (ss us : Spellings) (ts vs : Values) (bytes : List ℕ) : Type 0 where
-  pub many : count (join_values ts vs) ≡ count ts + count vs
-  pub spelled : SpellsEach any (join_spellings ss us) (join_values ts vs) bytes
-  pub are : subjects_of_each (join_spellings ss us) (join_values ts vs)
-      ≡ subjects_of_each ss ts ++ subjects_of_each us vs
-
-pub joined : (ss us : Spellings) (ts vs : Values) (x y : List ℕ) → SpellsEach any ss ts x
-    → SpellsEach any us vs y → Joined ss us ts vs (x ++ y)
-joined no_spellings us no_members vs x y h k = record {
-  many = omega arith;
-  spelled = subst (λ z. SpellsEach any us vs (z ++ y)) (sym h) k;
-  are = refl;
-}
-joined (spelling s ss) us (member t ts) vs x y h k =
-    let o = joined ss us ts vs h.rest y h.second k in
+-- geometries of any kind or of one, and others after them
+pub joined : (w : Wanted) (ss : Spellings) (ts : Values) (x : List ℕ) {m n : ℕ} {bytes more : List ℕ}
+    {xs : List Subject} → SpellsEach w ss ts x → Joined n bytes more xs → m ≡ count ts + n
+    → Joined m (x ++ bytes) more (subjects_of_each ss ts ++ xs)
+joined w no_spellings no_members x {m} {n} {bytes} {more} {xs} h k e =
+    let same : n ≡ m = omega arith in
+    subst (λ i. Joined i (x ++ bytes) more xs) same (rw h k)
+joined w (spelling s ss) (member t ts) x {m} {n} {bytes} {more} {xs} h k e =
+    let o = joined w ss ts h.rest {m = count ts + n} h.second k refl in
+    let y = o.all.begins in
     record {
-      many = omega (arith, o.many);
-      spelled = record {
-        front = h.front;
-        rest = h.rest ++ y;
-        whole = then_append h y;
-        first = h.first;
-        second = o.spelled;
+      all = record {
+        spelled = spelling s o.all.spelled;
+        values = member t o.all.values;
+        begins = record {
+          front = h.front ++ y.front;
+          whole = then_append h bytes ∙ ap (λ z. h.front ++ z) y.whole ∙ sym (append_assoc h.front y.front more);
+          first = record { front = h.front; rest = y.front; whole = refl; first = (h.first.0, tt); second = y.first };
+        };
+        counted = omega (arith, e, o.all.counted);
       };
-      are =
-          ap (λ l. subjects s t ++ l) o.are
-          ∙ sym (append_assoc (subjects s t) (subjects_of_each ss ts) (subjects_of_each us vs));
+      are = ap (λ l. subjects s t ++ l) o.are ∙ sym (append_assoc (subjects s t) (subjects_of_each ss ts) xs);
     }
-joined _ us _ vs x y h k = absurd h
+joined w _ _ x h k e = absurd h
 
 -- each has a byte at least
 each_some : (ss : Spellings) (ts : Values) (x : List ℕ) → SpellsEach any ss ts x → count ts ≤ length x

@@ -19,7 +19,7 @@ use Rattle.wkb_geom.specs.Refusals.{point_end, line_string_end, slots_asked}
 use Rattle.wkb_geom.specs.Numbers.{all_nan}
 use Rattle.std.proofs.lemmas.Bool.{cond_both}
 use Rattle.std.proofs.Common.{Bool, true, false, nat_lt}
-unfoldable use Rattle.wkb_geom.specs.Reading.{repeated, collection_at}
+unfoldable use Rattle.wkb_geom.specs.Reading.{collection_at}
 use Rattle.wkb_geom.specs.Counted.{coordinate_count_each}
 use Rattle.wkb_check.specs.declared.nested.OpenCounts.{OpenCounts}
 use Rattle.wkb_check.specs.declared.walk.Walk.{Walk}
@@ -89,7 +89,8 @@ without_header around bytes c t e =
 -- ---- the open collections
 
 -- as many counts as collections are open
-as_many : (left : List ℕ) (depth : ℕ) → length left ≡ max_nesting → depth ≤ max_nesting → length (open_counts left depth) ≡ depth
+as_many : (left : List ℕ) (depth : ℕ) → length left ≡ max_nesting → depth ≤ max_nesting
+    → length (open_counts left depth) ≡ depth
 as_many left depth len shallow = length-reverse (take depth left) ∙ omega (arith, length-take depth left)
 
 module _ (depth : ℕ) (h : Head) (d : Dimension) (l : Layout) (bytes : List ℕ)
@@ -137,7 +138,7 @@ passes_plain (Err c) h l bytes o old new is p = rw (← is) p
 
 -- ---- the loop
 
-pub no_count_left : (n d : ℕ) → ◌≡◌ {A = ℕ} (slice_index_or (replicate n 0) d 0) 0
+no_count_left : (n d : ℕ) → ◌≡◌ {A = ℕ} (slice_index_or (replicate n 0) d 0) 0
 no_count_left zero d = refl
 no_count_left (suc n) zero = refl
 no_count_left (suc n) (suc d) = no_count_left n d
@@ -153,11 +154,10 @@ none_follow left (suc around) none fits t rest =
     )
     (none_follow left around none (omega (arith, fits)) t rest)
 
-pub starts : (left : List ℕ) (around : ℕ) (w : Walked) → ((d : ℕ) → ◌≡◌ {A = ℕ} (slice_index_or left d 0) 0)
-    → around ≤ length left
-    → onward w (ahead_of (open_counts left around)) ≡ w
-starts left around (Ok x) none fits = none_follow left around none fits x.0 x.1
-starts left around (Err e) none fits = refl
+pub starts : (around : ℕ) (w : Walked) → around ≤ max_nesting
+    → onward w (ahead_of (open_counts (replicate max_nesting 0) around)) ≡ w
+starts around (Ok x) fits = none_follow _ around (no_count_left max_nesting) fits x.0 x.1
+starts around (Err e) fits = refl
 
 -- the next member begins
 module _ (left next bytes : List ℕ) (depth deep turns passed : ℕ) (reached whole : Walked) (ahead : reached ≡ whole)
@@ -177,6 +177,6 @@ module _ (left next bytes : List ℕ) (depth deep turns passed : ℕ) (reached w
   pub next_stops : (c : Cause) → head_at bytes ≡ Err c → whole ≡ Err (turns + 1, (c, length bytes))
   next_stops c e = sym (rw (without_header deep bytes c (turns + 1, passed) e) at begun)
 
-pub ruleset open_laws = (opens, opens_none)
+pub ruleset open_laws = (opens, opens_none, passes_plain)
 
 pub ruleset loop_laws = (next_begins, next_stops)

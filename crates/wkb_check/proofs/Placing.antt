@@ -22,7 +22,8 @@ use Rattle.wkb_check.specs.Subjects.{Subject, whole, ring, rings_of, subjects, s
 use Rattle.wkb_check.specs.Pieces.{count_of, leading, own_end, piece_of, ring_piece, piece_at, last_end, pieces_from}
 use Rattle.wkb_check.specs.Pieces.{pieces_of, first_rings, IsInside}
 use Rattle.wkb_check.specs.declared.pieces.Piece.{Piece}
-use Rattle.wkb_check.proofs.Bodies.{RingsFirst, rings_first, wanted_by_any, rest_smaller}
+use Rattle.wkb_check.proofs.Bodies.{RingsFirst, rings_first, rest_smaller}
+use Rattle.wkb_check.proofs.Joining.{joined}
 
 -- ---- stores
 
@@ -90,14 +91,19 @@ end_append at [] ys = refl
 end_append at (x ∷ xs) ys = end_append (own_end (piece_at at x)) xs ys
 
 -- each goes on
-own_onward : (at : ℕ) (x : Subject) → at < own_end (piece_at at x)
-own_onward at (whole (node h words ss) (point d c)) = omega arith
-own_onward at (whole (node h words ss) _) = omega arith
-own_onward at (ring order d cs) = omega arith
+begins_onward : (at : ℕ) (x : Subject) → at < (piece_at at x).offset
+begins_onward at (whole (node h words ss) (point d c)) = omega arith
+begins_onward at (whole (node h words ss) _) = omega arith
+begins_onward at (ring order d cs) = omega arith
+
+own_behind : (p : Piece) → p.offset ≤ own_end p
+own_behind p = cond_both (nat_lt p.kind 3) _ _ (λ e. p.offset ≤ e) (λ _. omega arith) (λ _. omega arith)
 
 pub end_onward : (at : ℕ) (xs : List Subject) → at ≤ last_end at xs
 end_onward at [] = omega arith
-end_onward at (x ∷ xs) = omega (arith, own_onward at x, end_onward (own_end (piece_at at x)) xs)
+end_onward at (x ∷ xs) =
+    let p = piece_at at x in
+    omega (arith, begins_onward at x, own_behind p, end_onward (own_end p) xs)
 
 -- they end where the bytes do that spell them
 rings_end : (order : Endianness) (d : Dimension) (at : ℕ) (rings : List (List Coordinate)) (bytes : List ℕ)
@@ -346,31 +352,21 @@ has_members buf at (node h words ss) t rest b e order f =
     let g : HasGeometry (drop at buf) = record { spelled = node h words ss; value = t; rest = rest; begins = b } in
     let y = b.first.second in
     let body = body_stands h t (geometry_stands buf at g) b.first in
+    let behind = rest_stands body y (counted_at h at) (omega (arith, y.first.1.len)) in
+    let j = joined (member_part (kind t) (dimension t)) ss (members t) y.rest {m = count_of t} {n = 0} {xs = []}
+    y.second (record { all = none_at refl; are = refl }) (omega (arith, members_many t e)) in
     record {
       whole = tt;
-      all = record {
-        spelled = ss;
-        values = members t;
-        begins = record {
-          front = y.rest;
-          whole = (rest_stands body y (counted_at h at) (omega (arith, y.first.1.len))).is;
-          first = wanted_by_any (member_part (kind t) (dimension t)) ss (members t) y.rest y.second;
-        };
-        counted = members_many t e;
-      };
-      are = refl;
+      all = begun_at behind.is j.all;
+      are = sym (j.are ∙ append-nil (subjects_of_each ss (members t)));
     }
-
-begins_onward : (at : ℕ) (s : Spelling) (t : Value) → at < (piece_of at s t).offset
-begins_onward at (node h words ss) (point d c) = omega arith
-begins_onward at (node h words ss) _ = omega arith
 
 -- the piece of a geometry begins and ends inside the bytes
 pub geometry_inside : (buf : List ℕ) (at to : ℕ) (g : HasGeometry (drop at buf)) (p : Piece)
     → p ≡ piece_of at g.spelled g.value → to ≡ own_end p
     → IsInside buf at to p
 geometry_inside buf at to g p is ends = record {
-  begins = omega (arith, ap (λ (q : Piece). q.offset) is, begins_onward at g.spelled g.value);
+  begins = omega (arith, ap (λ (q : Piece). q.offset) is, begins_onward at (whole g.spelled g.value));
   ends = ends;
   inside =
       omega (
@@ -385,10 +381,7 @@ geometry_inside buf at to g p is ends = record {
 
 -- what is inside bytes ends further on
 pub onward : (buf : List ℕ) (from to : ℕ) (p : Piece) → IsInside buf from to p → from < to
-onward buf from to p i =
-    let behind : p.offset ≤ own_end p =
-    cond_both (nat_lt p.kind 3) _ _ (λ e. p.offset ≤ e) (λ _. omega arith) (λ _. omega arith) in
-    omega (arith, i.begins, i.ends, behind)
+onward buf from to p i = omega (arith, i.begins, i.ends, own_behind p)
 
 -- ---- by the piece that was read
 

@@ -133,7 +133,8 @@ impl Piece {
     #[inline(always)]
     pub fn of_ring(bytes: &[u8], begin: usize, order: Endianness, dimension: Dimension) -> Piece
         requires { begin + COUNT_SIZE ≤ length bytes.now }
-        ensures { result ≡ ring_piece order dimension begin (number order 4 (drop begin bytes.now)) }
+        ensures { result ≡ ring_piece order dimension begin
+            (number order 4 (drop begin bytes.now)) }
     {
         Piece {
             kind: RING,
@@ -192,6 +193,7 @@ impl<'a> Pieces<'a> {
     }
 
     /// The next piece, which is a ring.
+    #[tactic(auto, using(crate::proofs::Following::ring_laws))]
     #[inline(always)]
     fn next_ring(&mut self) -> Piece
         requires ahead { HasAhead self.old }
@@ -208,6 +210,7 @@ impl<'a> Pieces<'a> {
     }
 
     /// Passes the geometry that comes next, up to its rings or members.
+    #[tactic(auto, using(crate::proofs::Following::piece_laws))]
     #[inline(always)]
     fn pass_geometry(&mut self, piece: &Piece)
         requires ahead { HasAhead self.old }

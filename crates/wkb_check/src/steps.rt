@@ -2,10 +2,8 @@
 
 ghost use Rattle.std.specs.Prelude.{ℕ, ◌+◌, ◌≤◌};
 
-/// Takes the steps of a call. A step is a turn of one of its loops, or a ring or a member that is begun: from one to the next a
-/// check decodes at most a header and a count, which are 13 bytes.
-///
-/// A check knows nothing else of its steps, so what it promises of them holds for a type that counts each one, too.
+/// Takes the steps of a check. A step is a turn of a loop, or a ring or a member that is begun, and decodes at most
+/// 13 bytes: a header and a count. What a check promises of their number holds for any type that counts them.
 pub trait Steps {
     // How many were counted.
     ghost counted: { Self → ℕ };

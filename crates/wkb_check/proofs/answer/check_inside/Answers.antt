@@ -1,3 +1,4 @@
+use Rattle.std.proofs.Common.{rules}
 use Rattle.wkb_check.proofs.Public.{headless_checks, body_checks, found_checks_within}
 use Rattle.wkb_check.proofs.answer.check_inside.Goals as goal
 
@@ -6,10 +7,8 @@ returns-in-Err-clause-checks g c = headless_checks c.args.around c.args.buf.now 
 
 pub returns-in-Ok-skip_geometry-clause-checks : goal.returns-in-Ok-skip_geometry-clause-checks
 returns-in-Ok-skip_geometry-clause-checks g c =
-    found_checks_within c.args.around c.args.buf.now c.in-Ok.header _ _ _ c.in-Ok.ensures
-    c.in-Ok-skip_geometry.ensures.passes _ c.summary_of.ensures.checks
+    search (rules, found_checks_within, c.in-Ok.ensures, c.in-Ok-skip_geometry.ensures.passes)
 
 pub returns-in-Err-skip_geometry-clause-checks : goal.returns-in-Err-skip_geometry-clause-checks
 returns-in-Err-skip_geometry-clause-checks g c =
-    let stopped = c.in-Err-skip_geometry.ensures in
-    body_checks c.args.around c.args.buf.now c.in-Ok.header _ _ _ c.in-Ok.ensures stopped.passes stopped.held.1
+    search (rules, body_checks, c.in-Ok.ensures, c.in-Err-skip_geometry.ensures)
