@@ -7,7 +7,8 @@ use Rattle.std.proofs.Math.Seq.{take-append_seam}
 use Rattle.std.proofs.lemmas.List.{drop-take, length-map}
 use Rattle.std.proofs.lemmas.Result.{IfOk-at_ok}
 use Rattle.std.specs.Io.KnownBytes.{Appends}
-use Rattle.wkb.specs.Prelude.{Dimension, WkbError, IsMemory, Tells, Endianness, Form, as_dimensions, number, number_bytes}
+use Rattle.wkb.specs.Prelude.{Dimension, WkbError, IsMemory, Tells, Endianness, Form, as_dimensions, number}
+use Rattle.wkb.specs.Prelude.{number_bytes}
 use Rattle.wkb.specs.Checks.{Refused, IsRefusedFor}
 use Rattle.wkb_geom.specs.declared.error.WkbError.TheVariants as errors
 use Rattle.wkb.specs.Values.{Coordinate, Value, Values, each, members, collection, nest}

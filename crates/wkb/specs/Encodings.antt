@@ -3,8 +3,8 @@ pub use Rattle.wkb_geom.specs.Encodings.{form_srid, inner, count_geometries, enc
 pub use Rattle.wkb_geom.specs.declared.error.Fault.{Fault}
 pub use Rattle.wkb_geom.specs.declared.error.Fault.TheVariants.{UnsupportedDimensions as unsupported_dimensions}
 pub use Rattle.wkb_geom.specs.declared.error.Fault.TheVariants.{Count as count_overflow, Size as size_overflow}
-pub use Rattle.wkb_geom.specs.Encodings.{coordinates_fault, rings_fault, fault, fault_each, fault_under, IsWritable, IsForm}
-pub use Rattle.wkb_geom.specs.Encodings.{IsRewriting, IsRewritingWithSrid}
+pub use Rattle.wkb_geom.specs.Encodings.{coordinates_fault, rings_fault, fault, fault_each, fault_under, IsWritable}
+pub use Rattle.wkb_geom.specs.Encodings.{IsForm, IsRewriting, IsRewritingWithSrid}
 unfoldable pub use
     Rattle.wkb_geom.specs.Encodings.{code_of, srid_encoding, header_encoding, words_encoding, coordinates_encoding}
 unfoldable pub use Rattle.wkb_geom.specs.Encodings.{point_words, point_encoding}

@@ -1,4 +1,4 @@
--- Lemmas: having one value is an equivalence of inputs, in which a rewriting and its input are, and it keeps the bounds.
+-- Lemmas: having one value is an equivalence of inputs, in which a rewriting and its input are; it keeps the bounds.
 use Rattle.std.proofs.Common.{ℕ, List, [], sym, subst, ◌∙◌, append-nil}
 use Rattle.wkb.specs.Prelude.{AreBytes, Endianness, Form}
 use Rattle.wkb.specs.Spellings.{Front}

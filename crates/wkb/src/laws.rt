@@ -34,7 +34,7 @@ pub fn srid_fits(form: Form)
     }
 }
 
-/// Numbers are in the order of the ranks of their words, so that the least and the greatest of a range are so as numbers.
+/// Numbers are in the order of the ranks of their words, so the least and the greatest of a range are so as numbers.
 #[tactic(auto, using(crate::specs::Known::ranks_in_order))]
 pub fn ranks_in_order()
     ensures { RanksInOrder }

@@ -1,8 +1,7 @@
 -- Ranges that are widened word by word, and bounds coordinate by coordinate.
-use Rattle.std.proofs.Common.{◌≡◌, ◌≢◌, ℕ, zero, suc, ◌+◌, ◌*◌, ◌/◌, ◌<◌, ◌≤◌, ◌^◌, List, [], ◌∷◌, ◌++◌, length}
-use Rattle.std.proofs.Common.{take, drop}
-use Rattle.std.proofs.Common.{Option, Some, None, IfSome, Bool, true, false, refl, sym, ap, ◌∙◌, subst, arith, drop-drop}
-use Rattle.std.proofs.Common.{length-append, length-take}
+use Rattle.std.proofs.Common.{◌≡◌, ◌≢◌, ℕ, zero, suc, ◌+◌, ◌*◌, ◌/◌, ◌<◌, ◌≤◌, ◌^◌, List, [], ◌∷◌, ◌++◌, length, take}
+use Rattle.std.proofs.Common.{drop, Option, Some, None, IfSome, Bool, true, false, refl, sym, ap, ◌∙◌, subst, arith}
+use Rattle.std.proofs.Common.{drop-drop, length-append, length-take}
 use Rattle.std.proofs.lemmas.Bool.{cond_both}
 use Rattle.wkb_geom.specs.declared.common.Dimension.{Dimension}
 use Rattle.wkb_geom.specs.declared.common.Dimension.TheVariants.{Xy}

@@ -7,11 +7,10 @@ ghost use Rattle.wkb_bounds.specs.Bounded.{WidensBounds, WidensPlane, ArePlaneNu
 ghost use Rattle.wkb_bounds.specs.Bounded.{nothing as no_bounds};
 ghost use Rattle.wkb_bounds.specs.Runs.{coordinates_of, rows};
 
-use crate::by_order;
 use crate::range::{Bounds, Range};
 use crate::ranks::Ranks;
 use crate::run::Run;
-use wkb_geom::{Dimension, Endianness};
+use wkb_geom::{Dimension, Endianness, by_order};
 
 /// The ranges on each axis. Most coordinates have no z and no m, whose ranges are kept as they are returned.
 #[derive(Clone, Copy)]
@@ -75,8 +74,8 @@ impl AxisRanks {
         }
     }
 
-    /// Widens the ranks of x and y by a run. Words that aren't tested are taken for numbers. If the order is a constant,
-    /// the ranks stay in registers.
+    /// Widens the ranks of x and y by a run. Words that aren't tested are taken for numbers. If the order is a
+    /// constant, the ranks stay in registers.
     #[tactic(auto, using(crate::proofs::Widening::run_laws))]
     #[inline(always)]
     pub(crate) fn widen_plane_by(&mut self, run: Run<'_>, tested: bool)

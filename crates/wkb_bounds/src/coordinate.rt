@@ -54,7 +54,8 @@ impl Bounds {
     #[inline(always)]
     pub(crate) fn of_coordinate(order: Endianness, dimension: Dimension, bytes: &[u8]) -> Bounds
         requires { 8 * width dimension ≤ length bytes.now }
-        ensures { Widens no_bounds result (λ a. words_in a dimension (coordinates order dimension 1 bytes.now)) }
+        ensures { Widens no_bounds result
+            (λ a. words_in a dimension (coordinates order dimension 1 bytes.now)) }
     {
         Bounds {
             x: Range::of_ordinate(Some(0), order, dimension, bytes),

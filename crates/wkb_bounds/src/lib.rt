@@ -2,24 +2,6 @@
 //! finds. It allocates nothing.
 #![tactic(auto)]
 
-/// A call in which the order is a constant, for which it is compiled: once for each order.
-macro_rules! by_order {
-    ($order:ident, $call:expr) => {
-        match $order {
-            Endianness::BigEndian => {
-                let $order = Endianness::BigEndian;
-                $call
-            }
-            Endianness::LittleEndian => {
-                let $order = Endianness::LittleEndian;
-                $call
-            }
-        }
-    };
-}
-
-pub(crate) use by_order;
-
 mod axes;
 mod coordinate;
 mod range;

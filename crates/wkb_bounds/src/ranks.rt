@@ -5,11 +5,10 @@ ghost use Rattle.wkb_bounds.specs.Ranges.{word_of as word_by, range_by, widened,
 ghost use Rattle.wkb_bounds.specs.Ordinates.{words_at};
 ghost use Rattle.wkb_bounds.specs.Runs.{coordinates_of, rows};
 
-use crate::by_order;
 use crate::range::Range;
 use crate::run::Run;
-use wkb_geom::Endianness;
 use wkb_geom::words::{SIGN, is_nan, rank};
+use wkb_geom::{Endianness, by_order};
 
 /// The rank of minus infinity, the least number.
 const LEAST_RANK: u64 = 0x000f_ffff_ffff_ffff;
@@ -90,7 +89,8 @@ impl Ranks {
     fn widen_by(&mut self, k: usize, run: Run<'_>, tested: bool)
         requires there { k < run.size / 8 }
         requires room { self.old.count + run.count < 2 ^ 64 }
-        ensures { WidensRanks tested self.old self.new (words_at (Some k) (coordinates_of run.entry)) }
+        ensures { WidensRanks tested self.old self.new
+            (words_at (Some k) (coordinates_of run.entry)) }
     {
         let mut ranks = *self;
         let mut left = run;
@@ -107,7 +107,8 @@ impl Ranks {
     fn widen_in(&mut self, k: usize, run: Run<'_>)
         requires there { k < run.size / 8 }
         requires room { self.old.count + run.count < 2 ^ 64 }
-        ensures { WidensRanks true self.old self.new (words_at (Some k) (coordinates_of run.entry)) }
+        ensures { WidensRanks true self.old self.new
+            (words_at (Some k) (coordinates_of run.entry)) }
     {
         let mut numbers = *self;
         numbers.widen_by(k, run, false);
@@ -132,7 +133,8 @@ impl Ranks {
         requires there { k < size / 8 }
         requires whole { size * count ≤ length bytes.now }
         requires room { self.old.count + count < 2 ^ 64 }
-        ensures { WidensRanks true self.old self.new (words_at (Some k) (rows order size count bytes.now)) }
+        ensures { WidensRanks true self.old self.new
+            (words_at (Some k) (rows order size count bytes.now)) }
     {
         self.widen_by(k, Run::of(order, size, count, bytes), true);
     }
@@ -144,7 +146,8 @@ impl Ranks {
         requires there { k < size / 8 }
         requires whole { size * count ≤ length bytes.now }
         requires room { self.old.count + count < 2 ^ 64 }
-        ensures { WidensRanks true self.old self.new (words_at (Some k) (rows order size count bytes.now)) }
+        ensures { WidensRanks true self.old self.new
+            (words_at (Some k) (rows order size count bytes.now)) }
     {
         by_order!(order, self.widen_in(k, Run::of(order, size, count, bytes)))
     }

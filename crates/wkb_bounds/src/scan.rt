@@ -14,13 +14,12 @@ ghost use Rattle.wkb_check.specs.Pieces.{IsPieceAt, IsHeaderAt};
 ghost use Rattle.wkb_check.specs.Public.{Checks, DescribesFront, HasNoPlain};
 
 use crate::axes::AxisRanks;
-use crate::by_order;
 use crate::range::Bounds;
 use crate::run::Run;
 use wkb_check::{Piece, Pieces, Refused, Summary, check, check_plain};
 use wkb_geom::code::{POLYGON, WkbType};
 use wkb_geom::words::{WORD_SIZE, rest_from};
-use wkb_geom::{Dimension, Endianness};
+use wkb_geom::{Dimension, Endianness, by_order};
 
 /// The bytes of a coordinate of an x and a y.
 const XY_SIZE: usize = 2 * WORD_SIZE;
@@ -29,7 +28,8 @@ const XY_SIZE: usize = 2 * WORD_SIZE;
 #[inline(always)]
 fn xy_bounds_of_order_into(order: Endianness, count: u32, bytes: &[u8], bounds: &mut Bounds)
     requires { XY_SIZE * count ≤ length bytes.now }
-    ensures { Widens no_bounds bounds.new (λ a. words_in a Xy (coordinates order Xy count bytes.now)) }
+    ensures { Widens no_bounds bounds.new
+        (λ a. words_in a Xy (coordinates order Xy count bytes.now)) }
 {
     let mut ranks = AxisRanks::empty();
     ranks.widen_plane_by(Run::of(order, XY_SIZE, count, bytes), false);
@@ -44,7 +44,8 @@ fn xy_bounds_of_order_into(order: Endianness, count: u32, bytes: &[u8], bounds: 
 #[inline(never)]
 fn xy_bounds_into(order: Endianness, count: u32, bytes: &[u8], bounds: &mut Bounds)
     requires { XY_SIZE * count ≤ length bytes.now }
-    ensures { Widens no_bounds bounds.new (λ a. words_in a Xy (coordinates order Xy count bytes.now)) }
+    ensures { Widens no_bounds bounds.new
+        (λ a. words_in a Xy (coordinates order Xy count bytes.now)) }
 {
     by_order!(order, xy_bounds_of_order_into(order, count, bytes, bounds))
 }
@@ -59,7 +60,8 @@ fn coordinates_bounds_into(
     bounds: &mut Bounds,
 )
     requires { 8 * width dimension * count ≤ length bytes.now }
-    ensures { Widens no_bounds bounds.new (λ a. words_in a dimension (coordinates order dimension count bytes.now)) }
+    ensures { Widens no_bounds bounds.new
+        (λ a. words_in a dimension (coordinates order dimension count bytes.now)) }
 {
     let mut ranks = AxisRanks::empty();
     let run = Run::of(order, dimension.coordinate_size(), count, bytes);
@@ -108,8 +110,8 @@ fn rings_bounds_of_order_into(buf: &[u8], order: Endianness, srid: Option<u32>, 
     *bounds = ranks.bounds();
 }
 
-/// Writes the bounds of a polygon of x and y, with a loop for each order. It takes scalars, so that the findings on other
-/// geometries need no place in memory.
+/// Writes the bounds of a polygon of x and y, with a loop for each order. It takes scalars, so that the findings on
+/// other geometries need no place in memory.
 #[inline(never)]
 fn rings_bounds_into(buf: &[u8], order: Endianness, srid: Option<u32>, bounds: &mut Bounds)
     requires here { HasGeometry buf.now }
@@ -155,8 +157,8 @@ fn front_bounds_into(buf: &[u8], bounds: &mut Bounds)
     *bounds = ranks.bounds();
 }
 
-/// Writes the bounds of the geometry at the start of the bytes, if `check_plain` finds it. Else [`any_bounds_into`] has to
-/// look.
+/// Writes the bounds of the geometry at the start of the bytes, if `check_plain` finds it. Else [`any_bounds_into`] has
+/// to look.
 ///
 /// It returns no `Result`, which would need a place in memory.
 #[tactic(auto, using(crate::proofs::Scanning::front_there))]

@@ -1,6 +1,6 @@
 -- What is written of a package, and that the blob holds it.
-use Rattle.std.proofs.Common.{◌≡◌, ℕ, zero, suc, ◌+◌, ◌*◌, ◌/◌, ◌%◌, ◌<◌, ◌≤◌, ◌^◌, List, [], ◌∷◌, ◌++◌, Bool, true, false}
-use Rattle.std.proofs.Common.{if◌then◌else◌, ◌&&◌, length, drop, length-drop, append_assoc, refl, sym, ap, subst}
+use Rattle.std.proofs.Common.{◌≡◌, ℕ, zero, suc, ◌+◌, ◌*◌, ◌/◌, ◌%◌, ◌<◌, ◌≤◌, ◌^◌, List, [], ◌∷◌, ◌++◌, Bool, true}
+use Rattle.std.proofs.Common.{false, if◌then◌else◌, ◌&&◌, length, drop, length-drop, append_assoc, refl, sym, ap, subst}
 use Rattle.std.proofs.Common.{◌∙◌, arith}
 use Rattle.std.specs.Prelude.{◌==◌, nat_le}
 use Rattle.std.proofs.lemmas.Bool.{le-leb}
@@ -15,7 +15,8 @@ use Rattle.wkb.specs.Reads.{IsFront}
 use Rattle.wkb_clients.specs.Common.{Item}
 use Rattle.wkb_clients.specs.declared.geopackage.BlobHeader.{BlobHeader}
 use Rattle.wkb_clients.specs.Geopackage.{IsBlobHeader, HoldsGeometry, order_said, start_behind, is_ewkb, is_around}
-use Rattle.wkb_clients.specs.Geopackage.{axis_around, envelope_around, header_bytes, word_or_nan, range_bytes, envelope_bytes}
+use Rattle.wkb_clients.specs.Geopackage.{axis_around, envelope_around, header_bytes, word_or_nan, range_bytes}
+use Rattle.wkb_clients.specs.Geopackage.{envelope_bytes}
 use Rattle.wkb_clients.proofs.Packages.{holds}
 
 order_again : (order : Endianness) → (order_byte order ≤ 1) × (order_said (order_byte order) ≡ order)

@@ -2,8 +2,8 @@
 use Rattle.std.proofs.Common.{◌≡◌, ℕ, ◌+◌, ◌*◌, List, [], drop-drop, Option, Some, None, refl, sym, ap, subst, ◌∙◌}
 use Rattle.std.proofs.Common.{arith, slice_get}
 use Rattle.std.specs.Prelude.{option_map, MatchOption}
-use Rattle.wkb_clients.specs.Common.{number, width, Dimension, Coordinate, Value, polygon, kind, header, Spelling, Spells}
-use Rattle.wkb_clients.specs.Common.{Listed, whole_of, Item, IsMember, IsWordOf, LinearRing, ring_seen}
+use Rattle.wkb_clients.specs.Common.{number, width, Dimension, Coordinate, Value, polygon, kind, header, Spelling}
+use Rattle.wkb_clients.specs.Common.{Spells, Listed, whole_of, Item, IsMember, IsWordOf, LinearRing, ring_seen}
 use Rattle.wkb.specs.Known.{members_stand, rings_stand}
 use Rattle.wkb.specs.Reads.{IsCollectionOf}
 use Rattle.wkb.specs.Bridges.{member_of, front_stands, stands_within}

@@ -1,9 +1,10 @@
 -- What a GeoPackage blob holds (OGC 12-128, clause 2.1.3).
-use Rattle.std.specs.Prelude.{◌≡◌, ℕ, ◌+◌, ◌*◌, ◌/◌, ◌%◌, ◌<◌, ◌≤◌, List, [], ◌∷◌, ◌++◌, length, drop, slice_index, Bool, true, not}
-use Rattle.std.specs.Prelude.{◌&&◌, ◌==◌, ◌⊎◌, ◌^◌, false, nat_le, if◌then◌else◌, Option, Result, MatchOption, MatchResult, Vec}
+use Rattle.std.specs.Prelude.{◌≡◌, ℕ, ◌+◌, ◌*◌, ◌/◌, ◌%◌, ◌<◌, ◌≤◌, List, [], ◌∷◌, ◌++◌, length, drop, slice_index}
+use Rattle.std.specs.Prelude.{Bool, true, not, ◌&&◌, ◌==◌, ◌⊎◌, ◌^◌, false, nat_le, if◌then◌else◌, Option, Result}
+use Rattle.std.specs.Prelude.{MatchOption, MatchResult, Vec}
 use Rattle.std.specs.Global.{Global}
-use Rattle.wkb.specs.Prelude.{Endianness, BigEndian, LittleEndian, number, is_nan, IsMemory, WkbError, order_byte, number_bytes}
-use Rattle.wkb.specs.Prelude.{empty_word}
+use Rattle.wkb.specs.Prelude.{Endianness, BigEndian, LittleEndian, number, is_nan, IsMemory, WkbError, order_byte}
+use Rattle.wkb.specs.Prelude.{number_bytes, empty_word}
 use Rattle.wkb.specs.Checks.{Range, Bounds, AreBounds, BoundsFront, rank}
 use Rattle.wkb.specs.Reads.{IsFront, IsRefusal}
 use Rattle.wkb_clients.specs.Common.{Item}
@@ -54,8 +55,8 @@ HasNoBlobHeader blob = (h : BlobHeader) → IsBlobHeader blob h → ⊥
 abbrev pub is_number_at_most : ℕ → ℕ → Bool
 is_number_at_most v w = not (is_nan v) && nat_le (rank v) (rank w)
 
--- Whether two words are numbers, at most the least and at least the greatest of a range. Where that has no number, as on
--- each axis of an empty geometry, they are NaNs.
+-- Whether two words are numbers, at most the least and at least the greatest of a range. Where that has no number, as
+-- on each axis of an empty geometry, they are NaNs.
 abbrev pub is_around : Bool → ℕ → ℕ → ℕ → ℕ → Bool
 is_around none low high least greatest =
     if none then is_nan low && is_nan high
@@ -87,8 +88,8 @@ envelope_around order kind blob b =
 abbrev pub is_ewkb : List ℕ → Bool
 is_ewkb body = nat_le 5 (length body) && nat_le (2 ^ 29) (number (order_said (slice_index body 0)) 4 (drop 1 body))
 
--- The blob has this header, then an envelope around all numbers of the geometry, then the geometry, whose code is one of
--- ISO. The clause asks that of its members' codes, too, which aren't looked at here.
+-- The blob has this header, then an envelope around all numbers of the geometry, then the geometry, whose code is one
+-- of ISO. The clause asks that of its members' codes, too, which aren't looked at here.
 pub record HoldsGeometry (blob : List ℕ) (h : BlobHeader) (w : Item) : Type 0 where
   pub header : IsBlobHeader blob h
   pub iso : is_ewkb (body_of blob) ≡ false

@@ -66,8 +66,8 @@ impl Visitor for Words {
 /// The encoding of the multi point that has a point at each coordinate of the geometry, in their order. An empty point
 /// has no coordinate; a coordinate of NaNs keeps its words, and is read as an empty point.
 ///
-/// None if a collection has a member of another dimension. Rejected as the writer rejects that multi point: if there are
-/// more than 4294967295 coordinates.
+/// None if a collection has a member of another dimension. Rejected as the writer rejects that multi point: if there
+/// are more than 4294967295 coordinates.
 pub fn as_multi_point(
     alloc: Global,
     geometry: &Wkb,

@@ -1,5 +1,5 @@
-//! A shape of a map of any type, and shapes together: geometries by `GeometryTrait` and `GeometryCollectionTrait`, which
-//! are measured and written as what they mean.
+//! A shape of a map of any type, and shapes together: geometries by `GeometryTrait` and `GeometryCollectionTrait`,
+//! which are measured and written as what they mean.
 
 ghost use Rattle.wkb.specs.Prelude.{Iso};
 ghost use Rattle.wkb.specs.Prelude.traits.{Xy};

@@ -1,12 +1,13 @@
-//! A reader and a writer of GeoPackage blobs (OGC 12-128, clause 2.1.3): which blobs are read, why no other is, and that
-//! what was written of a geometry is read as it.
+//! A reader and a writer of GeoPackage blobs (OGC 12-128, clause 2.1.3): which blobs are read, why no other is, and
+//! that what was written of a geometry is read as it.
 
 ghost use Rattle.std.specs.Prelude.{◌≡◌, ◌+◌, ◌++◌, ◌<◌, ◌≤◌, ◌⊎◌, ◌&&◌, MatchOption, IfOk, IfErr, drop, length};
 ghost use Rattle.wkb.specs.Prelude.{number_bytes};
-ghost use Rattle.wkb_clients.specs.Geopackage.{IsBlobHeader, HasNoBlobHeader, start_behind, order_said, body_of, is_ewkb};
-ghost use Rattle.wkb_clients.specs.Geopackage.{is_number_at_most, axis_around, other_around, others_around, envelope_around};
-ghost use Rattle.wkb_clients.specs.Geopackage.{header_order, envelope_kind, HoldsGeometry, HoldsNoGeometry, IsWantOfMemory, IsWhy};
-ghost use Rattle.wkb_clients.specs.Geopackage.{GivesBack, flags_of, header_bytes, range_bytes, envelope_bytes, FindsBlob};
+ghost use Rattle.wkb_clients.specs.Geopackage.{IsBlobHeader, HasNoBlobHeader, start_behind, order_said, body_of};
+ghost use Rattle.wkb_clients.specs.Geopackage.{is_ewkb, is_number_at_most, axis_around, other_around, others_around};
+ghost use Rattle.wkb_clients.specs.Geopackage.{envelope_around, header_order, envelope_kind, HoldsGeometry};
+ghost use Rattle.wkb_clients.specs.Geopackage.{HoldsNoGeometry, IsWantOfMemory, IsWhy, GivesBack, flags_of};
+ghost use Rattle.wkb_clients.specs.Geopackage.{header_bytes, range_bytes, envelope_bytes, FindsBlob};
 
 use crate::own::bounds_of;
 use std::alloc::{AllocError, Global};
@@ -109,7 +110,8 @@ fn is_ewkb(body: &[u8]) -> bool
     body.len() >= 5 && u32_at(body, 1, order_of_bit(body[0])) >= 0x20000000
 }
 
-/// Whether the two words at an offset are numbers around the range, or NaNs if it has no number, as in an empty geometry.
+/// Whether the two words at an offset are numbers around the range, or NaNs if it has no number, as in an empty
+/// geometry.
 #[tactic(auto, unfolding(crate::specs::Geopackage::axis_around))]
 fn axis_around(blob: &[u8], at: usize, order: Endianness, range: Range) -> bool
     requires { at + 16 ≤ length blob.now }
@@ -151,7 +153,8 @@ fn others_around(blob: &[u8], order: Endianness, kind: u8, found: Bounds) -> boo
 /// Whether the words of x and of y are around those of the bounds.
 fn plane_around(blob: &[u8], order: Endianness, found: Bounds) -> bool
     requires { 40 ≤ length blob.now }
-    ensures { result ≡ (axis_around order blob.now 8 found.x && axis_around order blob.now 24 found.y) }
+    ensures { result ≡
+        (axis_around order blob.now 8 found.x && axis_around order blob.now 24 found.y) }
 {
     axis_around(blob, 8, order, found.x) && axis_around(blob, 24, order, found.y)
 }

@@ -1,5 +1,5 @@
-//! Types of one's own that contain geometries of `wkb`, whose lemmas say that they are lawful: a plain point with a number,
-//! a line string that was read with one, and geometries that were read, together.
+//! Types of one's own that contain geometries of `wkb`, whose lemmas say that they are lawful: a plain point with a
+//! number, a line string that was read with one, and geometries that were read, together.
 
 ghost use Rattle.std.specs.Prelude.{map};
 ghost use Rattle.wkb.specs.Prelude.{as_dimensions};

@@ -163,8 +163,8 @@ pub record RunEnds (old new : Option (List ℕ)) (IsDue : List ℕ → ℕ → T
   pub appended : Appends old new written
   pub ends : RunOutcome IsDue status written
 
--- The run of the program with these arguments, to this writer, on what remains of this reader's input: on the bytes that
--- the reader reports, or on some if it reports none.
+-- The run of the program with these arguments, to this writer, on what remains of this reader's input: on the bytes
+-- that the reader reports, or on some if it reports none.
 abbrev pub IsRunOf : {R W : Type 0} → ReaderOf R → WriterOf W → List (String Global) → R → W → W → ℕ → Type 0
 IsRunOf reader writer arguments input old new status =
     (bytes : List ℕ) × IfSome (reader.remaining input) (λ all. bytes ≡ all)

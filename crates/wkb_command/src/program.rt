@@ -77,7 +77,8 @@ enum Output {
 impl Output {
     /// Writes the line.
     fn write_to<W: Write>(&self, out: &mut W) -> Result<(), WriteFailure>
-        ensures { WroteBeginning (W.contents out.old) (W.contents out.new) (line_of self.now) result }
+        ensures { WroteBeginning (W.contents out.old) (W.contents out.new) (line_of self.now)
+            result }
     {
         match self {
             Output::Text(text) => write_whole(out, text.as_bytes()),

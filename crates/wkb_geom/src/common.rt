@@ -47,6 +47,23 @@ impl Endianness {
     }
 }
 
+/// A call in which the order is a constant, for which it is compiled: once for each order.
+#[macro_export]
+macro_rules! by_order {
+    ($order:ident, $call:expr) => {
+        match $order {
+            $crate::Endianness::BigEndian => {
+                let $order = $crate::Endianness::BigEndian;
+                $call
+            }
+            $crate::Endianness::LittleEndian => {
+                let $order = $crate::Endianness::LittleEndian;
+                $call
+            }
+        }
+    };
+}
+
 /// The dimension of a geometry that was read.
 #[derive(Clone, Copy, Debug, PartialEq)]
 pub enum Dimension {

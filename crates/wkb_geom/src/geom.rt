@@ -89,7 +89,8 @@ pub trait PointTrait: Dimensioned {
     /// The coordinate; none of an empty point.
     fn coord(&self) -> Option<Self::CoordType>
         ensures value { option_map Self.CoordType.words result ≡ coordinate self.now }
-        ensures dimensions { HasDimensions Self.CoordType.dimensions result (Self.dimensions self.now) };
+        ensures dimensions { HasDimensions Self.CoordType.dimensions result
+            (Self.dimensions self.now) };
 
     ghost lawful: { (p : Self) → IsPoint (Self.dimensions p) (coordinate p) };
 }
@@ -108,7 +109,8 @@ pub trait LineStringTrait: Dimensioned {
     /// The coordinate at an index, if there is one.
     fn coord(&self, i: usize) -> Option<Self::CoordType>
         ensures value { IsItemAt Self.CoordType.words result (coordinates self.now) i }
-        ensures dimensions { HasDimensions Self.CoordType.dimensions result (Self.dimensions self.now) };
+        ensures dimensions { HasDimensions Self.CoordType.dimensions result
+            (Self.dimensions self.now) };
 
     /// The coordinate at an index that is known to be there.
     fn coord_at(&self, i: usize) -> Self::CoordType
@@ -123,7 +125,8 @@ pub trait LineStringTrait: Dimensioned {
     /// then asks for each coordinate.
     #[inline]
     fn coords_as_written(&self, order: Endianness) -> Option<&[u8]>
-        ensures { IfSome result (λ b. b.now ≡ flat_map (words_encoding order) (coordinates self.now)) }
+        ensures { IfSome result (λ b. b.now ≡
+            flat_map (words_encoding order) (coordinates self.now)) }
     {
         None
     }
@@ -156,12 +159,14 @@ pub trait PolygonTrait: Dimensioned {
     /// The exterior ring, if the polygon has rings.
     fn exterior(&self) -> Option<Self::RingType>
         ensures value { IsItemAt Self.RingType.coordinates result (rings self.now) 0 }
-        ensures dimensions { HasDimensions Self.RingType.dimensions result (Self.dimensions self.now) };
+        ensures dimensions { HasDimensions Self.RingType.dimensions result
+            (Self.dimensions self.now) };
 
     /// The interior at an index, if there is one.
     fn interior(&self, i: usize) -> Option<Self::RingType>
         ensures value { IsItemAt Self.RingType.coordinates result (rings self.now) (i + 1) }
-        ensures dimensions { HasDimensions Self.RingType.dimensions result (Self.dimensions self.now) };
+        ensures dimensions { HasDimensions Self.RingType.dimensions result
+            (Self.dimensions self.now) };
 
     /// The size of the encoding without its header, in bytes, if it is known without a look at each ring.
     ///
@@ -169,8 +174,10 @@ pub trait PolygonTrait: Dimensioned {
     /// measures each ring.
     #[inline]
     fn rings_size(&self) -> Option<usize>
-        ensures size { IfSome result (λ n. n ≡ rings_size (Self.dimensions self.now) (rings self.now)) }
-        ensures writable { IsOfWritable result (polygon (Self.dimensions self.now) (rings self.now)) }
+        ensures size { IfSome result (λ n. n ≡
+            rings_size (Self.dimensions self.now) (rings self.now)) }
+        ensures writable { IsOfWritable result
+            (polygon (Self.dimensions self.now) (rings self.now)) }
     {
         None
     }
@@ -211,7 +218,8 @@ pub trait MultiLineStringTrait: Dimensioned {
 
     /// The line string at an index, if there is one.
     fn line_string(&self, i: usize) -> Option<Self::InnerLineStringType>
-        ensures value { IsItemAt Self.InnerLineStringType.coordinates result (line_strings self.now) i }
+        ensures value { IsItemAt Self.InnerLineStringType.coordinates result
+            (line_strings self.now) i }
         ensures dimensions { HasDimensions Self.InnerLineStringType.dimensions
             result (Self.dimensions self.now) };
 
@@ -235,7 +243,8 @@ pub trait MultiPolygonTrait: Dimensioned {
 
     /// The polygon at an index, if there is one.
     fn polygon(&self, i: usize) -> Option<&Self::InnerPolygonType>
-        ensures value { IsItemAt (λ p. Self.InnerPolygonType.rings p.now) result (polygons self.now) i }
+        ensures value { IsItemAt (λ p. Self.InnerPolygonType.rings p.now) result
+            (polygons self.now) i }
         ensures dimensions { HasDimensions (λ p. Self.InnerPolygonType.dimensions p.now)
             result (Self.dimensions self.now) };
 
@@ -396,16 +405,20 @@ pub trait GeometryTrait: Dimensioned + Sized {
         Self::LineType,
     >
         ensures point { PointMeans Self.PointType.PointTrait result (geometry self.now) }
-        ensures line_string { LineStringMeans Self.LineStringType.LineStringTrait result (geometry self.now) }
+        ensures line_string { LineStringMeans Self.LineStringType.LineStringTrait result
+            (geometry self.now) }
         ensures polygon { PolygonMeans Self.PolygonType.PolygonTrait result (geometry self.now) }
-        ensures multi_point { MultiPointMeans Self.MultiPointType.MultiPointTrait result (geometry self.now) }
+        ensures multi_point { MultiPointMeans Self.MultiPointType.MultiPointTrait result
+            (geometry self.now) }
         ensures multi_line_string { MultiLineStringMeans Self.MultiLineStringType.MultiLineStringTrait
             result (geometry self.now) }
         ensures multi_polygon { MultiPolygonMeans Self.MultiPolygonType.MultiPolygonTrait
             result (geometry self.now) }
-        ensures collection { CollectionMeans (Self.dimensions self.now) geometry result (geometry self.now) }
+        ensures collection { CollectionMeans (Self.dimensions self.now) geometry result
+            (geometry self.now) }
         ensures rect { RectMeans Self.RectType.RectTrait result (geometry self.now) }
-        ensures triangle { TriangleMeans Self.TriangleType.TriangleTrait result (geometry self.now) }
+        ensures triangle { TriangleMeans Self.TriangleType.TriangleTrait result
+            (geometry self.now) }
         ensures line { LineMeans Self.LineType.LineTrait result (geometry self.now) };
 
     /// The whole encoding in this order and form, if it is in memory in exactly these bytes.

@@ -281,7 +281,8 @@ impl Layout {
     #[inline]
     pub fn count(self, bytes: &[u8]) -> Result<u32, Cause>
         ensures counted { IfOk result (λ n. n ≡ count_in self bytes.now) }
-        ensures whole { IfOk result (λ _. body_start self.has_srid + COUNT_SIZE ≤ length bytes.now) }
+        ensures whole { IfOk result (λ _. body_start self.has_srid + COUNT_SIZE ≤
+            length bytes.now) }
         ensures refused { IfErr result (HasNoCount self bytes.now) }
     {
         let at = self.header_length();
@@ -380,7 +381,8 @@ impl Layout {
         ensures answer { points_counted self bytes.now ≡ result }
         ensures counted { IfOk result (λ n. n ≡ count_in self bytes.now) }
         ensures whole { IfOk result (HoldPoints self bytes.now) }
-        ensures refused { IfErr result (λ cause. multi_point_at self bytes.now ≡ refused bytes.now cause) }
+        ensures refused { IfErr result (λ cause. multi_point_at self bytes.now ≡
+            refused bytes.now cause) }
     {
         let count = self.count(bytes)?;
         let start = self.header_length() + COUNT_SIZE;

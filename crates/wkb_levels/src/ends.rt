@@ -2,7 +2,7 @@
 
 ghost use Rattle.std.specs.Prelude.{◌≡◌, ◌≤◌, ◌<◌, ◌+◌, ◌↔◌, ◌⊎◌, length, IsTrue, IsSome, IfSome, slice_index};
 ghost use Rattle.std.specs.Prelude.{slice_range};
-ghost use Rattle.wkb_levels.specs.Cuts.{start_at, AreEnds, AreOnes};
+ghost use Rattle.wkb_levels.specs.Cuts.{AreEnds, AreOnes};
 
 /// Items of a level one after another, by their ends, which are counted in items of the next level. Each but the first
 /// begins where the one before it ends.

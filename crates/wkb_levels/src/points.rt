@@ -18,7 +18,8 @@ impl<'w> Points<'w> {
     /// A point at each of these coordinates.
     pub fn new(line: LineString<'w>) -> Points<'w>
         ensures dimensions { points_dimensions result ≡ line_string_dimensions line.entry }
-        ensures points { points_points result ≡ map (λ c. Some c) (line_string_coordinates line.entry) }
+        ensures points { points_points result ≡
+            map (λ c. Some c) (line_string_coordinates line.entry) }
     {
         Points { line }
     }

@@ -29,7 +29,8 @@ impl<'w> Polygons<'w> {
     pub fn new(rings: Rings<'w>, ends: Ends<'w>) -> Option<Polygons<'w>>
         requires { start_of ends + length (rings_rings rings) < 2 ^ 64 }
         ensures some { IsSome result ↔ FitRings rings.entry ends.entry }
-        ensures dimensions { HasDimensions polygons_dimensions result (rings_dimensions rings.entry) }
+        ensures dimensions { HasDimensions polygons_dimensions result
+            (rings_dimensions rings.entry) }
         ensures polygons { IfSome result
             (λ p. polygons_polygons p ≡ polygons_of rings.entry ends.entry) }
     {

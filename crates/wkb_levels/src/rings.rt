@@ -67,7 +67,8 @@ impl<'w> Rings<'w> {
     /// The ring at an index, if there is one.
     fn get(&self, i: usize) -> Option<LineString<'w>>
         ensures value { IsItemAt line_string_coordinates result (rings_rings self.now) i }
-        ensures dimensions { HasDimensions line_string_dimensions result (rings_dimensions self.now) }
+        ensures dimensions { HasDimensions line_string_dimensions result
+            (rings_dimensions self.now) }
     {
         if i < self.ends.len() {
             Some(self.ring(i))
@@ -79,7 +80,8 @@ impl<'w> Rings<'w> {
     /// The one ring, if there is one.
     pub fn only(&self) -> Option<LineString<'w>>
         ensures value { option_map line_string_coordinates result ≡ only (rings_rings self.now) }
-        ensures dimensions { HasDimensions line_string_dimensions result (rings_dimensions self.now) }
+        ensures dimensions { HasDimensions line_string_dimensions result
+            (rings_dimensions self.now) }
     {
         if self.len() == 1 {
             Some(self.ring(0))
@@ -90,8 +92,10 @@ impl<'w> Rings<'w> {
 
     /// The coordinates of all rings as one line string, if each ring has one.
     pub fn coordinates_one_each(&self) -> Option<LineString<'w>>
-        ensures value { option_map line_string_coordinates result ≡ only_each (rings_rings self.now) }
-        ensures dimensions { HasDimensions line_string_dimensions result (rings_dimensions self.now) }
+        ensures value { option_map line_string_coordinates result ≡
+            only_each (rings_rings self.now) }
+        ensures dimensions { HasDimensions line_string_dimensions result
+            (rings_dimensions self.now) }
     {
         if !self.ends.are_ones() {
             return None;

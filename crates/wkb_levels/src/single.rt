@@ -1,6 +1,5 @@
 //! A geometry of one of the kinds that the writers make in one way.
 
-ghost use Rattle.std.specs.Prelude.{◌≡◌};
 ghost use Rattle.wkb_levels.specs.Meant.{single_dimensions, single_meant};
 ghost use Rattle.wkb_levels.specs.Lawful.{single_lawful, single_has_one_dimension};
 

@@ -29,7 +29,8 @@ impl<'w> Triangle<'w> {
     /// The triangle of three corners. None if they differ in dimension.
     pub fn new(first: Coord<'w>, second: Coord<'w>, third: Coord<'w>) -> Option<Triangle<'w>>
         ensures some { IsSome result ↔ HaveOneDimension first.entry second.entry third.entry }
-        ensures dimensions { HasDimensions triangle_dimensions result (coord_dimensions first.entry) }
+        ensures dimensions { HasDimensions triangle_dimensions result
+            (coord_dimensions first.entry) }
         ensures first { IfSome result (λ t. triangle_first t ≡ coord_words first.entry) }
         ensures second { IfSome result (λ t. triangle_second t ≡ coord_words second.entry) }
         ensures third { IfSome result (λ t. triangle_third t ≡ coord_words third.entry) }

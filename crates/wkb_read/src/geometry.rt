@@ -229,7 +229,8 @@ impl<'a> GeometryCollectionTrait for GeometryCollection<'a> {
     #[tactic(auto, using(crate::proofs::Parts::member_means, crate::proofs::Parts::member_is))]
     #[inline]
     fn geometry(&self, i: usize) -> Option<&Wkb<'a>>
-        ensures member { IsItemAt (λ g. geometry_seen g.now) result (members_seen self.now.parts) i }
+        ensures member { IsItemAt (λ g. geometry_seen g.now) result
+            (members_seen self.now.parts) i }
         ensures one { IsMemberAt self.now i (option_map (λ g. g.now) result) }
     {
         self.geometries().get(i)

@@ -93,8 +93,8 @@ fn collections(rt: HostRuntime) -> Result<(), Fail> {
     Ok(())
 }
 
-// A collection of x and y that has a point with z, one whose inner collection has z, though nothing is in it, and one of
-// z that has a point with m.
+// A collection of x and y that has a point with z, one whose inner collection has z, though nothing is in it, and one
+// of z that has a point with m.
 #[test]
 fn another_dimension(rt: HostRuntime) -> Result<(), Fail> {
     let alloc = rt.alloc();

@@ -13,7 +13,8 @@ use wkb_clients::collections::{WordPath, ring_word};
 use wkb_clients::keys::Store;
 use wkb_clients::own::{bounds_of, check_again, read_anew};
 
-/// Eight bytes that another format's header could have, and a collection of a point and of a polygon with a hole that has no coordinates.
+/// Eight bytes that another format's header could have, and a collection of a point and of a polygon with a hole that
+/// has no coordinates.
 const POLYGON: &str = "47500001 00000000 01 07000000 02000000
     00 000003e9 3ff0000000000000 4000000000000000 4008000000000000
     01 03000000 02000000 01000000 P 00000000";

@@ -3,8 +3,8 @@
 //! bytes and numbers that they expect were written down before the program ran.
 //!
 //! The inputs of the calls that allocate are made without an allocation, so that only those of the call under test can
-//! fail, each in turn: `checks/memory/run wkb_read_cases` does that. A test in which an allocation failed ends with that error
-//! and no other, and one in which none did passes.
+//! fail, each in turn: `checks/memory/run wkb_read_cases` does that. A test in which an allocation failed ends with
+//! that error and no other, and one in which none did passes.
 #![tactic(auto)]
 
 #[cfg(test)]

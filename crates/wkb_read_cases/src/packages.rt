@@ -26,8 +26,8 @@ fn outcome(alloc: Global, text: &str) -> Result<u8, Fail> {
     }
 }
 
-// A point (1 2): in an envelope from (1 2) to (1 2), without one, and in one whose z nothing is said of. An empty point and
-// an empty polygon, in envelopes of NaNs.
+// A point (1 2): in an envelope from (1 2) to (1 2), without one, and in one whose z nothing is said of. An empty point
+// and an empty polygon, in envelopes of NaNs.
 #[test]
 fn packages_read(rt: HostRuntime) -> Result<(), Fail> {
     let alloc = rt.alloc();

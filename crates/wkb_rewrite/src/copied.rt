@@ -1,6 +1,6 @@
 //! Encodings of which all but the header is already in the input, and can be copied.
 
-ghost use Rattle.std.specs.Prelude.{◌≡◌, ◌≢◌, ◌+◌, ◌-◌, ◌≤◌, List, length, take, drop, IfSome, None, []};
+ghost use Rattle.std.specs.Prelude.{◌≡◌, ◌≢◌, ◌+◌, ◌-◌, ◌≤◌, List, length, take, IfSome, None, []};
 ghost use Rattle.std.specs.Prelude.{true, false};
 ghost use Rattle.wkb_geom.specs.declared.header.TheConstants.{MEMBER_HEADER_SIZE, MAX_HEADER_SIZE};
 ghost use Rattle.wkb_check.specs.Pieces.{own_end, IsAhead, HasAhead};
@@ -17,7 +17,7 @@ use wkb_check::{Piece, Pieces, RING, Summary, size_of_srid};
 use wkb_geom::code::{WkbType, of_kind};
 use wkb_geom::header::MEMBER_HEADER_SIZE;
 use wkb_geom::words::u32_at;
-use wkb_geom::{Endianness, Form};
+use wkb_geom::{Endianness, Form, by_order};
 use wkb_sink::WriteOptions;
 use wkb_sink::block::code_and_srid;
 
@@ -90,18 +90,11 @@ impl<'a> Copied<'a> {
         requires { DescribesFront buf.now found.now }
         ensures { IfSome result (λ c. IsFrontEncoding buf.now options (copied_encoding c)) }
     {
-        let form = options.form;
-        // In each arm the order is a constant, for which the walk is compiled.
-        match options.endianness {
-            Endianness::BigEndian => {
-                let endianness = Endianness::BigEndian;
-                Copied::by_walk(buf, found, WriteOptions { endianness, form })
-            }
-            Endianness::LittleEndian => {
-                let endianness = Endianness::LittleEndian;
-                Copied::by_walk(buf, found, WriteOptions { endianness, form })
-            }
-        }
+        let WriteOptions { endianness, form } = options;
+        by_order!(
+            endianness,
+            Copied::by_walk(buf, found, WriteOptions { endianness, form })
+        )
     }
 
     #[inline(always)]

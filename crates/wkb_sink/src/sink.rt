@@ -71,7 +71,8 @@ pub trait Sink {
     #[inline(always)]
     #[tactic(auto, using(crate::proofs::Appended::nothing_appended))]
     fn put_in_place<L: LayWhole>(&mut self, whole: &L) -> Result<bool, AllocError>
-        ensures bytes { PutsWhole (appended self.old) (appended self.new) result (L.bytes whole.now) }
+        ensures bytes { PutsWhole (appended self.old) (appended self.new) result
+            (L.bytes whole.now) }
         ensures failure { has_failed self.new ≡ (has_failed self.old || is_err result) }
         ensures cause { IfErr result (λ _. IsShortOfMemory (fails_by self.new)) }
     {
@@ -223,7 +224,8 @@ impl Sink for VecSink {
 
     #[inline(always)]
     fn put_in_place<L: LayWhole>(&mut self, whole: &L) -> Result<bool, AllocError>
-        ensures bytes { PutsWhole (Some self.old.bytes) (Some self.new.bytes) result (L.bytes whole.now) }
+        ensures bytes { PutsWhole (Some self.old.bytes) (Some self.new.bytes) result
+            (L.bytes whole.now) }
         ensures failure { self.new.failed ≡ (self.old.failed || is_err result) }
         ensures whole { length (L.bytes whole.now) ≤ MAX_IN_PLACE
             → IfOk result (λ laid. laid ≡ true) }
@@ -329,7 +331,8 @@ impl Sink for SliceSink<'_> {
 
     #[inline(always)]
     fn put_in_place<L: LayWhole>(&mut self, whole: &L) -> Result<bool, AllocError>
-        ensures bytes { PutsWhole (Some self.old.bytes) (Some self.new.bytes) result (L.bytes whole.now) }
+        ensures bytes { PutsWhole (Some self.old.bytes) (Some self.new.bytes) result
+            (L.bytes whole.now) }
         ensures failure { self.new.failed ≡ (self.old.failed || is_err result) }
         ensures cause { IfErr result (λ _. IsShortOfMemory (λ failure. failure ≡ None)) }
         ensures ok { IsOk result }

@@ -27,7 +27,8 @@ pub(crate) trait Parts {
     /// The bytes after the part at the start of the bytes.
     fn pass<'a>(layout: Layout, bytes: &'a [u8]) -> Result<&'a [u8], Cause>
         ensures answer { PassesPart (parts layout).reading (parts layout).seen bytes.now result }
-        ensures passed { IfOk result (λ rest. Passed MIN_SIZE (parts layout).IsPart bytes.now rest.now) };
+        ensures passed { IfOk result
+            (λ rest. Passed MIN_SIZE (parts layout).IsPart bytes.now rest.now) };
 }
 
 /// The offsets at which the parts after a count end, and the bytes after them.

@@ -14,10 +14,10 @@ use crate::linear_ring::LinearRing;
 use crate::own_srid::OwnSrid;
 use wkb_geom::code::{LINE_STRING, WkbType};
 use wkb_geom::header::MIN_MEMBER_SIZE;
-use wkb_geom::words::{COUNT_SIZE, WORD_SIZE, u32_at};
+use wkb_geom::words::{COUNT_SIZE, u32_at};
 use wkb_geom::{
-    Cause, Dimension, Dimensioned, Dimensions, Endianness, Form, General, GeometryTrait,
-    GeometryType, Layout, LineStringTrait,
+    Cause, Dimension, Dimensioned, Dimensions, Endianness, Form, GeometryTrait, GeometryType,
+    Layout, LineStringTrait,
 };
 
 /// A line string.
@@ -117,8 +117,10 @@ impl<'a> LineString<'a> {
     #[inline]
     pub fn read(layout: Layout, bytes: &'a [u8]) -> Result<(LineString<'a>, &'a [u8]), Cause>
         requires head { HasHead (λ d. kinds.LineString d) layout bytes.now }
-        ensures answer { IsRead line_string_seen bytes.now result (line_string_at layout bytes.now).1 }
-        ensures item { IfOk result (IsTakenAs line_string_seen (line_string_item layout) bytes.now) }
+        ensures answer { IsRead line_string_seen bytes.now result
+            (line_string_at layout bytes.now).1 }
+        ensures item { IfOk result
+            (IsTakenAs line_string_seen (line_string_item layout) bytes.now) }
         ensures passed { IfOk result (λ x. PassedEncoding LINE_STRING layout bytes.now x.1.now) }
         ensures shorter { IfOk result (TakesAtLeast MIN_MEMBER_SIZE bytes.now) }
     {
@@ -216,7 +218,8 @@ impl<'a> LineStringTrait for LineString<'a> {
     #[inline]
     fn coord(&self, i: usize) -> Option<Coord<'a>>
         ensures value { IsItemAt words_seen result (seen_coordinates self.now) i }
-        ensures dimension { IfSome result (λ c. coord_dimension c ≡ line_string_dimension self.now) }
+        ensures dimension { IfSome result
+            (λ c. coord_dimension c ≡ line_string_dimension self.now) }
         ensures order { IfSome result (λ c. coord_order c ≡ line_string_order self.now) }
         ensures bytes { IfSome result (λ c. coord_encoding c ≡ line_string_coord_bytes self.now i) }
     {

@@ -7,10 +7,10 @@ use crate::any::{Line, MultiLineString, MultiPoint, MultiPolygon, Point, Polygon
 use crate::coord::Coord;
 use crate::ends::Parts;
 use crate::part::subslice;
-use wkb_geom::words::{COUNT_SIZE, WORD_SIZE, u32_at};
+use wkb_geom::words::{COUNT_SIZE, WORD_SIZE};
 use wkb_geom::{
-    Cause, Dimension, Dimensioned, Dimensions, Endianness, Form, General, GeometryTrait,
-    GeometryType, Layout, LineStringTrait,
+    Cause, Dimension, Dimensioned, Dimensions, Endianness, Form, GeometryTrait, GeometryType,
+    Layout, LineStringTrait,
 };
 
 /// A ring: a count and that many coordinates, in its polygon's order and dimension.

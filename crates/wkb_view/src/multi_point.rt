@@ -18,8 +18,8 @@ use wkb_geom::code::{POINT, WkbType};
 use wkb_geom::header::{MEMBER_HEADER_SIZE, MIN_MEMBER_SIZE};
 use wkb_geom::words::COUNT_SIZE;
 use wkb_geom::{
-    Cause, Dimension, Dimensioned, Dimensions, Endianness, Form, General, GeometryTrait,
-    GeometryType, Layout, MultiPointTrait,
+    Cause, Dimension, Dimensioned, Dimensions, Endianness, Form, GeometryTrait, GeometryType,
+    Layout, MultiPointTrait,
 };
 
 /// A multi point: its members have one length, and are read again from their bytes.
@@ -210,7 +210,8 @@ impl<'a> MultiPointTrait for MultiPoint<'a> {
         ensures value { IsItemAt seen_coordinate result (seen_points self.now) i }
         ensures dimension { IfSome result
             (λ p. point_dimension p ≡ multi_point_dimension self.now) }
-        ensures spelled { option_map point_spelling result ≡ spelling_at (multi_point_spelling self.now) i }
+        ensures spelled { option_map point_spelling result ≡
+            spelling_at (multi_point_spelling self.now) i }
         ensures bytes { IfSome result
             (λ p. (point_seen p).encoding ≡ multi_point_member_bytes self.now i) }
     {

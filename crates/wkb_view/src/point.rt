@@ -14,8 +14,8 @@ use crate::part::subslice;
 use wkb_geom::code::{POINT, WkbType};
 use wkb_geom::header::MIN_MEMBER_SIZE;
 use wkb_geom::{
-    Cause, Dimension, Dimensioned, Dimensions, Endianness, Form, General, GeometryTrait,
-    GeometryType, Layout, PointTrait,
+    Cause, Dimension, Dimensioned, Dimensions, Endianness, Form, GeometryTrait, GeometryType,
+    Layout, PointTrait,
 };
 
 /// A point, which may be empty.

@@ -1,6 +1,6 @@
 //! Kinds of a fixed size: the dimensions alone tell how long an encoding is, and it is laid at once.
 
-ghost use Rattle.std.specs.Prelude.{◌≡◌, ◌+◌, ◌≤◌, None, false, length};
+ghost use Rattle.std.specs.Prelude.{◌≡◌, ◌+◌, ◌≤◌, None, length};
 ghost use Rattle.wkb_geom.specs.Dimensions.{width, written_dimension};
 ghost use Rattle.wkb_geom.specs.declared.header.TheConstants.{MAX_HEADER_SIZE};
 ghost use Rattle.wkb_sink.specs.Blocks.{LaysAt};
@@ -20,7 +20,8 @@ pub trait Fixed<G: Dimensioned> {
     /// The size without the header, by the number of words of a coordinate.
     fn size(words: usize) -> usize
         requires { words ≤ 4 }
-        ensures size { (g : G) → HasWords (G.dimensions g) words → result ≡ size_by_parts (geometry g) }
+        ensures size { (g : G) → HasWords (G.dimensions g) words →
+            result ≡ size_by_parts (geometry g) }
         ensures most { MAX_HEADER_SIZE + result ≤ MIN_BLOCK };
 
     /// Lays a geometry that has no fault, by the dimension that its header tells.
@@ -28,7 +29,8 @@ pub trait Fixed<G: Dimensioned> {
         requires fault { fault (geometry geom.now) ≡ None }
         requires dimension { dim ≡ written_dimension (G.dimensions geom.now) }
         requires words { HasWords (G.dimensions geom.now) (width dim) }
-        requires room { at + whole_size_by_parts options.now.form (geometry geom.now) ≤ length bytes.old }
+        requires room { at + whole_size_by_parts options.now.form (geometry geom.now) ≤
+            length bytes.old }
         ensures end { result ≡ at + whole_size_by_parts options.now.form (geometry geom.now) }
         ensures bytes { LaysAt at result bytes.old bytes.new
             (encoding_of options.now (geometry geom.now)) };

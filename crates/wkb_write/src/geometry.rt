@@ -1,7 +1,7 @@
 //! A geometry of any kind: its sizes, its writer, and its encoding in a vector or in a slice.
 
 ghost use Rattle.std.specs.Prelude.{◌≡◌, false};
-ghost use Rattle.wkb_write.specs.Prelude.{encoding_of, Iso, IsSizeOf, WritesTo, WritesToSlice, WritesToVec};
+ghost use Rattle.wkb_write.specs.Prelude.{Iso, IsSizeOf, WritesTo, WritesToSlice, WritesToVec};
 
 use crate::common::*;
 use crate::fixed::AtOnce;

@@ -3,7 +3,7 @@
 //! Faults are found in preorder: a geometry's dimensions, its count, then its items. Only the bytes after the header
 //! are measured. `usize::MAX` stands for itself and everything larger: none of them fits once the header is added.
 
-ghost use Rattle.std.specs.Prelude.{◌≡◌, ◌*◌, ◌^◌, ◌<◌, ◌≤◌, Err, None, IsErrAnd};
+ghost use Rattle.std.specs.Prelude.{◌≡◌, ◌*◌, ◌^◌, ◌<◌, Err, None, IsErrAnd};
 ghost use Rattle.wkb_geom.specs.Dimensions.{width, written_dimension};
 ghost use Rattle.wkb_write.specs.Prelude.{IsForm, coordinate_words, dimensions_fault, result_of, TellsFault};
 ghost use Rattle.wkb_write.specs.Prelude.{FindsUnsupported, HasWords, IsCountToWrite};

@@ -31,7 +31,8 @@ pub trait Nested<G: Dimensioned> {
         requires leaf { IsLeaf (geometry geom.now) }
         requires fault { fault (geometry geom.now) ≡ None }
         requires working { S.has_failed out.old.sink.now ≡ false }
-        ensures { Lays S.Sink out.old out.new (encoding_of options.now (geometry geom.now)) result };
+        ensures { Lays S.Sink out.old out.new (encoding_of options.now (geometry geom.now))
+            result };
 
     // Every coordinate fits the dimension.
     ghost lawful: { (g : G) → IsGeometry (geometry g) };

@@ -5,7 +5,7 @@
 ghost use Rattle.std.specs.Prelude.{◌≡◌, ◌<◌, ℕ, List, Some, length, refl, slice_get};
 ghost use Rattle.std.specs.List.{AllByRecursion};
 ghost use Rattle.wkb_geom.specs.Geometries.{AreCoordinates};
-ghost use Rattle.wkb_write.specs.Prelude.{Geometry, multi_polygon, multi_polygon_meant, polygon, polygon_measure};
+ghost use Rattle.wkb_write.specs.Prelude.{multi_polygon, multi_polygon_meant, polygon, polygon_measure};
 ghost use Rattle.wkb_write.specs.Prelude.{IsSizeOf, WritesToSlice, member_list};
 
 use crate::common::*;

@@ -36,7 +36,8 @@ pub trait Writable<G> {
     fn put<S: Sink>(out: &mut Buffered<'_, S>, geom: &G, options: &WriteOptions) -> Put
         requires fault { fault (geometry geom.now) ≡ None }
         requires working { S.has_failed out.old.sink.now ≡ false }
-        ensures { Lays S.Sink out.old out.new (encoding_of options.now (geometry geom.now)) result };
+        ensures { Lays S.Sink out.old out.new (encoding_of options.now (geometry geom.now))
+            result };
 
     // Every coordinate fits the dimension.
     ghost lawful: { (g : G) → IsGeometry (geometry g) };

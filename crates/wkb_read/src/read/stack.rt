@@ -47,7 +47,8 @@ pub(crate) fn begin_collection<'a>(
     requires head { HasHead (λ d. kinds.GeometryCollection d) layout bytes.now }
     requires fits { CanCount counts.old (collection_inside layout depth bytes.now).0 }
     ensures shallow { IfOk result (λ begun. depth < max_nesting) }
-    ensures begins { BeginsAs (collection_inside layout) depth bytes.now result counts.old counts.new }
+    ensures begins { BeginsAs (collection_inside layout) depth bytes.now result
+        counts.old counts.new }
     ensures no_memory { HasNoMembers layout bytes.now → NeedsNone result }
 {
     if depth >= MAX_WKB_NESTING_DEPTH {
@@ -102,7 +103,8 @@ pub(crate) fn close_finished<'a>(
 ) -> Option<Wkb<'a>>
     requires part { IsFinished (length (around stack.old)) part }
     requires stand { AreOpen (around stack.old) (part.encoding ++ rest.now) }
-    requires fits { counts.old.turns + (outward (around stack.old) part rest.now).0.turns < 2 ^ 128 }
+    requires fits { counts.old.turns + (outward (around stack.old) part rest.now).0.turns <
+        2 ^ 128 }
     ensures settles { Settles stack.old part.entry stack.new rest.now result counts.old counts.new }
     ensures fewer { length stack.new.items ≤ length stack.old.items }
 {
