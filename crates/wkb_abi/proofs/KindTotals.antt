@@ -2,7 +2,7 @@
 use Rattle.wkb_abi.proofs.Common.{◌≡◌, ℕ, ◌+◌, ◌<◌, List, [], ◌∷◌, ◌++◌, length, refl, sym, ap, ◌∙◌, arith}
 use Rattle.wkb_abi.proofs.Common.{length-append, Option, Dimension, Spelling, node, Spellings, no_spellings, spelling}
 use Rattle.wkb_abi.proofs.Common.{Spells, Wanted, SpellsEach, Coordinate, Value, point, line_string, polygon}
-use Rattle.wkb_abi.proofs.Common.{multi_point, multi_line_string, multi_polygon, collection, no_members, kind, subst}
+use Rattle.wkb_abi.proofs.Common.{multi_point, multi_line_string, multi_polygon, collection, subst}
 use Rattle.wkb_abi.proofs.Common.{member_count, Endianness, HasGeometry, DescribesFront, Summary, Piece, Totals}
 use Rattle.wkb_abi.proofs.Common.{Subject, subjects, subjects_of_each}
 use Rattle.std.specs.Prelude.{sum, sum_by, flat_map}
@@ -13,23 +13,22 @@ use Rattle.wkb_laws.proofs.OneFront.{one_spelling}
 use Rattle.wkb_geom.specs.Counted.{coordinate_count}
 use Rattle.wkb_check.specs.Pieces.{piece_of, IsPieceAt}
 use Rattle.wkb_abi.specs.Coordinates.{ring_counts, single_counts, totals_after, AreTotals}
-use Rattle.wkb_abi.specs.PieceLevels.{ring_number, single_number}
-use Rattle.wkb_abi.specs.RowItems.{end_of}
+use Rattle.wkb_abi.specs.PieceLevels.{ring_number, single_number, totals_plus}
 use Rattle.wkb_check.specs.Subjects.{ring, subjects_of_rings}
 use Rattle.wkb_abi.proofs.Levels.{sum-first, sum_append}
 
 -- these subjects have so many coordinates, rings and singles
 pub record Count (xs : List Subject) (coordinates rings singles : ℕ) : Type 0 where
-  pub coordinates_are : sum (flat_map ring_counts xs) ≡ coordinates
-  pub rings_are : length (flat_map ring_counts xs) ≡ rings
-  pub singles_are : length (flat_map single_counts xs) ≡ singles
+  pub coordinates_are : coordinates ≡ sum (flat_map ring_counts xs)
+  pub rings_are : rings ≡ length (flat_map ring_counts xs)
+  pub singles_are : singles ≡ length (flat_map single_counts xs)
 
 no_subject : Count [] 0 0 0
 no_subject = record { coordinates_are = refl; rings_are = refl; singles_are = refl }
 
 -- and so many have these and others
-both : {xs ys : List Subject} {c d cd r q rq s t st : ℕ} → Count xs c r s → Count ys d q t → c + d ≡ cd → r + q ≡ rq
-    → s + t ≡ st → Count (xs ++ ys) cd rq st
+both : {xs ys : List Subject} {c d cd r q rq s t st : ℕ} → Count xs c r s → Count ys d q t → cd ≡ c + d → rq ≡ r + q
+    → st ≡ s + t → Count (xs ++ ys) cd rq st
 both {xs} {ys} a b c_is r_is s_is =
     let rings = flat_map-append ring_counts xs ys in
     let singles = flat_map-append single_counts xs ys in record {
@@ -39,18 +38,13 @@ both {xs} {ys} a b c_is r_is s_is =
     }
 
 -- and so many has one more
-more : {xs : List Subject} {c cd r rq s st : ℕ} (x : Subject) → Count xs c r s → sum (ring_counts x) + c ≡ cd
-    → length (ring_counts x) + r ≡ rq → length (single_counts x) + s ≡ st → Count (x ∷ xs) cd rq st
+more : {xs : List Subject} {c cd r rq s st : ℕ} (x : Subject) → Count xs c r s → cd ≡ sum (ring_counts x) + c
+    → rq ≡ length (ring_counts x) + r → st ≡ length (single_counts x) + s → Count (x ∷ xs) cd rq st
 more x are c_is r_is s_is = record {
   coordinates_are = omega (arith, sum_append);
   rings_are = omega (arith, length-append {A = ℕ});
   singles_are = omega (arith, length-append {A = ℕ});
 }
-
--- a geometry without members has no subjects in them
-no_member : (ss : Spellings) → Count (subjects_of_each ss no_members) 0 0 0
-no_member no_spellings = no_subject
-no_member (spelling s ss) = no_subject
 
 rings_count : (order : Endianness) (d : Dimension) (rings : List (List Coordinate))
     → Count (subjects_of_rings order d rings) (sum_by length rings) (length rings) 0
@@ -60,29 +54,28 @@ rings_count order d (cs ∷ rest) =
     (omega (arith, sum-first (length cs) [], sum_by-cons length cs rest)) (omega arith) (omega arith)
 
 point_counts : (d : Dimension) (c : Option Coordinate) (s : Spelling) → Count (subjects s (point d c)) 1 1 1
-point_counts d c (node h words ss) = more _ (no_member ss) (omega arith) (omega arith) (omega arith)
+point_counts d c (node h words ss) = more _ no_subject (omega arith) (omega arith) (omega arith)
 
 line_counts : (d : Dimension) (cs : List Coordinate) (s : Spelling)
     → Count (subjects s (line_string d cs)) (length cs) 1 1
 line_counts d cs (node h words ss) =
-    more _ (no_member ss) (omega (arith, sum-first (length cs) [])) (omega arith) (omega arith)
+    more _ no_subject (omega (arith, sum-first (length cs) [])) (omega arith) (omega arith)
 
 polygon_counts : (d : Dimension) (rings : List (List Coordinate)) (s : Spelling)
     → Count (subjects s (polygon d rings)) (sum_by length rings) (length rings) 1
 polygon_counts d rings (node h words ss) =
-    more _ (both (rings_count h.order d rings) (no_member ss) refl refl refl) (omega arith) (omega arith) (omega arith)
+    more _ (both (rings_count h.order d rings) no_subject refl refl refl) (omega arith) (omega arith) (omega arith)
 
--- the members of a multi geometry
-module _ {A : Type 0} (f : A → Value) (c r k : A → ℕ)
-    (one : (a : A) (s : Spelling) → Count (subjects s (f a)) (c a) (r a) (k a)) where
+-- the members of a multi geometry, each of which is one single
+module _ {A : Type 0} (f : A → Value) (c r : A → ℕ)
+    (one : (a : A) (s : Spelling) → Count (subjects s (f a)) (c a) (r a) 1) where
   each_counts : (w : Wanted) (xs : List A) (ss : Spellings) (bytes : List ℕ) → SpellsEach w ss (each f xs) bytes
-      → Count (subjects_of_each ss (each f xs)) (sum_by c xs) (sum_by r xs) (sum_by k xs)
+      → Count (subjects_of_each ss (each f xs)) (sum_by c xs) (sum_by r xs) (length xs)
   each_counts w [] no_spellings bytes h = no_subject
   each_counts w [] (spelling s ss) bytes h = absurd h
   each_counts w (a ∷ xs) no_spellings bytes h = absurd h
   each_counts w (a ∷ xs) (spelling s ss) bytes h =
-      both (one a s) (each_counts w xs ss h.rest h.second) (sym (sum_by-cons c a xs)) (sym (sum_by-cons r a xs))
-      (sym (sum_by-cons k a xs))
+      both (one a s) (each_counts w xs ss h.rest h.second) (sum_by-cons c a xs) (sum_by-cons r a xs) (omega arith)
 
 sum_of_ones : {A : Type 0} (xs : List A) → sum_by (λ (a : A). 1) xs ≡ length xs
 sum_of_ones [] = refl
@@ -94,84 +87,45 @@ sum_with_ones f (a ∷ xs) = omega (arith, sum_by-cons (λ a. 1 + f a) a xs, sum
 
 -- ---- by the kind
 
--- how many rings and how many singles a geometry has that is no collection
-abbrev ring_total : Value → ℕ
-ring_total (point d c) = 1
-ring_total (line_string d cs) = 1
-ring_total (polygon d rings) = length rings
-ring_total (multi_point d points) = length points
-ring_total (multi_line_string d lines) = length lines
-ring_total (multi_polygon d polygons) = sum_by length polygons
-ring_total (collection d ts) = 0
-
-abbrev single_total : Value → ℕ
-single_total (multi_point d points) = length points
-single_total (multi_line_string d lines) = length lines
-single_total (multi_polygon d polygons) = length polygons
-single_total _ = 1
-
-kind_counts : (s : Spelling) (t : Value) (bytes : List ℕ) → Spells s t bytes → kind t < 7
-    → Count (subjects s t) (coordinate_count t) (ring_total t) (single_total t)
-kind_counts s (point d c) bytes h small = point_counts d c s
-kind_counts s (line_string d cs) bytes h small = line_counts d cs s
-kind_counts s (polygon d rings) bytes h small = polygon_counts d rings s
-kind_counts (node h words ss) (multi_point d points) bytes sp small =
+-- a geometry that is no collection has as many as its first piece and its parts say
+kind_counts : (at : ℕ) (s : Spelling) (t : Value) (bytes : List ℕ) → Spells s t bytes → (piece_of at s t).kind < 7
+    → Count (subjects s t) (coordinate_count t) (ring_number (piece_of at s t) (1 + member_count t))
+    (single_number (piece_of at s t))
+kind_counts at (node h words ss) (point d c) bytes sp small = point_counts d c (node h words ss)
+kind_counts at (node h words ss) (line_string d cs) bytes sp small = line_counts d cs (node h words ss)
+kind_counts at (node h words ss) (polygon d rings) bytes sp small = polygon_counts d rings (node h words ss)
+kind_counts at (node h words ss) (multi_point d points) bytes sp small =
     let ones = sum_of_ones points in
-    more _ (each_counts (point d) (λ c. 1) (λ c. 1) (λ c. 1) (point_counts d) _ points ss _ sp.second.second)
-    (omega (arith, ones)) (omega (arith, ones)) (omega (arith, ones))
-kind_counts (node h words ss) (multi_line_string d lines) bytes sp small =
-    let ones = sum_of_ones lines in
-    more _ (each_counts (line_string d) length (λ cs. 1) (λ cs. 1) (line_counts d) _ lines ss _ sp.second.second)
-    (omega arith) (omega (arith, ones)) (omega (arith, ones))
-kind_counts (node h words ss) (multi_polygon d polygons) bytes sp small =
-    more _
-    (each_counts (polygon d) (sum_by length) length (λ rings. 1) (polygon_counts d) _ polygons ss _ sp.second.second)
-    (omega arith) (omega arith) (omega (arith, sum_of_ones polygons))
-kind_counts s (collection d ts) bytes h small = absurd (omega (arith, small))
-
-ring_number_is : (at : ℕ) (s : Spelling) (t : Value) → kind t < 7
-    → ring_number (piece_of at s t) (1 + member_count t) ≡ ring_total t
-ring_number_is at (node h words ss) (multi_polygon d polygons) small = omega (arith, sum_with_ones length polygons)
-ring_number_is at (node h words ss) (collection d ts) small = absurd (omega (arith, small))
-ring_number_is at (node h words ss) _ small = refl
-
-single_number_is : (at : ℕ) (s : Spelling) (t : Value) → kind t < 7 → single_number (piece_of at s t) ≡ single_total t
-single_number_is at (node h words ss) (collection d ts) small = absurd (omega (arith, small))
-single_number_is at (node h words ss) _ small = refl
-
-kind_of_piece : (at : ℕ) (s : Spelling) (t : Value) → (piece_of at s t).kind ≡ kind t
-kind_of_piece at (node h words ss) t = refl
+    more _ (each_counts (point d) (λ c. 1) (λ c. 1) (point_counts d) _ points ss _ sp.second.second)
+    (omega (arith, ones)) (omega (arith, ones)) (omega arith)
+kind_counts at (node h words ss) (multi_line_string d lines) bytes sp small =
+    more _ (each_counts (line_string d) length (λ cs. 1) (line_counts d) _ lines ss _ sp.second.second)
+    (omega arith) (omega (arith, sum_of_ones lines)) (omega arith)
+kind_counts at (node h words ss) (multi_polygon d polygons) bytes sp small =
+    more _ (each_counts (polygon d) (sum_by length) length (polygon_counts d) _ polygons ss _ sp.second.second)
+    (omega arith) (omega (arith, sum_with_ones length polygons)) (omega arith)
+kind_counts at (node h words ss) (collection d ts) bytes sp small = absurd (omega (arith, small))
 
 -- what the check found of a geometry that is no collection has its totals
 pub totals_told : {own : Totals} {found : Summary} {first : Piece} (input : List ℕ) → (d : DescribesFront input found)
     → IsPieceAt input 0 first → (g : HasGeometry input) → first.kind < 7
     → own.coordinates ≡ found.coordinates → own.rings ≡ ring_number first found.parts
     → own.singles ≡ single_number first → AreTotals own (subjects g.spelled g.value)
-totals_told {own} {found} {first} input d at g small coordinates_is rings_is singles_is =
-    let s = g.spelled in
-    let t = g.value in
-    let same = one_spelling d.spelled s d.value t d.front.front g.begins.front d.rest g.rest d.front.spelled
-    g.begins.first (sym d.front.whole ∙ g.begins.whole) in
-    let kind_is : first.kind ≡ kind t = ap (λ (p : Piece). p.kind) (at g) ∙ kind_of_piece 0 s t in
-    let no_collection : kind t < 7 = subst (λ k. k < 7) kind_is small in
-    let counts = kind_counts s t g.begins.front g.begins.first no_collection in
-    let parts_is : found.parts ≡ 1 + member_count t = d.described.parts ∙ ap (λ t. 1 + member_count t) same.value in
+totals_told input d at g small coordinates_is rings_is singles_is =
+    let same = one_spelling d.spelled g.spelled d.value g.value d.front.front g.begins.front d.rest g.rest
+    d.front.spelled g.begins.first (sym d.front.whole ∙ g.begins.whole) in
+    let counts = kind_counts 0 g.spelled g.value g.begins.front g.begins.first
+    (subst (λ (p : Piece). p.kind < 7) (at g) small) in
+    let parts = d.described.parts ∙ ap (λ t. 1 + member_count t) same.value in
     record {
       coordinates_are = coordinates_is ∙ d.described.coordinates ∙ ap coordinate_count same.value
-          ∙ sym counts.coordinates_are;
-      rings_are = rings_is ∙ (λ i. ring_number (at g i) (parts_is i)) ∙ ring_number_is 0 s t no_collection
-          ∙ sym counts.rings_are;
-      singles_are = singles_is ∙ ap single_number (at g) ∙ single_number_is 0 s t no_collection
-          ∙ sym counts.singles_are;
+          ∙ counts.coordinates_are;
+      rings_are = rings_is ∙ (λ i. ring_number (at g i) (parts i)) ∙ counts.rings_are;
+      singles_are = singles_is ∙ ap single_number (at g) ∙ counts.singles_are;
     }
 
 -- totals and others are where the subjects of the others end
 pub totals_and : {own to : Totals} {xs : List Subject} (from : Totals) → AreTotals own xs
-    → to.coordinates ≡ end_of from.coordinates own.coordinates → to.rings ≡ end_of from.rings own.rings
-    → to.singles ≡ end_of from.singles own.singles → to ≡ totals_after from xs
-totals_and from are c r s =
-    λ i. record {
-      coordinates = (c ∙ ap (end_of from.coordinates) are.coordinates_are) i;
-      rings = (r ∙ ap (end_of from.rings) are.rings_are) i;
-      singles = (s ∙ ap (end_of from.singles) are.singles_are) i;
-    }
+    → to ≡ totals_plus from own.coordinates own.rings own.singles → to ≡ totals_after from xs
+totals_and from are is =
+    is ∙ (λ i. totals_plus from (are.coordinates_are i) (are.rings_are i) (are.singles_are i))

@@ -1,141 +1,290 @@
--- With room for the totals no row lacks room.
-use Rattle.wkb_abi.proofs.Common.{◌≡◌, ℕ, ◌+◌, ◌*◌, ◌≤◌, ◌<◌, List, [], length, Some, refl, sym, ◌∙◌, subst, arith}
-use Rattle.wkb_abi.proofs.Common.{Dimension, width, set, length-sets, DescribesFront, Summary, IsRow, Column, Totals}
-use Rattle.wkb_abi.proofs.Common.{NO_ROOM, Subject, subjects}
-use Rattle.std.specs.Prelude.{flat_map}
+-- Items that are laid into lists row by row, and that with room for the totals no row lacks room.
+use Rattle.wkb_abi.proofs.Common.{◌≡◌, ℕ, zero, suc, ◌+◌, ◌*◌, ◌≤◌, ◌<◌, ◌^◌, List, length, drop, Some, refl, sym, ap}
+use Rattle.wkb_abi.proofs.Common.{◌∙◌, subst, arith, Dimension, width, set, sets, sets-eq, length-sets, ◌-◌}
+use Rattle.wkb_abi.proofs.Common.{DescribesFront, Summary, IsRow, Column, Totals, OK, NO_ROOM, Subject, subjects}
+use Rattle.wkb_abi.proofs.Common.{length-append, append_assoc, levels_of, ◌++◌}
+use Rattle.std.specs.Prelude.{flat_map, take, sum, nat_lt, if◌then◌else◌}
+use Rattle.std.proofs.Common.{length-take, mul-add, lt-ltb}
+use Rattle.std.proofs.lemmas.Bool.{le-ltb}
+use Rattle.std.proofs.lemmas.List.{take_at, drop_at, take-take, drop-take, length-take-le}
+use Rattle.std.proofs.lemmas.Slice.{drop-append-drop}
+use borrow.Author.Count.{below_more, below_none}
+use lib.Seq.{get_or-set_same, get_or-set_other}
 use Rattle.wkb_geom.specs.Codes.{dimension_of_thousands}
-use Rattle.wkb_geom.specs.declared.common.Dimension.TheVariants.{Xy}
-use Rattle.wkb_abi.specs.Coordinates.{LevelLists, HasRoomUpTo, LevelsSuffice, written, no_room, LacksCoordinates}
-use Rattle.wkb_abi.specs.Coordinates.{IsCoordinatesRow, handed, failed}
-use Rattle.wkb_abi.specs.LevelLists.{LaysFound, LaysRow}
+use Rattle.std.proofs.Math.Nat.{mul-le-mul_left}
+use Rattle.wkb_abi.specs.Coordinates.{LevelLists, HasRoomUpTo, LevelsSuffice, totals_after, with_levels, ring_counts}
+use Rattle.wkb_abi.specs.Coordinates.{single_counts, no_totals, Level, of_words, of_rings, of_singles, list_of, many_in}
+use Rattle.wkb_abi.specs.Coordinates.{items_of, AreLaid, written, no_room, LacksCoordinates, IsCoordinatesRow, handed}
+use Rattle.wkb_abi.specs.Coordinates.{failed, AreColumnCoordinates, IsCoordinatesStep}
+use Rattle.wkb_abi.specs.LevelLists.{LaysAny}
+use Rattle.wkb_abi.specs.RowItems.{HoldsItems, KeepsFrom, end_of}
 use Rattle.wkb_abi.specs.declared.level_slices.LevelSlices.{LevelSlices}
-use Rattle.wkb_abi.specs.Coordinates.{totals_after, with_levels, ring_counts, single_counts, ends, asked_subject_words}
-use Rattle.wkb_abi.proofs.Levels.{AreSmall, none_added}
+use Rattle.wkb_abi.proofs.Levels.{AreSmall, ends_length, wide_enough, subjects_words}
 use Rattle.wkb_abi.proofs.Reasons.{coordinates_tell_other}
 use Rattle.wkb_abi.proofs.Rows.{statuses_more}
 
--- what becomes of a row in which the check found this
-pub found_laid : {c : Column} {dimension i status : ℕ} {asked : Dimension} {row : List ℕ} {from to : Totals}
-    (before after : LevelSlices) → IsRow c i row → dimension_of_thousands dimension ≡ Some asked → (found : Summary)
-    → DescribesFront row found → LaysFound asked row found status from to before after
-    → LaysRow c dimension i status from to before after
-found_laid {asked = asked} {row = row} before after is asked_is found d laid =
-    handed asked (subjects d.spelled d.value)
-    (record {
-      row = row;
-      is_row = is;
-      asked_is = asked_is;
-      s = d.spelled;
-      t = d.value;
-      rest = d.rest;
-      front = d.front;
-      are = refl;
-    })
-    (laid d)
+-- ---- items in a list
 
--- lists are as long as others
-pub record AreAsLong (a b : LevelLists) : Type 0 where
-  pub words : length a.words ≡ length b.words
-  pub ring_ends : length a.ring_ends ≡ length b.ring_ends
-  pub single_ends : length a.single_ends ≡ length b.single_ends
+module _ {A : Type 0} where
+  -- a list has the items that are laid into it
+  pub held_laid : (xs items : List A) (from to : ℕ) → to ≡ from + length items → to ≤ length xs
+      → HoldsItems (sets xs from items) from to items
+  held_laid xs items from to many within = record {
+    many = many;
+    within = omega (arith, within, length-sets xs from items);
+    are =
+        let wide : to - from ≡ length items = omega (arith, many) in
+        let front = length-take-le from xs (omega (arith, many, within)) in
+        rw (sets-eq items xs from (omega (arith, many, within)), append_assoc, drop_at (take from xs) _ from front)
+        (take_at items (drop (from + length items) xs) (to - from) (sym wide));
+  }
 
--- totals reach no less far than others
-pub record Reaches (from to : Totals) : Type 0 where
-  pub coordinates : from.coordinates ≤ to.coordinates
-  pub rings : from.rings ≤ to.rings
-  pub singles : from.singles ≤ to.singles
+  -- what is in front of them stays, and so does what is behind them
+  pub front_laid : (xs items : List A) (at : ℕ) → at + length items ≤ length xs
+      → take at (sets xs at items) ≡ take at xs
+  front_laid xs items at there =
+      ap (take at) (sets-eq items xs at there ∙ append_assoc (take at xs) items (drop (at + length items) xs))
+      ∙ take_at (take at xs) _ at (length-take-le at xs (omega (arith, there)))
 
-pub scaled : (d : Dimension) (a b : ℕ) → a ≤ b → width d * a ≤ width d * b
-scaled Xy a b h = omega (arith, h)
-scaled _ a b h = omega (arith, h)
+  pub behind_laid : (xs items : List A) (at n : ℕ) → at + length items ≤ length xs → at + length items ≤ n
+      → KeepsFrom n xs (sets xs at items)
+  behind_laid xs items at n there far =
+      let end = at + length items in
+      ap (drop n) (sets-eq items xs at there)
+      ∙ drop-append-drop end xs (take at xs ++ items) n far
+      (omega (arith, length-append (take at xs) items, length-take-le at xs (omega (arith, there))))
 
-pub room_before : (asked : Dimension) (out : LevelLists) (from to : Totals) → Reaches from to → HasRoomUpTo asked out to
-    → HasRoomUpTo asked out from
-room_before asked out from to far room = record {
-  words_fit = omega (arith, room.words_fit, scaled asked from.coordinates to.coordinates far.coordinates);
-  rings_fit = omega (arith, room.rings_fit, far.rings);
-  singles_fit = omega (arith, room.singles_fit, far.singles);
+  -- lists that are the same up to a number are so up to fewer
+  pub fewer : (m n : ℕ) (xs ys : List A) → m ≤ n → take n xs ≡ take n ys → take m xs ≡ take m ys
+  fewer m n xs ys h same = sym (take-take m n xs h) ∙ ap (take m) same ∙ take-take m n ys h
+
+  -- and have the same items there
+  pub held_on : {xs ys items : List A} {from to : ℕ} → HoldsItems xs from to items → take to ys ≡ take to xs
+      → HoldsItems ys from to items
+  held_on {xs} {ys} {items} {from} {to} h same = record {
+    many = h.many;
+    within = omega (arith, h.within, length-take to ys, length-take to xs, ap length same);
+    are =
+        let up : from + (to - from) ≡ to = omega (arith, h.many) in
+        sym (drop-take from (to - from) ys) ∙ ap (λ n. drop from (take n ys)) up ∙ ap (drop from) same
+        ∙ ap (λ n. drop from (take n xs)) (sym up) ∙ drop-take from (to - from) xs ∙ h.are;
+  }
+
+-- ---- the levels of one row
+
+-- a number names one dimension
+pub one_dimension : (P : Dimension → Type 0) (n : ℕ) (a b : Dimension) → dimension_of_thousands n ≡ Some a
+    → dimension_of_thousands n ≡ Some b → P a → P b
+one_dimension P n a b f g = let same : Some a ≡ Some b = sym f ∙ g in let one : a ≡ b = cc in subst P one
+
+-- there is room in each list
+pub room_at : {asked : Dimension} {out : LevelLists} {to : Totals} → HasRoomUpTo asked out to → (k : Level)
+    → many_in k asked to ≤ length (list_of k out)
+room_at room of_words = room.words_fit
+room_at room of_rings = room.rings_fit
+room_at room of_singles = room.singles_fit
+
+pub room_of : (asked : Dimension) (out : LevelLists) (to : Totals)
+    → ((k : Level) → many_in k asked to ≤ length (list_of k out)) → HasRoomUpTo asked out to
+room_of asked out to fits =
+    record { words_fit = fits of_words; rings_fit = fits of_rings; singles_fit = fits of_singles }
+
+-- where there is room, totals grow by as many as there are items
+many_more : (k : Level) (asked : Dimension) (xs : List Subject) (from : Totals) (room : ℕ)
+    → many_in k asked (totals_after from xs) ≤ room → room < 2 ^ 63
+    → many_in k asked (totals_after from xs) ≡ many_in k asked from + length (items_of k asked xs from)
+many_more of_words asked xs from room fits short =
+    let n = sum (flat_map ring_counts xs) in
+    let to : end_of from.coordinates n ≡ from.coordinates + n =
+    omega (arith, fits, short, wide_enough asked (end_of from.coordinates n)) in
+    rw (subjects_words asked xs, ← mul-add) (ap (λ n. width asked * n) to)
+many_more of_rings asked xs from room fits short =
+    omega (arith, fits, short, ends_length from.coordinates (flat_map ring_counts xs))
+many_more of_singles asked xs from room fits short =
+    omega (arith, fits, short, ends_length from.rings (flat_map single_counts xs))
+
+-- a row that is laid into no list
+pub unchanged : {c : Column} {dimension i status : ℕ} {from to : Totals} {out : LevelLists}
+    → IsCoordinatesRow c dimension i status from to out → IsCoordinatesStep c dimension i status from to out out
+unchanged row =
+    record { row = row; long = λ k. refl; front = λ k asked named. refl; kept = λ k n far. refl }
+
+module _ {asked : Dimension} {row : List ℕ} {found : Summary} {from to : Totals} (before : LevelSlices)
+    (d : DescribesFront row found) (to_is : to ≡ totals_after from (subjects d.spelled d.value)) where
+  -- what becomes of a row in which the check found this
+  in_row : {c : Column} {dimension i status : ℕ} {out : LevelLists} → IsRow c i row
+      → dimension_of_thousands dimension ≡ Some asked → AreLaid asked (subjects d.spelled d.value) status from to out
+      → IsCoordinatesRow c dimension i status from to out
+  in_row is named laid =
+      handed asked named row is (record { s = d.spelled; t = d.value; rest = d.rest; front = d.front }) laid
+
+  pub lacks_row : (HasRoomUpTo asked (levels_of before) to → ⊥) → LaysAny asked row NO_ROOM from to before before
+  lacks_row short = λ c dimension i is named. unchanged (in_row is named (no_room refl to_is short))
+
+  pub laid_row : (after : LevelSlices) → length before.words.now < 2 ^ 63 → length before.ring_ends.now < 2 ^ 63
+      → length before.single_ends.now < 2 ^ 63 → HasRoomUpTo asked (levels_of before) to
+      → levels_of after ≡ with_levels asked (subjects d.spelled d.value) from (levels_of before)
+      → LaysAny asked row OK from to before after
+  laid_row after words ring_ends single_ends room laid = λ c dimension i is named. record {
+    row = in_row is named (written refl to_is (λ k. rw (now k) (held_laid (old k) _ _ _ (many k) (room_at room k))));
+    long = λ k. ap length (now k) ∙ length-sets (old k) (many_in k asked from) (items k);
+    front = λ k other named'.
+        one_dimension (λ d. take (many_in k d from) (list_of k (levels_of after)) ≡ take (many_in k d from) (old k))
+        dimension asked other named named' (ap (take (many_in k asked from)) (now k) ∙ front_laid (old k) _ _ (there k));
+    kept = λ k n far.
+        ap (drop n) (now k) ∙ behind_laid (old k) _ _ n (there k) (omega (arith, many k, far refl asked named));
+  }
+    where
+      old : (k : Level) → List ℕ
+      old k = list_of k (levels_of before)
+
+      items : (k : Level) → List ℕ
+      items k = items_of k asked (subjects d.spelled d.value) from
+
+      short : (k : Level) → length (old k) < 2 ^ 63
+      short of_words = words
+      short of_rings = ring_ends
+      short of_singles = single_ends
+
+      now : (k : Level) → list_of k (levels_of after) ≡ sets (old k) (many_in k asked from) (items k)
+      now of_words = ap (λ out. out.words) laid
+      now of_rings = ap (λ out. out.ring_ends) laid
+      now of_singles = ap (λ out. out.single_ends) laid
+
+      many : (k : Level) → many_in k asked to ≡ many_in k asked from + length (items k)
+      many k = rw to_is (many_more k asked _ from (length (old k)) (rw to_is at (room_at room k)) (short k))
+
+      there : (k : Level) → many_in k asked from + length (items k) ≤ length (old k)
+      there k = omega (arith, many k, room_at room k)
+
+-- ---- all rows
+
+-- items after some totals go no less far
+record Rises (from to : Totals) : Type 0 where
+  small : AreSmall to
+  far : (k : Level) (asked : Dimension) → many_in k asked from ≤ many_in k asked to
+
+after_rises : (from : Totals) (xs : List Subject) → AreSmall from → Rises from (totals_after from xs)
+after_rises from xs small = record {
+  small = record { coordinates = omega arith; rings = omega arith; singles = omega arith };
+  far = far;
 }
+  where
+    far : (k : Level) (asked : Dimension) → many_in k asked from ≤ many_in k asked (totals_after from xs)
+    far of_words asked = mul-le-mul_left (width asked) (omega (arith, small))
+    far of_rings asked = omega (arith, small)
+    far of_singles asked = omega (arith, small)
 
-pub room_in : (asked : Dimension) (out other : LevelLists) (to : Totals) → AreAsLong other out
-    → HasRoomUpTo asked out to → HasRoomUpTo asked other to
-room_in asked out other to long room = record {
-  words_fit = omega (arith, room.words_fit, long.words);
-  rings_fit = omega (arith, room.rings_fit, long.ring_ends);
-  singles_fit = omega (arith, room.singles_fit, long.single_ends);
+-- nor does a row
+row_rises : {c : Column} {dimension i status : ℕ} {from to : Totals} {out : LevelLists}
+    → IsCoordinatesRow c dimension i status from to out → AreSmall from → Rises from to
+row_rises (handed asked named row is a (written ok to_is held)) small =
+    rw to_is (after_rises _ (subjects a.s a.t) small)
+row_rises (handed asked named row is a (no_room told to_is short)) small =
+    rw to_is (after_rises _ (subjects a.s a.t) small)
+row_rises (failed why to_is) small = rw to_is (record { small = small; far = λ k asked. omega arith })
+
+-- with room up to its end a row doesn't lack room
+pub row_lacks : {c : Column} {dimension i status : ℕ} {asked : Dimension} {from to : Totals} {out : LevelLists}
+    → dimension_of_thousands dimension ≡ Some asked → IsCoordinatesRow c dimension i status from to out
+    → HasRoomUpTo asked out to → status ≡ NO_ROOM → ⊥
+row_lacks named (handed other named' row is a (written ok to_is held)) room told = omega (arith, ok, told)
+row_lacks {dimension = dimension} {asked} {to = to} {out} named
+    (handed other named' row is a (no_room told' to_is short)) room told =
+    short (one_dimension (λ d. HasRoomUpTo d out to) dimension asked other named named' room)
+row_lacks {c = c} {dimension} {i} named (failed why to_is) room told =
+    coordinates_tell_other c dimension i (subst (LacksCoordinates c dimension i) told why)
+
+module _ {c : Column} {dimension : ℕ} {statuses row_ends : List ℕ} {out : LevelLists} {rows : ℕ} {at : Totals}
+    {before : LevelLists} (r : AreColumnCoordinates c dimension statuses row_ends out rows at before) where
+  small_at : (i : ℕ) → i ≤ rows → AreSmall (r.at i)
+  small_at zero below = rw r.first (record { coordinates = omega arith; rings = omega arith; singles = omega arith })
+  small_at (suc i) below = (row_rises (r.each i (omega (arith, below))) (small_at i (omega (arith, below)))).small
+
+  -- no row ends before an earlier one
+  pub rise_at : (k : Level) (asked : Dimension) (i : ℕ) → i ≤ rows → (j : ℕ) → j < i + 1
+      → many_in k asked (r.at j) ≤ many_in k asked (r.at i)
+  rise_at k asked zero below =
+      below_more (λ j. many_in k asked (r.at j) ≤ many_in k asked (r.at 0)) 0 (below_none _) (omega arith)
+  rise_at k asked (suc i) below =
+      let row = row_rises (r.each i (omega (arith, below))) (small_at i (omega (arith, below))) in
+      below_more (λ j. many_in k asked (r.at j) ≤ many_in k asked (r.at (suc i))) (suc i)
+      (λ j up. omega (arith, rise_at k asked i (omega (arith, below)) j (omega (arith, up)), row.far k asked))
+      (omega arith)
+
+  -- nor after the last
+  pub end_at : (k : Level) (asked : Dimension) (i : ℕ) → i ≤ rows → many_in k asked (r.at i) ≤ many_in k asked at
+  end_at k asked i below =
+      omega (arith, rise_at k asked rows (omega arith) i (omega (arith, below)), ap (many_in k asked) r.last)
+
+  pub levels_suffice : LevelsSuffice dimension out at rows statuses
+  levels_suffice asked named room i below =
+      row_lacks named (r.each i below)
+      (room_of asked before (r.at (suc i))
+      (λ k. omega (arith, end_at k asked (suc i) (omega (arith, below)), room_at room k, r.long k)))
+
+  -- a row more
+  module _ {status : ℕ} {to : Totals} {after : LevelLists}
+      (step : IsCoordinatesStep c dimension rows status at to before after) where
+    -- the rows above stay
+    kept_row : {i told : ℕ} {from end : Totals} → IsCoordinatesRow c dimension i told from end before
+        → ((k : Level) (asked : Dimension) → many_in k asked end ≤ many_in k asked at)
+        → IsCoordinatesRow c dimension i told from end after
+    kept_row (handed asked named row is a (written ok to_is held)) far =
+        handed asked named row is a
+        (written ok to_is (λ k.
+        held_on (held k) (fewer _ _ (list_of k after) (list_of k before) (far k asked) (step.front k asked named))))
+    kept_row (handed asked named row is a (no_room told to_is short)) far =
+        handed asked named row is a
+        (no_room told to_is (λ room. short (room_of asked before _ (λ k. omega (arith, room_at room k, step.long k)))))
+    kept_row (failed why to_is) far = failed why to_is
+
+    abbrev begin : ℕ → Totals
+    begin i = if nat_lt rows i then to else r.at i
+
+    begin_above : (i : ℕ) → i ≤ rows → begin i ≡ r.at i
+    begin_above i above = ap (λ b. if b then to else r.at i) (le-ltb rows i above)
+
+    begin_next : (i : ℕ) → rows < i → begin i ≡ to
+    begin_next i next = ap (λ b. if b then to else r.at i) (lt-ltb rows i next)
+
+    pub row_more : rows < length statuses → rows < length row_ends
+        → AreColumnCoordinates c dimension (set statuses rows status) (set row_ends rows to.singles) out (rows + 1) to
+        after
+    row_more there there' = record {
+      at = begin;
+      first = begin_above 0 (omega arith) ∙ r.first;
+      last = begin_next (rows + 1) (omega arith);
+      each =
+          statuses_more (λ i told. IsCoordinatesRow c dimension i told (begin i) (begin (suc i)) after) statuses rows
+          status there
+          (λ i below. rw (begin_above i (omega (arith, below)), begin_above (suc i) (omega (arith, below)))
+          (kept_row (r.each i below) (λ k asked. end_at k asked (suc i) (omega (arith, below)))))
+          (rw (begin_above rows (omega arith), r.last, begin_next (suc rows) (omega arith)) step.row);
+      row_ends_are =
+          statuses_more (λ i end. end ≡ (begin (suc i)).singles) row_ends rows to.singles there'
+          (λ i below. r.row_ends_are i below ∙ ap (λ t. t.singles) (sym (begin_above (suc i) (omega (arith, below)))))
+          (ap (λ t. t.singles) (sym (begin_next (suc rows) (omega arith))));
+      long = λ k. step.long k ∙ r.long k;
+      kept = λ k n far.
+          step.kept k n (λ ok asked named.
+          let h = far rows (omega arith) (get_or-set_same statuses rows status 0 there ∙ ok) asked named in
+          omega (arith, h, ap (many_in k asked) (begin_next (suc rows) (omega arith))))
+          ∙ r.kept k n (λ i below ok asked named.
+          let same = get_or-set_other statuses rows i status 0 (λ same. omega (arith, same, below)) in
+          let h = far i (omega (arith, below)) (same ∙ ok) asked named in
+          omega (arith, h, ap (many_in k asked) (begin_above (suc i) (omega (arith, below)))));
+    }
+
+-- no rows
+pub no_rows : {c : Column} {dimension : ℕ} {statuses row_ends : List ℕ} {before after : LevelLists} → after ≡ before
+    → AreColumnCoordinates c dimension statuses row_ends before 0 no_totals after
+no_rows same = record {
+  at = λ i. no_totals;
+  first = refl;
+  last = refl;
+  each = below_none _;
+  row_ends_are = below_none _;
+  long = λ k. ap (λ out. length (list_of k out)) same;
+  kept = λ k n far. ap (λ out. drop n (list_of k out)) same;
 }
-
--- items after these totals go no less far
-reaches : (from : Totals) (xs : List Subject) → AreSmall from → Reaches from (totals_after from xs)
-reaches from xs small = record {
-  coordinates = omega (arith, small.coordinates);
-  rings = omega (arith, small.rings);
-  singles = omega (arith, small.singles);
-}
-
-small_after : (from : Totals) (xs : List Subject) → AreSmall (totals_after from xs)
-small_after from xs = record { coordinates = omega arith; rings = omega arith; singles = omega arith }
-
-same_long : (out : LevelLists) → AreAsLong out out
-same_long out = record { words = refl; ring_ends = refl; single_ends = refl }
-
-laid_long : (asked : Dimension) (xs : List Subject) (from : Totals) (out : LevelLists)
-    → AreAsLong (with_levels asked xs from out) out
-laid_long asked xs from out = record {
-  words = length-sets out.words (width asked * from.coordinates) (flat_map (asked_subject_words asked) xs);
-  ring_ends = length-sets out.ring_ends from.rings (ends from.coordinates (flat_map ring_counts xs));
-  single_ends = length-sets out.single_ends from.singles (ends from.rings (flat_map single_counts xs));
-}
-
-pub one_dimension : (n : ℕ) (a b : Dimension) → dimension_of_thousands n ≡ Some a → dimension_of_thousands n ≡ Some b
-    → a ≡ b
-one_dimension n a b f g = let same : Some a ≡ Some b = sym f ∙ g in cc
-
--- what a row more says of totals, lengths and room
-pub record RowSays (dimension status : ℕ) (from to : Totals) (before after : LevelLists) : Type 0 where
-  pub far : Reaches from to
-  pub small : AreSmall to
-  pub long : AreAsLong after before
-  pub lacks : (asked : Dimension) → dimension_of_thousands dimension ≡ Some asked → HasRoomUpTo asked before to
-      → status ≡ NO_ROOM → ⊥
-
-says : {dimension status : ℕ} {from to : Totals} {before after : LevelLists} (xs : List Subject) (now : LevelLists)
-    → to ≡ totals_after from xs → after ≡ now → AreSmall from → AreAsLong now before
-    → ((asked : Dimension) → dimension_of_thousands dimension ≡ Some asked → HasRoomUpTo asked before to → status ≡ NO_ROOM
-    → ⊥)
-    → RowSays dimension status from to before after
-says {from = from} {before = before} xs now to_is after_is small long lacks = record {
-  far = subst (Reaches from) (sym to_is) (reaches from xs small);
-  small = subst AreSmall (sym to_is) (small_after from xs);
-  long = subst (λ l. AreAsLong l before) (sym after_is) long;
-  lacks = lacks;
-}
-
-pub row_says : {c : Column} {dimension i status : ℕ} {from to : Totals} {before after : LevelLists}
-    → IsCoordinatesRow c dimension i status from to before after → AreSmall from
-    → RowSays dimension status from to before after
-row_says {from = from} {before = before} (handed asked xs has (written ok is room laid)) small =
-    says xs _ is laid small (laid_long asked xs from before) (λ other named room told. omega (arith, ok, told))
-row_says {dimension = dimension} {to = to} {before = before} (handed asked xs has (no_room told is short same)) small =
-    says xs _ is same small (same_long before)
-    (λ other named room told.
-    short (subst (λ d. HasRoomUpTo d before to) (one_dimension dimension other asked named has.asked_is) room))
-row_says {c = c} {dimension = dimension} {i = i} {from = from} {before = before} (failed why is same) small =
-    says [] _ (is ∙ none_added from small) same small (same_long before)
-    (λ other named room told. coordinates_tell_other c dimension i (subst (LacksCoordinates c dimension i) told why))
-
-pub long_more : {out before after : LevelLists} → AreAsLong after before → AreAsLong before out → AreAsLong after out
-long_more more long = record {
-  words = more.words ∙ long.words;
-  ring_ends = more.ring_ends ∙ long.ring_ends;
-  single_ends = more.single_ends ∙ long.single_ends;
-}
-
-module _ {dimension status i : ℕ} {from to : Totals} {out before after : LevelLists} (statuses : List ℕ)
-    (row : RowSays dimension status from to before after) (long : AreAsLong before out)
-    (done : LevelsSuffice dimension out from i statuses) (there : i < length statuses) where
-  pub room_more : LevelsSuffice dimension out to (i + 1) (set statuses i status)
-  room_more asked named room =
-      statuses_more (λ j told. told ≡ NO_ROOM → ⊥) statuses i status there
-      (done asked named (room_before asked out from to row.far room))
-      (row.lacks asked named (room_in asked out before to long room))

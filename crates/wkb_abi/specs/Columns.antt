@@ -101,8 +101,8 @@ pub data LacksRow (c : Column) (i status : ℕ) : Type 0 where
 abbrev pub IsRefusedWith : List ℕ → ℕ → Type 0
 IsRefusedWith row status = (fault : WkbFault) × IsFault row status fault
 
--- Row i is accepted, and its item shows this of its bytes; or it is refused, or has no bytes, and its item is `none`. The
--- status says which.
+-- Row i is accepted, and its item shows this of its bytes; or it is refused, or has no bytes, and its item is `none`.
+-- The status says which.
 pub data RowShows {A : Type 0} (Shows : List ℕ → A → Type 0) (none : A) (c : Column) (i status : ℕ) (item : A) : Type 0
   where
     accepted : (row : List ℕ) → IsRow c i row → status ≡ OK → Shows row item → RowShows Shows none c i status item

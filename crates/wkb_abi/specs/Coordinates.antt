@@ -1,19 +1,18 @@
 -- The coordinates of a column's rows, in levels (GeoArrow: a geometry has parts, a part has rings, a ring has
 -- coordinates). A single is a point, a line string or a polygon; a point and a line string are one ring.
-use Rattle.std.specs.Prelude.{◌≡◌, ℕ, zero, suc, ◌+◌, ◌*◌, ◌≤◌, List, [], ◌∷◌, length, sum, flat_map}
-use Rattle.std.specs.Prelude.{Some, None, slice_index}
+use Rattle.std.specs.Prelude.{◌≡◌, ℕ, suc, ◌+◌, ◌*◌, ◌<◌, ◌≤◌, List, [], ◌∷◌, length, sum, flat_map, take, Some, None}
+use Rattle.std.specs.Prelude.{slice_index}
 use lib.Seq.{sets}
 use Rattle.wkb_geom.specs.Codes.{dimension_of_thousands}
 use Rattle.wkb_geom.specs.declared.common.Dimension.{Dimension}
 use Rattle.wkb_geom.specs.declared.common.Dimension.TheVariants.{Xy, Xyz, Xym, Xyzm}
 use Rattle.wkb_geom.specs.Dimensions.{width}
-use Rattle.wkb_geom.specs.Fronts.{Front}
 use Rattle.wkb_geom.specs.Numbers.{empty_word}
-use Rattle.wkb_geom.specs.Spellings.{Spelling}
-use Rattle.wkb_geom.specs.Values.{Coordinate, Value, point, line_string, polygon}
+use Rattle.wkb_geom.specs.Values.{Coordinate, point, line_string, polygon}
 use Rattle.wkb_abi.specs.Columns.{IsRow, LacksRow, IsRefusedWith}
 use Rattle.wkb_abi.specs.declared.column.Column.{Column}
-use Rattle.wkb_abi.specs.RowItems.{end_of, NoneLacksRoom}
+use Rattle.wkb_abi.specs.RowItems.{end_of, HoldsItems, KeepsFrom, NoneLacksRoom}
+use Rattle.wkb_check.specs.Inputs.{IsAccepted}
 use Rattle.wkb_check.specs.Subjects.{Subject, whole, ring, dimension_in, subject_coordinates, subjects}
 use Rattle.wkb_abi.specs.declared.totals.Totals.{Totals}
 use Rattle.wkb_abi.specs.declared.status.TheConstants.{OK, NO_ROOM, UNKNOWN_OPTION}
@@ -104,14 +103,42 @@ with_levels asked xs from out = record {
   single_ends = sets out.single_ends from.singles (ends from.rings (flat_map single_counts xs));
 }
 
--- the levels of these subjects that begin here are written, or there is no room for them and nothing changes
-pub data AreLaid (asked : Dimension) (xs : List Subject) (status : ℕ) (from to : Totals) (before after : LevelLists)
-    : Type 0
+-- a list is that of the words, of the rings or of the singles
+pub data Level : Type 0 where
+  of_words : Level
+  of_rings : Level
+  of_singles : Level
+
+-- the list of a level
+abbrev pub list_of : Level → LevelLists → List ℕ
+list_of of_words out = out.words
+list_of of_rings out = out.ring_ends
+list_of of_singles out = out.single_ends
+
+-- how many items of it there are up to these totals
+abbrev pub many_in : Level → Dimension → Totals → ℕ
+many_in of_words asked at = width asked * at.coordinates
+many_in of_rings asked at = at.rings
+many_in of_singles asked at = at.singles
+
+-- what these subjects give a level, from these totals on
+abbrev pub items_of : Level → Dimension → List Subject → Totals → List ℕ
+items_of of_words asked xs from = flat_map (asked_subject_words asked) xs
+items_of of_rings asked xs from = ends from.coordinates (flat_map ring_counts xs)
+items_of of_singles asked xs from = ends from.rings (flat_map single_counts xs)
+
+-- each list holds what these subjects give its level
+abbrev pub HoldLevels : Dimension → List Subject → Totals → Totals → LevelLists → Type 0
+HoldLevels asked xs from to out =
+    (k : Level) → HoldsItems (list_of k out) (many_in k asked from) (many_in k asked to) (items_of k asked xs from)
+
+-- the levels of these subjects that begin here are written, or there is no room for them
+pub data AreLaid (asked : Dimension) (xs : List Subject) (status : ℕ) (from to : Totals) (out : LevelLists) : Type 0
   where
-    written : status ≡ OK → to ≡ totals_after from xs → HasRoomUpTo asked before to
-        → after ≡ with_levels asked xs from before → AreLaid asked xs status from to before after
-    no_room : status ≡ NO_ROOM → to ≡ totals_after from xs → (HasRoomUpTo asked before to → ⊥)
-        → after ≡ before → AreLaid asked xs status from to before after
+    written : status ≡ OK → to ≡ totals_after from xs → HoldLevels asked xs from to out
+        → AreLaid asked xs status from to out
+    no_room : status ≡ NO_ROOM → to ≡ totals_after from xs → (HasRoomUpTo asked out to → ⊥)
+        → AreLaid asked xs status from to out
 
 -- row i has no coordinates, and this status says why
 pub data LacksCoordinates (c : Column) (dimension i status : ℕ) : Type 0 where
@@ -121,33 +148,39 @@ pub data LacksCoordinates (c : Column) (dimension i status : ℕ) : Type 0 where
   refused : (row : List ℕ) (asked : Dimension) → IsRow c i row → dimension_of_thousands dimension ≡ Some asked
       → IsRefusedWith row status → LacksCoordinates c dimension i status
 
--- row i begins with a geometry of these subjects, and the dimension is this one
-pub record HasCoordinates (c : Column) (dimension i : ℕ) (asked : Dimension) (xs : List Subject) : Type 0 where
-  pub row : List ℕ
-  pub is_row : IsRow c i row
-  pub asked_is : dimension_of_thousands dimension ≡ Some asked
-  pub s : Spelling
-  pub t : Value
-  pub rest : List ℕ
-  pub front : Front row s t rest
-  pub are : xs ≡ subjects s t
+-- the status of row i, and where its levels begin and end in the lists
+pub data IsCoordinatesRow (c : Column) (dimension i status : ℕ) (from to : Totals) (out : LevelLists) : Type 0 where
+  handed : (asked : Dimension) → dimension_of_thousands dimension ≡ Some asked → (row : List ℕ) → IsRow c i row
+      → (a : IsAccepted row) → AreLaid asked (subjects a.s a.t) status from to out
+      → IsCoordinatesRow c dimension i status from to out
+  failed : LacksCoordinates c dimension i status → to ≡ from → IsCoordinatesRow c dimension i status from to out
 
--- the status of row i, where its levels begin and end, and what becomes of the lists
-pub data IsCoordinatesRow (c : Column) (dimension i status : ℕ) (from to : Totals) (before after : LevelLists) : Type 0
-  where
-    handed : (asked : Dimension) (xs : List Subject) → HasCoordinates c dimension i asked xs
-        → AreLaid asked xs status from to before after
-        → IsCoordinatesRow c dimension i status from to before after
-    failed : LacksCoordinates c dimension i status → to ≡ from → after ≡ before
-        → IsCoordinatesRow c dimension i status from to before after
+-- The rows below this number, each after the one before it: row i begins at `at i`. After the last levels that are
+-- written nothing has changed.
+pub record AreColumnCoordinates (c : Column) (dimension : ℕ) (statuses row_ends : List ℕ) (before : LevelLists)
+    (rows : ℕ) (to : Totals) (after : LevelLists) : Type 0 where
+  pub at : ℕ → Totals
+  pub first : at 0 ≡ no_totals
+  pub last : at rows ≡ to
+  pub each : (i : ℕ) → i < rows
+      → IsCoordinatesRow c dimension i (slice_index statuses i) (at i) (at (suc i)) after
+  pub row_ends_are : (i : ℕ) → i < rows → slice_index row_ends i ≡ (at (suc i)).singles
+  pub long : (k : Level) → length (list_of k after) ≡ length (list_of k before)
+  pub kept : (k : Level) (n : ℕ)
+      → ((i : ℕ) → i < rows → slice_index statuses i ≡ OK → (asked : Dimension)
+      → dimension_of_thousands dimension ≡ Some asked → many_in k asked (at (suc i)) ≤ n)
+      → KeepsFrom n (list_of k before) (list_of k after)
 
--- The rows below this number, each after the one before it: their levels end here, and the lists are these now.
-abbrev pub AreColumnCoordinates : Column → ℕ → List ℕ → List ℕ → LevelLists → ℕ → Totals → LevelLists → Type 0
-AreColumnCoordinates c dimension statuses row_ends out zero at now = (at ≡ no_totals) × (now ≡ out)
-AreColumnCoordinates c dimension statuses row_ends out (suc i) at now =
-    (from : Totals) × ((before : LevelLists) × (AreColumnCoordinates c dimension statuses row_ends out i from before
-    × IsCoordinatesRow c dimension i (slice_index statuses i) from at before now
-    × (slice_index row_ends i ≡ at.singles)))
+-- row i after rows up to these totals: what is in front of it stays, and after its levels nothing changes
+pub record IsCoordinatesStep (c : Column) (dimension i status : ℕ) (from to : Totals) (before after : LevelLists)
+    : Type 0 where
+  pub row : IsCoordinatesRow c dimension i status from to after
+  pub long : (k : Level) → length (list_of k after) ≡ length (list_of k before)
+  pub front : (k : Level) (asked : Dimension) → dimension_of_thousands dimension ≡ Some asked
+      → take (many_in k asked from) (list_of k after) ≡ take (many_in k asked from) (list_of k before)
+  pub kept : (k : Level) (n : ℕ) → (status ≡ OK → (asked : Dimension)
+      → dimension_of_thousands dimension ≡ Some asked → many_in k asked to ≤ n)
+      → KeepsFrom n (list_of k before) (list_of k after)
 
 -- with room up to here in the dimension of this number none of the rows below a number lacks room
 abbrev pub LevelsSuffice : ℕ → LevelLists → Totals → ℕ → List ℕ → Type 0

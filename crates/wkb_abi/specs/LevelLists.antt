@@ -3,10 +3,8 @@ use Rattle.std.specs.Prelude.{◌≡◌, ℕ, List, Some}
 use Rattle.wkb_geom.specs.Codes.{dimension_of_thousands}
 use Rattle.wkb_geom.specs.declared.common.Dimension.{Dimension}
 use Rattle.wkb_check.specs.Known.{HasGeometry}
-use Rattle.wkb_check.specs.Public.{DescribesFront}
-use Rattle.wkb_check.specs.declared.answer.Summary.{Summary}
-use Rattle.wkb_abi.specs.Coordinates.{LevelLists, levels, HasRoomUpTo, totals_after, with_levels, IsCoordinatesRow}
-use Rattle.wkb_abi.specs.Coordinates.{AreLaid, AreColumnCoordinates, LevelsSuffice}
+use Rattle.wkb_abi.specs.Coordinates.{LevelLists, levels, HasRoomUpTo, totals_after, with_levels, IsCoordinatesStep}
+use Rattle.wkb_abi.specs.Coordinates.{AreColumnCoordinates, LevelsSuffice}
 use Rattle.wkb_abi.specs.RowItems.{rows_of}
 use Rattle.wkb_check.specs.Subjects.{subjects}
 use Rattle.wkb_abi.specs.Columns.{IsRow}
@@ -34,16 +32,10 @@ abbrev pub LaysLevels : Dimension → List ℕ → Totals → LevelSlices → Le
 LaysLevels asked row from before after =
     (g : HasGeometry row) → levels_of after ≡ with_levels asked (subjects g.spelled g.value) from (levels_of before)
 
--- the levels of a row in which the check found this, where they begin and end, and what becomes of the slices
-abbrev pub LaysFound : Dimension → List ℕ → Summary → ℕ → Totals → Totals → LevelSlices → LevelSlices → Type 0
-LaysFound asked row found status from to before after =
-    (d : DescribesFront row found)
-    → AreLaid asked (subjects d.spelled d.value) status from to (levels_of before) (levels_of after)
-
 -- the status of row i, where its levels begin and end, and what becomes of the slices
 abbrev pub LaysRow : Column → ℕ → ℕ → ℕ → Totals → Totals → LevelSlices → LevelSlices → Type 0
 LaysRow c dimension i status from to before after =
-    IsCoordinatesRow c dimension i status from to (levels_of before) (levels_of after)
+    IsCoordinatesStep c dimension i status from to (levels_of before) (levels_of after)
 
 -- the same of any row with these bytes, where the number names the dimension
 abbrev pub LaysAny : Dimension → List ℕ → ℕ → Totals → Totals → LevelSlices → LevelSlices → Type 0

@@ -1,5 +1,5 @@
 -- What one piece of a geometry gives each level: the code's step.
-use Rattle.std.specs.Prelude.{◌≡◌, ℕ, ◌+◌, ◌-◌, ◌*◌, ◌^◌, ◌<◌, ◌≤◌, List, [], ◌∷◌, length, drop, sum, flat_map, nat_lt}
+use Rattle.std.specs.Prelude.{ℕ, ◌+◌, ◌-◌, ◌*◌, ◌^◌, ◌<◌, ◌≤◌, List, [], ◌∷◌, length, drop, sum, flat_map, nat_lt}
 use Rattle.std.specs.Prelude.{◌&&◌, IsTrue, if◌then◌else◌}
 use lib.Seq.{sets}
 use Rattle.wkb_geom.specs.declared.common.Endianness.{Endianness}
@@ -20,10 +20,6 @@ use Rattle.wkb_abi.specs.declared.totals.Totals.{Totals}
 -- how many coordinates it has, if it is a ring
 abbrev pub ring_sizes : Piece → List ℕ
 ring_sizes p = if nat_lt p.kind 3 then p.count ∷ [] else []
-
--- how many coordinates there are up to its end, after so many before it
-abbrev pub coordinates_with : Piece → Totals → ℕ
-coordinates_with p at = at.coordinates + sum (ring_sizes p)
 
 -- how many rings it has, if it is a single
 abbrev pub single_sizes : Piece → List ℕ
@@ -55,10 +51,6 @@ IsRingInside row p = IsTrue (nat_lt p.kind POLYGON) → AreInside row p.dimensio
 abbrev pub words_from : Dimension → Endianness → Dimension → ℕ → List ℕ → List ℕ
 words_from asked order own count bytes = flat_map (words_asked asked own) (coordinates order own count bytes)
 
--- the coordinates of a piece in the row, read in this order and dimension
-abbrev pub coordinates_as : Endianness → Dimension → List ℕ → Piece → List (List ℕ)
-coordinates_as order own row p = coordinates order own p.count (drop p.offset row)
-
 -- the words that are asked for of the coordinate that is read from here on in this order and dimension
 abbrev pub words_read : Dimension → Endianness → Dimension → List ℕ → ℕ → List ℕ
 words_read asked order own row from = words_asked asked own (coordinate order own (drop from row))
@@ -67,13 +59,9 @@ words_read asked order own row from = words_asked asked own (coordinate order ow
 abbrev pub words_asked_of : Dimension → List ℕ → Piece → List ℕ
 words_asked_of asked row p = words_from asked p.order p.dimension p.count (drop p.offset row)
 
--- the coordinates of a piece, if it has some
-abbrev pub piece_coordinates : List ℕ → Piece → List (List ℕ)
-piece_coordinates row p = if nat_lt p.kind 3 then coordinates_as p.order p.dimension row p else []
-
--- the words that are asked for of these
+-- these, if it has coordinates
 abbrev pub piece_words : Dimension → List ℕ → Piece → List ℕ
-piece_words asked row p = flat_map (words_asked asked p.dimension) (piece_coordinates row p)
+piece_words asked row p = if nat_lt p.kind 3 then words_asked_of asked row p else []
 
 -- the list of words with its own, which begin here
 abbrev pub with_words : Dimension → List ℕ → Piece → Totals → List ℕ → List ℕ
@@ -90,20 +78,27 @@ with_single_end p at single_ends = sets single_ends at.singles (ends at.rings (s
 -- the row has the coordinates of a piece, and there is room for what it gives each level
 pub record PieceFits (asked : Dimension) (row : List ℕ) (p : Piece) (at : Totals) (out : LevelLists) : Type 0 where
   pub inside : IsRingInside row p
-  pub words_fit : width asked * coordinates_with p at ≤ length out.words
+  pub words_fit : width asked * (at.coordinates + sum (ring_sizes p)) ≤ length out.words
   pub ring_ends_fit : at.rings + length (ring_sizes p) ≤ length out.ring_ends
   pub single_ends_fit : at.singles + length (single_sizes p) ≤ length out.single_ends
   pub small : at.rings < 2 ^ 63
 
--- what a piece gives each level is written
-pub record LaysPiece (asked : Dimension) (row : List ℕ) (p : Piece) (at : Totals) (before after : LevelLists) : Type 0
-  where
-    pub words : after.words ≡ with_words asked row p at before.words
-    pub ring_ends : after.ring_ends ≡ with_ring_end p at before.ring_ends
-    pub single_ends : after.single_ends ≡ with_single_end p at before.single_ends
+-- the lists with what a piece gives each level
+abbrev pub with_piece : Dimension → List ℕ → Piece → Totals → LevelLists → LevelLists
+with_piece asked row p at out = record {
+  words = with_words asked row p at out.words;
+  ring_ends = with_ring_end p at out.ring_ends;
+  single_ends = with_single_end p at out.single_ends;
+}
 
--- these are the totals after one more piece
-pub record AreTotalsWith (at : Totals) (p : Piece) (to : Totals) : Type 0 where
-  pub coordinates : to.coordinates ≡ end_of at.coordinates (sum (ring_sizes p))
-  pub rings : to.rings ≡ end_of at.rings (length (ring_sizes p))
-  pub singles : to.singles ≡ end_of at.singles (length (single_sizes p))
+-- the totals after so many more coordinates, rings and singles
+abbrev pub totals_plus : Totals → ℕ → ℕ → ℕ → Totals
+totals_plus at coordinates rings singles = record {
+  coordinates = end_of at.coordinates coordinates;
+  rings = end_of at.rings rings;
+  singles = end_of at.singles singles;
+}
+
+-- those after one more piece
+abbrev pub totals_with : Totals → Piece → Totals
+totals_with at p = totals_plus at (sum (ring_sizes p)) (length (ring_sizes p)) (length (single_sizes p))

@@ -1,6 +1,6 @@
 -- What rows write one after another: the items of a row begin where those of the row before it end.
-use Rattle.std.specs.Prelude.{◌≡◌, ℕ, ◌+◌, ◌-◌, ◌^◌, ◌<◌, ◌≤◌, ◌++◌, List, length, drop, take}
-use Rattle.std.specs.Prelude.{min, slice_range, slice_index}
+use Rattle.std.specs.Prelude.{◌≡◌, ℕ, ◌+◌, ◌-◌, ◌^◌, ◌<◌, ◌≤◌, List, length, drop, min, slice_range, slice_index}
+use lib.Seq.{sets}
 use Rattle.wkb_abi.specs.Columns.{IsRow, LacksRow, IsRefusedWith}
 use Rattle.wkb_abi.specs.declared.column.Column.{Column}
 use Rattle.wkb_abi.specs.Subjects.{HasTable}
@@ -18,12 +18,17 @@ rows_of statuses items = min (length statuses) (length items)
 abbrev pub end_of : ℕ → ℕ → ℕ
 end_of start n = min (start + n) (2 ^ 64 - 1)
 
+-- from one index up to another a list holds these items
+pub record HoldsItems {A : Type 0} (out : List A) (from to : ℕ) (items : List A) : Type 0 where
+  pub many : to ≡ from + length items
+  pub within : to ≤ length out
+  pub are : slice_range out from to ≡ items
+
 -- The status of row i, and where its items begin and end in `out`. `Has i items`: these are the items of row i.
 -- `Fails i status`: it has none, and this status says why.
 pub data IsRowAnswer {A : Type 0} (Has : ℕ → List A → Type 0) (Fails : ℕ → ℕ → Type 0)
     (i status start end : ℕ) (out : List A) : Type 0 where
-  handed : (items : List A) → Has i items → status ≡ OK
-      → end ≡ start + length items → end ≤ length out → slice_range out start end ≡ items
+  handed : (items : List A) → Has i items → status ≡ OK → HoldsItems out start end items
       → IsRowAnswer Has Fails i status start end out
   no_room : (items : List A) → Has i items → status ≡ NO_ROOM
       → end ≡ end_of start (length items) → length out < start + length items
@@ -79,13 +84,23 @@ LastEndSuffices rows statuses ends out = NoneLacksRoom (start_at 0 ends rows ≤
 abbrev pub KeepsFrom : {A : Type 0} → ℕ → List A → List A → Type 0
 KeepsFrom n before after = drop n after ≡ drop n before
 
--- The status of row i, and how many items it has, where those before it end at `start`: they are laid there, if there is
--- room for them.
+-- in the list of statuses and in another one the entries of the rows below this number are set, and no others
+pub record AreSet {A : Type 0} (rows : ℕ) (before statuses : List ℕ) (before' others : List A) : Type 0 where
+  pub as_many : length statuses ≡ length before
+  pub as_many_others : length others ≡ length before'
+  pub statuses_kept : KeepsFrom rows before statuses
+  pub others_kept : KeepsFrom rows before' others
+
+-- those of the rows that both lists have entries for
+abbrev pub SetsRows : {A : Type 0} → List ℕ → List ℕ → List A → List A → Type 0
+SetsRows before statuses before' others = AreSet (rows_of before before') before statuses before' others
+
+-- The status of row i, and how many items it has, where those before it end at `start`: they are laid there, if there
+-- is room for them.
 pub data IsRowStep {A : Type 0} (Has : ℕ → List A → Type 0) (Fails : ℕ → ℕ → Type 0)
     (i status count start : ℕ) (before after : List A) : Type 0 where
   laid : (items : List A) → Has i items → status ≡ OK → count ≡ length items → start + count ≤ length before
-      → after ≡ take start before ++ (items ++ drop (start + count) before)
-      → IsRowStep Has Fails i status count start before after
+      → after ≡ sets before start items → IsRowStep Has Fails i status count start before after
   lacks : (items : List A) → Has i items → status ≡ NO_ROOM → count ≡ length items
       → length before < start + count → after ≡ before
       → IsRowStep Has Fails i status count start before after

@@ -1,6 +1,6 @@
 //! The coordinates of a geometry, in levels: it has singles, a single has rings, a ring has coordinates.
 
-ghost use Rattle.std.specs.Prelude.{◌≡◌, ◌+◌, ◌*◌, ◌^◌, ◌<◌, ◌≤◌, ◌&&◌, length, drop, slice_index, IsTrue, false};
+ghost use Rattle.std.specs.Prelude.{◌≡◌, ◌+◌, ◌*◌, ◌^◌, ◌<◌, ◌≤◌, ◌&&◌, length, sum, drop, slice_index, IsTrue, false};
 ghost use lib.Seq.{sets};
 ghost use Rattle.wkb_geom.specs.Dimensions.{width};
 ghost use Rattle.wkb_geom.specs.Reading.{coordinate};
@@ -11,13 +11,13 @@ ghost use Rattle.wkb_abi.specs.Coordinates.{z_of, m_of, HasRoomUpTo};
 ghost use Rattle.wkb_abi.specs.LevelLists.{levels_of, AreSameSlices, HasRoomFor, LaysLevels};
 ghost use Rattle.wkb_abi.specs.PieceLevels.{ring_sizes, single_sizes, AreInside, IsRingInside, words_read, words_from};
 ghost use Rattle.wkb_abi.specs.PieceLevels.{words_asked_of, with_words, with_ring_end, with_single_end};
-ghost use Rattle.wkb_abi.specs.PieceLevels.{coordinates_with, PieceFits, LaysPiece};
+ghost use Rattle.wkb_abi.specs.PieceLevels.{PieceFits, with_piece};
 
 use crate::totals::{Totals, is_single};
 use wkb_check::{Piece, Pieces};
 use wkb_geom::code::POLYGON;
 use wkb_geom::words::{EMPTY_WORD, WORD_SIZE, rest_from, u64_at};
-use wkb_geom::{Dimension, Endianness};
+use wkb_geom::{Dimension, Endianness, by_order};
 
 /// The slices that the levels are written to.
 #[repr(C)]
@@ -29,6 +29,7 @@ pub struct LevelSlices<'a> {
 }
 
 /// Word n of the coordinate that is read from here on in this order.
+#[tactic(auto, using(crate::proofs::Levels::coordinate_word))]
 #[inline(always)]
 fn word_of(row: &[u8], from: usize, n: usize, order: Endianness) -> u64
     requires { from + 8 * (n + 1) ≤ length row.now }
@@ -135,11 +136,7 @@ fn lay_one_coordinate(
     requires room { start + width asked ≤ length out.old }
     ensures { out.new ≡ sets out.old start (words_from asked order own 1 bytes.now) }
 {
-    use Endianness::{BigEndian, LittleEndian};
-    match order {
-        LittleEndian => lay_ordered(bytes, 1, LittleEndian, own, asked, out, start),
-        BigEndian => lay_ordered(bytes, 1, BigEndian, own, asked, out, start),
-    }
+    by_order!(order, lay_ordered(bytes, 1, order, own, asked, out, start))
 }
 
 /// Writes the words that are asked for of `count` coordinates. The order is a constant in each loop, and where x and y
@@ -228,7 +225,8 @@ fn lay_ring(
     ring_ends: &mut [u64],
 )
     requires inside { IsRingInside row.now piece.now }
-    requires words_fit { width asked * coordinates_with piece.now at ≤ length words.old }
+    requires words_fit { width asked * (at.coordinates + sum (ring_sizes piece.now))
+        ≤ length words.old }
     requires ends_fit { at.rings + length (ring_sizes piece.now) ≤ length ring_ends.old }
     ensures words { words.new ≡ with_words asked row.now piece.now at words.old }
     ensures ends { ring_ends.new ≡ with_ring_end piece.now at ring_ends.old }
@@ -269,7 +267,7 @@ fn lay_piece_levels(
     out: &mut LevelSlices<'_>,
 )
     requires { PieceFits asked row.now piece.now at (levels_of out.old) }
-    ensures laid { LaysPiece asked row.now piece.now at (levels_of out.old) (levels_of out.new) }
+    ensures laid { levels_of out.new ≡ with_piece asked row.now piece.now at (levels_of out.old) }
     ensures same_slices { AreSameSlices out.old out.new }
 {
     lay_ring(row, piece, asked, at, out.words, out.ring_ends);

@@ -1,5 +1,5 @@
-//! What crosses to C, and what its calls share: statuses and refusals, options, the table of parts, the rows of a column
-//! and their levels. No call allocates.
+//! What crosses to C, and what its calls share: statuses and refusals, options, the table of parts, the rows of a
+//! column and their levels. No call allocates.
 #![tactic(auto)]
 
 pub mod column;

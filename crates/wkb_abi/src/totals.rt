@@ -7,8 +7,7 @@ ghost use Rattle.wkb_check.specs.Pieces.{IsPieceAt};
 ghost use Rattle.wkb_check.specs.Public.{DescribesFront};
 ghost use Rattle.wkb_check.specs.Subjects.{subjects};
 ghost use Rattle.wkb_abi.specs.Coordinates.{totals_after};
-ghost use Rattle.wkb_abi.specs.PieceLevels.{AreTotalsWith, ring_number, single_number, AreTotalsOf};
-ghost use Rattle.wkb_abi.specs.RowItems.{end_of};
+ghost use Rattle.wkb_abi.specs.PieceLevels.{totals_plus, totals_with, ring_number, single_number, AreTotalsOf};
 
 use wkb_check::{Piece, Pieces, RING, Summary};
 use wkb_geom::code::{GEOMETRY_COLLECTION, MULTI_POINT, MULTI_POLYGON, POLYGON};
@@ -63,7 +62,7 @@ impl Totals {
     /// The totals after one more piece. A total that doesn't fit stays at the greatest `u64`.
     #[inline(always)]
     pub fn with(self, piece: &Piece) -> Totals
-        ensures { AreTotalsWith self piece.now result }
+        ensures { result ≡ totals_with self piece.now }
     {
         let ring = piece.has_coordinates();
         let coordinates = if ring { piece.count as u64 } else { 0 };
@@ -77,9 +76,7 @@ impl Totals {
     /// The sum of two totals. A sum that doesn't fit is the greatest `u64`.
     #[inline(always)]
     fn and(self, own: Totals) -> Totals
-        ensures coordinates { result.coordinates ≡ end_of self.coordinates own.coordinates }
-        ensures rings { result.rings ≡ end_of self.rings own.rings }
-        ensures singles { result.singles ≡ end_of self.singles own.singles }
+        ensures { result ≡ totals_plus self own.coordinates own.rings own.singles }
     {
         Totals {
             coordinates: self.coordinates.saturating_add(own.coordinates),
@@ -110,7 +107,8 @@ impl Totals {
     pub fn after(self, row: &[u8], found: &Summary, first: &Piece) -> Totals
         requires found { DescribesFront row.now found.now }
         requires first { IsPieceAt row.now 0 first.now }
-        ensures { (g : HasGeometry row.now) → result ≡ totals_after self (subjects g.spelled g.value) }
+        ensures { (g : HasGeometry row.now) →
+            result ≡ totals_after self (subjects g.spelled g.value) }
     {
         match Totals::of_plain(found, first) {
             Some(own) => self.and(own),
@@ -123,7 +121,8 @@ impl Totals {
     fn after_walk(self, row: &[u8], first: &Piece) -> Totals
         requires here { HasGeometry row.now }
         requires first { IsPieceAt row.now 0 first.now }
-        ensures { (g : HasGeometry row.now) → result ≡ totals_after self (subjects g.spelled g.value) }
+        ensures { (g : HasGeometry row.now) →
+            result ≡ totals_after self (subjects g.spelled g.value) }
     {
         let mut to = self.with(first);
         let mut pieces = Pieces::behind(row, first);

@@ -1,14 +1,11 @@
 -- The members that rows begin with, row by row.
 use Rattle.wkb_abi.proofs.Common.{◌≡◌, ℕ, suc, ◌+◌, ◌≤◌, ◌<◌, List, ◌++◌, length, drop, ◌⊎◌, inl, inr, refl, sym, ap}
-use Rattle.wkb_abi.proofs.Common.{subst, ◌∙◌, arith, append_assoc, length-append, Spelling, Value, Values, member}
-use Rattle.wkb_abi.proofs.Common.{no_members, kind, dimension, collection, Some, None, srid_size, drop-drop}
-use Rattle.wkb_abi.proofs.Common.{◌-◌, sets, sets-eq, Endianness, encoding, geometry_of, Summary, false}
-use Rattle.wkb_abi.proofs.Common.{IsAccepted, RowHas, IsRow, Reach}
-use Rattle.std.specs.Prelude.{take, Result, Ok, Err, IfErr}
-use Rattle.std.proofs.Common.{length-drop}
+use Rattle.wkb_abi.proofs.Common.{subst, ◌∙◌, arith, length-append, Spelling, Value, Values, member, no_members, kind}
+use Rattle.wkb_abi.proofs.Common.{collection, Some, None, srid_size, ◌-◌, sets, sets-eq, Summary, false, IsAccepted}
+use Rattle.wkb_abi.proofs.Common.{RowHas, IsRow, Reach}
+use Rattle.std.specs.Prelude.{Result, Ok, Err, IfErr}
 use Rattle.std.proofs.lemmas.Bool.{cases_eq}
 use Rattle.std.proofs.lemmas.List.{length-take}
-use Rattle.wkb_geom.specs.declared.common.Form.{Form}
 use Rattle.wkb_geom.specs.declared.error.Cause.{Cause}
 use Rattle.wkb_geom.specs.Encodings.{inner, IsRewriting}
 use Rattle.wkb_geom.specs.Fronts.{FrontWithin}
@@ -19,7 +16,7 @@ use Rattle.wkb_geom.specs.Spellings.{Wanted, IsPart, any}
 use Rattle.wkb_geom.specs.Values.{count, nest}
 use Rattle.wkb_laws.proofs.Complete.{front_read, refusal_read}
 use Rattle.wkb_laws.proofs.EncodingSpells.{inner_fits}
-use Rattle.wkb_laws.proofs.OneFront.{one_spelling}
+use Rattle.wkb_laws.proofs.OneFront.{one_front_lem}
 use Rattle.wkb_check.specs.Public.{DescribesFrontWithin, Checks, member_room}
 use Rattle.wkb_check.proofs.Ahead.{type_kind_is, type_dimension_is}
 use Rattle.wkb_check.proofs.Placing.{sets_after}
@@ -37,7 +34,7 @@ use Rattle.wkb_c.specs.Collections.{BeginsWithMember, AreRowMembers, HaveMembers
 use Rattle.wkb_c.specs.Collections.{LaysIfFits, WritesMember, WritesMembers, IsUnwanted, IsUnfit, no_row, refused}
 use Rattle.wkb_c.specs.Collections.{no_member, IsFirstUnfit}
 use Rattle.wkb_c.specs.declared.collect.CollectTarget.{CollectTarget}
-use Rattle.wkb_c.proofs.RowItems.{IsLent}
+use Rattle.wkb_c.proofs.RowItems.{IsLent, lent_laid}
 
 -- ---- one row
 
@@ -46,21 +43,10 @@ abbrev with_room : {a b : ℕ} {row : List ℕ} {s : Spelling} {t : Value} {rest
     → nest t ≤ b → FrontWithin b row s t rest
 with_room f few = record { front = f.front; whole = f.whole; spelled = f.spelled; shallow = few }
 
--- a member is a geometry that is accepted, and no other is there
+-- a member is a geometry that is accepted
 abbrev pub there : {w : Wanted} {row : List ℕ} {t : Value} → BeginsWithMember w row t → IsAccepted row
 there {t = t} b =
     record { s = b.s; t = t; rest = b.rest; front = with_room b.front (omega (arith, b.front.shallow)) }
-
--- all that a row is accepted as is one value
-same_value : {row : List ℕ} (a b : IsAccepted row) → a.t ≡ b.t
-same_value a b =
-    (one_spelling a.s b.s a.t b.t a.front.front b.front.front a.rest b.rest a.front.spelled b.front.spelled
-    (sym a.front.whole ∙ b.front.whole)).value
-
-one_member : {c : Column} {w : Wanted} {i : ℕ} {t : Value} {row : List ℕ} → RowHas (BeginsWithMember w) c i t
-    → IsRow c i row → (a : IsAccepted row) → a.t ≡ t
-one_member {w = w} {t = t} has is a =
-    same_value a (there (subst (λ z. BeginsWithMember w z t) (one_row has.is is) has.has))
 
 -- a geometry that is no collection has room anywhere
 none_nested : (t : Value) → kind t < 7 → nest t ≤ member_room
@@ -92,17 +78,21 @@ unfit_of {row = row} w fault (Err status) is unwanted = no_member row is unwante
 
 -- ---- members are settled by their rows
 
-same_members : (c : Column) (w : Wanted) (i : ℕ) (ts us : Values) → AreRowMembers c w i ts → AreRowMembers c w i us
-    → count ts ≡ count us → ts ≡ us
-same_members c w i no_members no_members a b many = refl
-same_members c w i no_members (member u us) a b many = absurd (omega (arith, many))
-same_members c w i (member t ts) no_members a b many = absurd (omega (arith, many))
-same_members c w i (member t ts) (member u us) a b many =
-    λ j. member (one_member b.0 a.0.is (there a.0.has) j)
-    (same_members c w (suc i) ts us a.1 b.1 (omega (arith, many)) j)
+module _ (c : Column) (v w : Wanted) where
+  same_members : (i : ℕ) (ts us : Values) → AreRowMembers c v i ts → AreRowMembers c w i us → count ts ≡ count us
+      → ts ≡ us
+  same_members i no_members no_members a b many = refl
+  same_members i no_members (member u us) a b many = absurd (omega (arith, many))
+  same_members i (member t ts) no_members a b many = absurd (omega (arith, many))
+  same_members i (member t ts) (member u us) a b many =
+      let x = there a.0.has in
+      let y = there (subst (λ z. BeginsWithMember w z u) (one_row b.0.is a.0.is) b.0.has) in
+      let same = one_front_lem a.0.row x.s y.s t u x.rest y.rest x.front y.front in
+      λ j. member (same.2 j) (same_members (suc i) ts us a.1 b.1 (omega (arith, many)) j)
 
-pub one_list : {c : Column} {w : Wanted} {rows : ℕ} (h k : HaveMembers c w rows) → h.values ≡ k.values
-one_list {c} {w} h k = same_members c w 0 h.values k.values h.are k.are (h.many ∙ sym k.many)
+pub one_list : {c : Column} {v w : Wanted} {rows : ℕ} (h : HaveMembers c v rows) (k : HaveMembers c w rows)
+    → h.values ≡ k.values
+one_list {c} {v} {w} h k = same_members c v w 0 h.values k.values h.are k.are (h.many ∙ sym k.many)
 
 -- the rows begin with them
 member_of : {c : Column} {w : Wanted} (n i : ℕ) (ts : Values) → AreRowMembers c w i ts → i ≤ n → n < i + count ts
@@ -122,38 +112,27 @@ never_within {room} {row} {s} {t} {rest} {cause} f r =
     absurd cc
 
 never_unfit_row : {c : Column} {w : Wanted} {i status : ℕ} {fault : WkbFault} {t : Value}
-    → RowHas (BeginsWithMember w) c i t → IsUnfit c w i status fault → ⊥
+    → RowHas (BeginsWithMember w) c i t → IsUnfit c any i status fault → ⊥
 never_unfit_row has (no_row none) = never_lacks has.is none
 never_unfit_row {t = t} has (refused row is why) =
     let b = has.has in
     never_within (subst (λ z. FrontWithin member_room z b.s t b.rest) (one_row has.is is) b.front) why.refuses
-never_unfit_row {w = w} has (no_member row is why) =
-    let front = with_room why.front (omega (arith, why.front.shallow)) in
-    let same = one_member has is (record { s = why.s; t = why.t; rest = why.rest; front = front }) in
-    why.unwanted (subst (λ z. IsPart w (kind z) (dimension z) false) (sym same) has.has.wanted)
+never_unfit_row has (no_member row is why) = why.unwanted tt
 
--- so that none of them is unfit
+-- so that where any are wanted none of them is unfit
 pub never_unfit : {c : Column} {w : Wanted} {rows i status : ℕ} {fault : WkbFault} → HaveMembers c w rows
-    → IsFirstUnfit c w rows i status fault → ⊥
+    → IsFirstUnfit c any rows i status fault → ⊥
 never_unfit h f =
     never_unfit_row (member_of _ 0 h.values h.are (omega arith) (omega (arith, h.many, f.below))).1 f.unfit
 
 -- ---- how a member is written
-
--- inside a geometry no SRID is written, so that an encoding is no longer than its input
-at_most_inside : (order : Endianness) (form : Form) (row : List ℕ) (a : IsAccepted row) → AreBytes row
-    → length (encoding order (inner form) (geometry_of a.t)) ≤ length row
-at_most_inside order form row a b =
-    let long = measured order (inner form) row (accepted_there row a) b refl in
-    let none = ap srid_size (inner_fits form).1 in
-    omega (arith, ap length a.front.whole, length-append {A = ℕ})
 
 -- a call that writes an encoding, with room or without
 module _ {o : WriteOptions} {row before after : List ℕ} {status size : ℕ}
     (w : WritesRequested (Encoding o) row before after status size) (a : IsAccepted row) where
   requested_is : (bytes : List ℕ) → IsRewriting o.endianness o.form row bytes → bytes ≡ encoding_for o a.t
   requested_is bytes h =
-      h.written ∙ ap (encoding_for o) (same_value (record { s = h.s; t = h.t; rest = h.rest; front = h.front }) a)
+      h.written ∙ ap (encoding_for o) (one_front_lem row h.s a.s h.t a.t h.rest a.rest h.front a.front).2
 
   told : (status ≡ OK) ⊎ (status ≡ NO_ROOM)
       → (size ≡ length (encoding_for o a.t)) × LaysIfFits before after (encoding_for o a.t)
@@ -166,21 +145,26 @@ module _ {o : WriteOptions} {row before after : List ℕ} {status size : ℕ}
       let is = requested_is h.items h.is in
       (h.lacks.count_is ∙ ap length is, λ room. absurd (omega (arith, room, h.lacks.short, ap length is)))
 
-pub found_written : {target : CollectTarget} {row before after : List ℕ} {f : Summary} {status size : ℕ}
-    (o : WriteOptions) → AreBytes row → (d : DescribesFrontWithin member_room row f) → o ≡ inner_of target
+-- inside a geometry no SRID is written, so that an encoding is no longer than its input
+pub found_written : {target : CollectTarget} {row before after : List ℕ} {f : Summary} {status size : ℕ} → AreBytes row
+    → (d : DescribesFrontWithin member_room row f)
     → IsPart (part_of target) (type_kind f.wkb_type) (type_dimension f.wkb_type) false
-    → WritesRequested (Encoding o) row before after status size → WritesMember target before after row size
-found_written {target} {row} {before} {after} {status = status} {size} o b d o_is wanted w =
+    → WritesRequested (Encoding (inner_of target)) row before after status size
+    → WritesMember target before after row size
+found_written {target} {row} {size = size} b d wanted w =
     let begins : BeginsWithMember (part_of target) row d.value = record {
       s = d.spelled;
       rest = d.rest;
       front = d.front;
       wanted = rw (d.described.wkb_type, type_kind_is d.value, type_dimension_is d.value) at wanted;
     } in
-    let writes = subst (λ z. WritesRequested (Encoding z) row before after status size) o_is w in
-    let both = told writes (there begins) writes.known in
-    let most = at_most_inside target.options.endianness target.options.form row (there begins) b in
-    record { t = d.value; begins = begins; size_is = both.0; short = omega (arith, both.0, most); laid = both.1 }
+    let both = told w (there begins) w.known in
+    let o = target.options in
+    let long = measured o.endianness (inner o.form) row (accepted_there row (there begins)) b refl in
+    let none = ap srid_size (inner_fits o.form).1 in
+    let short : size ≤ length row =
+    omega (arith, both.0, long, none, ap length d.front.whole, length-append {A = ℕ}) in
+    record { t = d.value; begins = begins; size_is = both.0; short = short; laid = both.1 }
 
 -- ---- how they are written one behind another
 
@@ -210,26 +194,13 @@ none_written = record {
   long = refl;
 }
 
--- what is laid where a slice was lent
-pub lent_laid : {start : ℕ} {before lent sub after : List ℕ} → IsLent start before lent sub after → (bytes : List ℕ)
-    → start + length bytes ≤ length before → LaysIfFits lent sub bytes → after ≡ sets before start bytes
-lent_laid {start} {before} {lent} l bytes room lays =
-    let same : l.at ≡ start = omega (arith, l.at_is, room) in
-    let held = lays (omega (arith, same, room, ap length l.lent_is, length-drop l.at before)) in
-    let rest : drop (length bytes) lent ≡ drop (start + length bytes) before =
-    ap (drop (length bytes)) l.lent_is ∙ drop-drop (length bytes) l.at before
-    ∙ ap (λ n. drop n before) (omega (arith, same)) in
-    l.after_is ∙ (λ i. take (same i) before ++ held i) ∙ ap (λ z. take start before ++ (bytes ++ z)) rest
-    ∙ sym (append_assoc (take start before) bytes (drop (start + length bytes) before))
-    ∙ sym (sets-eq bytes before start room)
-
 pub written_more : {c : Column} {target : CollectTarget} {i reach to at n : ℕ} {before out lent sub new : List ℕ}
     → Reach c i reach → Reach c (i + 1) to → WrittenBefore c target i reach at before out
     → RowHas (WritesMember target lent sub) c i n → IsLent at out lent sub new → length new ≡ length out
     → WrittenBefore c target (i + 1) to (at + n) before new
 written_more {c} {target} {i} {at = at} {n} {out = out} {new = new} from after m one l long =
     let s = one.is.slice in
-    let next : i + 1 ≡ suc i = omega arith in
+    let up : i + 1 ≡ suc i = omega arith in
     let own : RowHas (BeginsWithMember (part_of target)) c i one.has.t =
     record { row = one.row; is = one.is; has = one.has.begins } in
     let bytes = encoding_for (inner_of target) one.has.t in
@@ -237,7 +208,7 @@ written_more {c} {target} {i} {at = at} {n} {out = out} {new = new} from after m
     let enough = after.enough i s.start s.end (omega arith) s.span in
     record {
       go_on = λ last are.
-          let w = m.go_on (member one.has.t last) (own, subst (λ k. AreRowMembers c (part_of target) k last) next are) in
+          let w = m.go_on (member one.has.t last) (own, subst (λ k. AreRowMembers c (part_of target) k last) up are) in
           record {
             all = w.all;
             are = w.are;
@@ -252,11 +223,6 @@ written_more {c} {target} {i} {at = at} {n} {out = out} {new = new} from after m
       fits = omega (arith, ap length s.row_is, length-take (s.end - s.start) (drop s.start c.bytes.now));
       long = long ∙ m.long;
     }
-
-abbrev pub have_before : {c : Column} {target : CollectTarget} {i reach at : ℕ} {before out : List ℕ}
-    → WrittenBefore c target i reach at before out → HaveMembers c (part_of target) i
-have_before m =
-    let w = m.go_on no_members tt in record { values = w.all; many = omega (arith, w.many); are = w.are }
 
 pub all_written : {c : Column} {target : CollectTarget} {rows i reach at : ℕ} {before out : List ℕ} → Reach c i reach
     → WrittenBefore c target i reach at before out → i ≡ rows → WritesMembers c target rows before out at

@@ -3,6 +3,5 @@ mod RowItems
 mod Called
 mod Encodings
 mod LevelRows
-mod InTurn
 mod Collecting
 mod Gathering

@@ -1,63 +1,25 @@
 -- Rows that write their items one after another.
 use Rattle.wkb_abi.proofs.Common.{◌≡◌, ◌≢◌, ℕ, zero, suc, ◌+◌, ◌≤◌, ◌<◌, ◌^◌, ◌⊎◌, inl, inr, List, [], ◌++◌, length}
-use Rattle.wkb_abi.proofs.Common.{drop, slice_index, refl, ap, sym, subst, ◌∙◌, arith, append_assoc, append-nil}
-use Rattle.wkb_abi.proofs.Common.{length-append, drop-drop, ◌-◌, set, sets-eq, length-sets, IsRow, IsRowStep, RowHas, RowFails}
-use Rattle.std.specs.Prelude.{take, min, slice_range}
+use Rattle.wkb_abi.proofs.Common.{drop, slice_index, refl, ap, sym, subst, ◌∙◌, arith, append-nil, append_assoc}
+use Rattle.wkb_abi.proofs.Common.{length-append, drop-drop, ◌-◌, set, sets, sets-eq, length-sets, IsRow, IsRowStep}
+use Rattle.wkb_abi.proofs.Common.{RowFails, RowHas}
+use Rattle.std.specs.Prelude.{take, min}
 use Rattle.std.proofs.Common.{length-drop}
-use Rattle.std.proofs.Math.Seq.{take-append_seam}
-use Rattle.std.proofs.lemmas.List.{take-append-drop, take-append-le, drop-append-le, length-take-le, drop-set-lt}
-use Rattle.std.proofs.lemmas.List.{nil_from_length, drop_at}
-use Rattle.std.proofs.lemmas.Slice.{drop-append-drop, between_to_end}
+use Rattle.std.proofs.lemmas.List.{take-append-drop, drop-set-lt, nil_from_length}
+use Rattle.std.proofs.lemmas.Slice.{between_to_end}
 use lib.ListN.{length-set}
 use lib.Seq.{get_or-set_same, get_or-set_other}
 use Rattle.wkb_abi.specs.Room.{IsHeld, Exceeds, IsWritten, FindsNoRoom}
 use Rattle.wkb_levels.specs.Cuts.{start_at}
 use Rattle.wkb_abi.specs.RowItems.{rows_of, end_of, IsRowAnswer, handed, no_room, failed, AreRowAnswers, KeepsAfter}
-use Rattle.wkb_abi.specs.RowItems.{KeepsFrom, laid, lacks, nothing, NoneLacksRoom, LastEndSuffices}
+use Rattle.wkb_abi.specs.RowItems.{AreSet, laid, lacks, nothing, NoneLacksRoom, LastEndSuffices}
 use Rattle.wkb_abi.specs.Columns.{Reach, RowShows, RowsShow}
 use Rattle.wkb_abi.proofs.Reasons.{TellsOther}
 use borrow.Author.Count.{below_more, below_none}
+use Rattle.wkb_abi.proofs.Rooms.{held_laid, front_laid, behind_laid, fewer, held_on}
 use Rattle.wkb_abi.proofs.Rows.{statuses_more, shown_more}
 use Rattle.wkb_abi.specs.declared.status.TheConstants.{OK, NO_ROOM}
 use Rattle.wkb_abi.specs.declared.column.Column.{Column}
-
--- ---- lists
-
-prefix_range : {A : Type 0} (p ys : List A) (start end : ℕ) → start ≤ end → end ≤ length p
-    → slice_range (p ++ ys) start end ≡ slice_range p start end
-prefix_range p ys start end rise inside =
-    ap (take (end - start)) (drop-append-le start p ys (omega (arith, rise, inside)))
-    ∙ take-append-le (end - start) (drop start p) ys (omega (arith, rise, inside, length-drop start p))
-
-range_before : {A : Type 0} (xs ys : List A) (n start end : ℕ) → start ≤ end → end ≤ n → n ≤ length xs
-    → slice_range (take n xs ++ ys) start end ≡ slice_range xs start end
-range_before xs ys n start end rise below there =
-    let inside : end ≤ length (take n xs) = omega (arith, below, length-take-le n xs there) in
-    prefix_range (take n xs) ys start end rise inside ∙ sym (prefix_range (take n xs) (drop n xs) start end rise inside)
-    ∙ ap (λ z. slice_range z start end) (take-append-drop n xs)
-
-range_laid : {A : Type 0} (xs items rest : List A) (start : ℕ) → start ≤ length xs
-    → slice_range (take start xs ++ (items ++ rest)) start (start + length items) ≡ items
-range_laid xs items rest start there =
-    let behind = drop_at (take start xs) (items ++ rest) start (length-take-le start xs there) in
-    let many : start + length items - start ≡ length items = omega arith in
-    (λ i. take (many i) (behind i)) ∙ take-append_seam items rest
-
-drop_behind : {A : Type 0} (xs items : List A) (start k : ℕ) → start + length items ≤ length xs
-    → start + length items ≤ k
-    → drop k (take start xs ++ (items ++ drop (start + length items) xs)) ≡ drop k xs
-drop_behind xs items start k there far =
-    let end = start + length items in
-    ap (drop k) (sym (append_assoc (take start xs) items (drop end xs)))
-    ∙ drop-append-drop end xs (take start xs ++ items) k far
-    (omega (arith, length-append (take start xs) items, length-take-le start xs (omega (arith, there))))
-
-laid_length : {A : Type 0} (xs items : List A) (start : ℕ) → start + length items ≤ length xs
-    → length (take start xs ++ (items ++ drop (start + length items) xs)) ≡ length xs
-laid_length xs items start there =
-    ap length
-    (sym (append_assoc (take start xs) items (drop (start + length items) xs)) ∙ sym (sets-eq items xs start there))
-    ∙ length-sets xs start items
 
 -- ---- a step of one row
 
@@ -65,7 +27,7 @@ laid_length xs items start there =
 record StepSays {A : Type 0} (Has : ℕ → List A → Type 0) (Fails : ℕ → ℕ → Type 0) (i status count start : ℕ)
     (before after : List A) : Type 0 where
   pub long : length after ≡ length before
-  pub above : (a b : ℕ) → a ≤ b → b ≤ start → slice_range after a b ≡ slice_range before a b
+  pub front : take start after ≡ take start before
   pub behind : (k : ℕ) → (status ≡ OK → end_of start count ≤ k) → drop k after ≡ drop k before
   pub answer : IsRowAnswer Has Fails i status start (end_of start count) after
   pub room : end_of start count ≤ length before → status ≡ NO_ROOM → ⊥
@@ -78,32 +40,25 @@ module _ {A : Type 0} {Has : ℕ → List A → Type 0} {Fails : ℕ → ℕ →
     step_says {count = count} {start = start} {before = before} {after = after}
         (laid items has ok many there laid_is) other small fits =
         let laid_there : start + length items ≤ length before = rw many at there in
-        let end : end_of start count ≡ start + length items = omega (arith, there, small, many) in
-        let shown : after ≡ take start before ++ (items ++ drop (start + length items) before) =
-        laid_is ∙ ap (λ n. take start before ++ (items ++ drop (start + n) before)) many in
-        let long : length after ≡ length before = ap length shown ∙ laid_length before items start laid_there in
-        record {
-          long = long;
-          above = λ a b rise below.
-              ap (λ z. slice_range z a b) shown ∙ range_before before _ start a b rise below (omega (arith, there));
+        let end : end_of start count ≡ start + length items = omega (arith, there, small, many) in record {
+          long = ap length laid_is ∙ length-sets before start items;
+          front = ap (take start) laid_is ∙ front_laid before items start laid_there;
           behind = λ k far.
-              ap (drop k) shown ∙ drop_behind before items start k laid_there (omega (arith, far ok, end));
+              ap (drop k) laid_is ∙ behind_laid before items start k laid_there (omega (arith, far ok, end));
           answer =
-              handed items has ok end (omega (arith, end, long, laid_there))
-              (ap (slice_range after start) end ∙ ap (λ z. slice_range z start (start + length items)) shown
-              ∙ range_laid before items (drop (start + length items) before) start (omega (arith, there)));
+              handed items has ok (rw laid_is (held_laid before items start _ end (omega (arith, end, laid_there))));
           room = λ room told. omega (arith, ok, told);
         }
     step_says {start = start} (lacks items has is many short same) other small fits = record {
       long = ap length same;
-      above = λ a b rise below. ap (λ z. slice_range z a b) same;
+      front = ap (take start) same;
       behind = λ k far. ap (drop k) same;
       answer = no_room items has is (ap (end_of start) many) (omega (arith, ap length same, many, short));
       room = λ room told. omega (arith, short, small, room);
     }
-    step_says {i = i} (nothing why none same) other small fits = record {
+    step_says {i = i} {start = start} (nothing why none same) other small fits = record {
       long = ap length same;
-      above = λ a b rise below. ap (λ z. slice_range z a b) same;
+      front = ap (take start) same;
       behind = λ k far. ap (drop k) same;
       answer = failed why (omega (arith, none, fits));
       room = λ room told. other i (subst (Fails i) told why);
@@ -112,24 +67,15 @@ module _ {A : Type 0} {Has : ℕ → List A → Type 0} {Fails : ℕ → ℕ →
     -- what is laid after a row doesn't change its answer
     kept_answer : {i status start end : ℕ} {out new : List A} (at : ℕ)
         → IsRowAnswer Has Fails i status start end out
-        → (status ≡ OK → end ≤ at) → length new ≡ length out
-        → ((a b : ℕ) → a ≤ b → b ≤ at → slice_range new a b ≡ slice_range out a b)
+        → (status ≡ OK → end ≤ at) → length new ≡ length out → take at new ≡ take at out
         → IsRowAnswer Has Fails i status start end new
-    kept_answer {start = start} {end = end} at (handed items has ok end_is inside range) below same before =
-        handed items has ok end_is (omega (arith, inside, same))
-        (before start end (omega (arith, end_is)) (below ok) ∙ range)
-    kept_answer at (no_room items has ok end_is short) below same before =
+    kept_answer {out = out} {new} at (handed items has ok held) below same front =
+        handed items has ok (held_on held (fewer _ at new out (below ok) front))
+    kept_answer at (no_room items has ok end_is short) below same front =
         no_room items has ok end_is (omega (arith, short, same))
-    kept_answer at (failed why end_is) below same before = failed why end_is
+    kept_answer at (failed why end_is) below same front = failed why end_is
 
 -- ---- all rows
-
--- lists in which the rows below this number are set, one after another
-pub record AreSet {A : Type 0} (rows : ℕ) (before statuses : List ℕ) (before' others : List A) : Type 0 where
-  pub as_many : length statuses ≡ length before
-  pub as_many_others : length others ≡ length before'
-  pub statuses_kept : KeepsFrom rows before statuses
-  pub others_kept : KeepsFrom rows before' others
 
 pub set_first : {A : Type 0} {rows : ℕ} {statuses : List ℕ} {others : List A}
     → AreSet rows statuses statuses others others
@@ -227,7 +173,7 @@ module _ {A : Type 0} {Has : ℕ → List A → Type 0} {Fails : ℕ → ℕ →
         below_more (λ j. IsRowAnswer Has Fails j (slice_index (set statuses i status) j) (start_at 0 (set ends i end) j)
         (slice_index (set ends i end) j) new) i
         (λ j above. rw (status_above j above, end_above j above, start_kept ends i end j (omega (arith, above)))
-        (kept_answer at (done.each j above) (done.below j above) says.long says.above))
+        (kept_answer at (done.each j above) (done.below j above) says.long says.front))
         (rw (status_here, end_here, start_kept ends i end i (omega arith), sym done.at_is)
         says.answer);
     below =
@@ -297,6 +243,18 @@ module _ {A : Type 0} {start : ℕ} {before lent sub after : List A} (l : IsLent
   many_lent : length lent ≡ length before - l.at
   many_lent = ap length l.lent_is ∙ length-drop l.at before
 
+  -- what is laid at the start of what is lent
+  pub lent_laid : (items : List A) → start + length items ≤ length before
+      → (length items ≤ length lent → sub ≡ items ++ drop (length items) lent) → after ≡ sets before start items
+  lent_laid items room lays =
+      let same : l.at ≡ start = omega (arith, l.at_is, room) in
+      let rest : drop (length items) lent ≡ drop (start + length items) before =
+      ap (drop (length items)) l.lent_is ∙ drop-drop (length items) l.at before
+      ∙ ap (λ n. drop n before) (omega (arith, same)) in
+      l.after_is ∙ (λ i. take (same i) before ++ lays (omega (arith, same, room, many_lent)) i)
+      ∙ ap (λ z. take start before ++ (items ++ z)) rest
+      ∙ sym (sets-eq items before start room ∙ append_assoc (take start before) items _)
+
 module _ {A : Type 0} {Has : ℕ → List A → Type 0} {Fails : ℕ → ℕ → Type 0} {i status count start : ℕ}
     {before lent sub after : List A} (l : IsLent start before lent sub after) where
   -- its items were laid
@@ -304,14 +262,9 @@ module _ {A : Type 0} {Has : ℕ → List A → Type 0} {Fails : ℕ → ℕ →
       → IsRowStep Has Fails i status count start before after
   laid_step items has ok some held =
       let n = length items in
-      let there : n ≤ length lent =
-      omega (arith, l.long, ap length held.whole, length-append items (drop n lent), length-drop n lent) in
-      let same : l.at ≡ start = omega (arith, l.at_is, some, there, many_lent l) in
-      let rest : drop n lent ≡ drop (start + count) before =
-      ap (drop n) l.lent_is ∙ drop-drop n l.at before ∙ ap (λ k. drop k before) (omega (arith, same, held.count_is)) in
-      laid items has ok held.count_is (omega (arith, same, there, many_lent l, held.count_is))
-      (l.after_is ∙ ap (λ z. take l.at before ++ z) (held.whole ∙ ap (λ z. items ++ z) rest)
-      ∙ ap (λ k. take k before ++ (items ++ drop (start + count) before)) same)
+      let room : start + n ≤ length before =
+      omega (arith, l.at_is, some, l.long, ap length held.whole, length-append items (drop n lent), many_lent l) in
+      laid items has ok held.count_is (omega (arith, room, held.count_is)) (lent_laid l items room (λ fit. held.whole))
 
   -- they have no room
   pub lacks_step : (items : List A) → Has i items → status ≡ NO_ROOM → Exceeds items lent count → sub ≡ lent

@@ -1,5 +1,5 @@
 -- One geometry whose members are the geometries that the rows of a column begin with.
-use Rattle.std.specs.Prelude.{◌≡◌, ◌≢◌, ℕ, suc, ◌^◌, ◌<◌, ◌≤◌, List, ◌++◌, length, Option, Some, None, false}
+use Rattle.std.specs.Prelude.{◌≡◌, ℕ, suc, ◌<◌, ◌≤◌, List, ◌++◌, length, Option, Some, None, false}
 use Rattle.std.specs.Prelude.{drop, nat_lt, ◌||◌, if◌then◌else◌}
 use Rattle.wkb_geom.specs.declared.code.TheConstants.{MULTI_POINT, GEOMETRY_COLLECTION}
 use Rattle.wkb_geom.specs.declared.code.WkbType.{WkbType}
@@ -49,10 +49,6 @@ pub record IsAsked (k n : ℕ) (o : Options) (target : CollectTarget) : Type 0 w
   pub request : Request
   pub asked : request_of o ≡ Some request
   pub options_are : target.options ≡ options_for request None
-
--- the numbers mean something, and ask for more members than a count holds
-abbrev pub AsksForTooMany : ℕ → ℕ → Options → ℕ → Type 0
-AsksForTooMany kind dimension o rows = (collect_asked kind dimension o ≢ None) × (2 ^ 32 ≤ rows)
 
 -- ---- members
 

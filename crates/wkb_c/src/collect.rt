@@ -5,10 +5,9 @@ ghost use Rattle.std.specs.Prelude.{IfSome, IfOk, IfErr};
 ghost use Rattle.wkb_check.specs.Public.{DescribesFrontWithin, member_room};
 ghost use Rattle.wkb_sink.specs.Blocks.{LaysAt};
 ghost use Rattle.wkb_abi.specs.Classes.{IsRefusalStatus, IsNoRefusal, TellsOfRow};
-ghost use Rattle.wkb_c.specs.Collections.{collect_asked, IsAsked, AsksForTooMany, part_of, TakesMember, front_of};
-ghost use Rattle.wkb_c.specs.Collections.{IsUnwanted, IsUnfit, IsFirstUnfit, IsFirstUnfitFor};
-ghost use Rattle.wkb_c.specs.Collections.{WritesMember, WritesMembers, AreMeasured, IsWhole, IsCollected};
-ghost use Rattle.wkb_c.specs.Collections.{IsStatusOfCollecting};
+ghost use Rattle.wkb_c.specs.Collections.{collect_asked, IsAsked, part_of, TakesMember, front_of, IsUnwanted, IsUnfit};
+ghost use Rattle.wkb_c.specs.Collections.{IsFirstUnfit, IsFirstUnfitFor, WritesMember, WritesMembers, AreMeasured};
+ghost use Rattle.wkb_c.specs.Collections.{IsWhole, IsCollected, IsStatusOfCollecting};
 ghost use Rattle.wkb_abi.specs.Columns.{Reach};
 ghost use Rattle.wkb_abi.specs.Room.{IsWritten, FindsNoRoom};
 ghost use Rattle.wkb_abi.specs.RowItems.{RowHas};
@@ -105,7 +104,8 @@ fn write_found(
 ) -> Result<u64, u32>
     requires { DescribesFrontWithin member_room row.now found.now }
     ensures written { IfOk result (WritesMember target.now out.old out.new row.now) }
-    ensures unfit { IfErr result (λ status. IsUnwanted (part_of target.now) row.now status fault.new) }
+    ensures unfit { IfErr result
+        (λ status. IsUnwanted (part_of target.now) row.now status fault.new) }
     ensures kept { IfOk result (λ _. fault.new ≡ fault.old) }
 {
     if !target.takes(found.wkb_type) {
@@ -136,7 +136,8 @@ fn write_row(
     requires before { Reach column.now i reach.old }
     ensures reach { Reach column.now (i + 1) reach.new }
     ensures written { IfOk result (RowHas (WritesMember target.now out.old out.new) column.now i) }
-    ensures unfit { IfErr result (λ status. IsUnfit column.now (part_of target.now) i status fault.new) }
+    ensures unfit { IfErr result
+        (λ status. IsUnfit column.now (part_of target.now) i status fault.new) }
     ensures known { IfErr result TellsOfRow }
     ensures kept { IfOk result (λ _. fault.new ≡ fault.old) }
     ensures lacks_kept { IfErr result (λ status. IsNoRefusal status → fault.new ≡ fault.old) }
@@ -161,7 +162,7 @@ fn fits_word(bytes: &[u8])
 {}
 
 /// Writes the encodings of the rows' geometries as members, one behind another as far as there is room, and returns how
-/// long they are together. Where a row begins with none, the first such row is told, with its status and its fault.
+/// long they are together. Where a row begins with none, the first such row is reported, with its status and its fault.
 #[tactic(auto, using(crate::proofs::Gathering::none_written))]
 fn write_members(
     column: &Column,
@@ -173,8 +174,8 @@ fn write_members(
 ) -> Result<u64, u32>
     requires few { rows < 2 ^ 32 }
     ensures written { IfOk result (WritesMembers column.now target.now rows out.old out.new) }
-    ensures unfit { IfErr result (λ status. IsFirstUnfit column.now (part_of target.now) rows row.new status
-        fault.new) }
+    ensures unfit { IfErr result
+        (λ status. IsFirstUnfit column.now (part_of target.now) rows row.new status fault.new) }
     ensures known { IfErr result TellsOfRow }
     ensures kept { IfOk result (λ _. fault.new ≡ fault.old) }
     ensures lacks_kept { IfErr result (λ status. IsNoRefusal status → fault.new ≡ fault.old) }
@@ -224,18 +225,15 @@ fn write_collected(
         return NO_ROOM;
     }
     out[..start].copy_from_slice(&front[..start]);
+    // The rows begin with members, so that any may be taken.
+    let any = CollectTarget {
+        kind: GEOMETRY_COLLECTION,
+        ..*target
+    };
     let mut fault = NO_FAULT;
     let mut row = 0;
-    match write_members(
-        column,
-        rows,
-        target,
-        &mut out[start..],
-        &mut fault,
-        &mut row,
-    ) {
+    match write_members(column, rows, &any, &mut out[start..], &mut fault, &mut row) {
         Ok(_inside) => OK,
-        // The rows begin with members.
         Err(_status) => unreachable!(),
     }
 }
@@ -264,11 +262,14 @@ pub extern "C" fn wkb_raw_collect(
         (IsCollected column.now rows kind dimension options.now) out.old out.new size.new }
     ensures no_room { result ≡ NO_ROOM → FindsNoRoom
         (IsCollected column.now rows kind dimension options.now) out.old size.new }
-    ensures unknown { (result ≡ UNKNOWN_OPTION) ↔ (collect_asked kind dimension options.now ≡ None) }
-    ensures too_many { (result ≡ TOO_MANY_ROWS) ↔ AsksForTooMany kind dimension options.now rows }
+    ensures unknown { (result ≡ UNKNOWN_OPTION) ↔
+        (collect_asked kind dimension options.now ≡ None) }
+    ensures too_many { (result ≡ TOO_MANY_ROWS) ↔
+        ((collect_asked kind dimension options.now ≢ None) × (2 ^ 32 ≤ rows)) }
     ensures refused { TellsOfRow result → IsFirstUnfitFor kind dimension column.now rows row.new
         result fault.new }
-    ensures bound { (result ≡ OK) ⊎ (result ≡ NO_ROOM) → size.new ≤ length column.now.bytes.now + 13 }
+    ensures bound { (result ≡ OK) ⊎ (result ≡ NO_ROOM) →
+        size.new ≤ length column.now.bytes.now + 13 }
     ensures known { IsStatusOfCollecting result }
     ensures out_kept { result ≢ OK → out.new ≡ out.old }
     ensures size_kept { result ≢ OK → result ≢ NO_ROOM → size.new ≡ size.old }

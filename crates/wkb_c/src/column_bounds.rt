@@ -1,10 +1,10 @@
 //! The bounds of a column's rows.
 
-ghost use Rattle.std.specs.Prelude.{◌≡◌, ◌+◌, ◌<◌, ◌^◌, length, IfOk, IfErr};
+ghost use Rattle.std.specs.Prelude.{◌≡◌, ◌+◌, ◌<◌, ◌^◌, IfOk, IfErr};
 ghost use Rattle.wkb_bounds.specs.Bounded.{BoundsFront, nothing};
 ghost use Rattle.wkb_abi.specs.Classes.{FitsByte};
 ghost use Rattle.wkb_abi.specs.Columns.{Reach, RowShows, RowsShow, IsRefusedWith};
-ghost use Rattle.wkb_abi.specs.RowItems.{KeepsFrom, rows_of};
+ghost use Rattle.wkb_abi.specs.RowItems.{SetsRows, rows_of};
 
 use wkb_abi::column::Column;
 use wkb_abi::fault::status_of_cause;
@@ -60,10 +60,7 @@ pub extern "C" fn wkb_raw_column_bounds(
 )
     ensures each { RowsShow BoundsFront nothing column.now (rows_of statuses.old boxes.old)
         statuses.new boxes.new }
-    ensures statuses_kept { KeepsFrom (rows_of statuses.old boxes.old) statuses.old statuses.new }
-    ensures boxes_kept { KeepsFrom (rows_of statuses.old boxes.old) boxes.old boxes.new }
-    ensures as_many { length statuses.new ≡ length statuses.old }
-    ensures as_many_boxes { length boxes.new ≡ length boxes.old }
+    ensures lists { SetsRows statuses.old statuses.new boxes.old boxes.new }
 {
     let mut reach = 0;
     for i in 0..statuses.len().min(boxes.len()) {

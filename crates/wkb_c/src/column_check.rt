@@ -2,7 +2,7 @@
 
 ghost use Rattle.std.specs.Prelude.{◌≡◌, ◌+◌, ◌*◌, ◌<◌, ◌≤◌, ◌^◌, length};
 ghost use Rattle.wkb_abi.specs.Classes.{FitsByte};
-ghost use Rattle.wkb_abi.specs.Columns.{Reach, BytesShow, ShowsNothing, IsStatusOfRow, AreStatuses};
+ghost use Rattle.wkb_abi.specs.Columns.{Reach, IsStatusOfRow, AreStatuses};
 
 use wkb_abi::column::{Column, found_in};
 use wkb_abi::status::OK;
@@ -45,19 +45,10 @@ fn status_of_row<S: Steps>(column: &Column, i: usize, reach: &mut u64, steps: &m
     ensures steps { S.counted steps.new + 2 * reach.old ≤ S.counted steps.old + 2 * reach.new + 2 }
 {
     match column.row(i, reach) {
-        Ok(row) => status_of_bytes(row, steps),
-        Err(status) => status,
-    }
-}
-
-/// The status of some bytes.
-fn status_of_bytes<S: Steps>(row: &[u8], steps: &mut S) -> u32
-    ensures status { BytesShow ShowsNothing tt row.now result tt }
-    ensures known { FitsByte result }
-    ensures steps { S.counted steps.new ≤ S.counted steps.old + 2 * length row.now + 2 }
-{
-    match found_in(row, steps) {
-        Ok(_found) => OK,
+        Ok(row) => match found_in(row, steps) {
+            Ok(_found) => OK,
+            Err(status) => status,
+        },
         Err(status) => status,
     }
 }

@@ -1,13 +1,13 @@
 //! The coordinates of a column's rows, in levels: a row has singles, a single has rings, a ring has coordinates.
 
-ghost use Rattle.std.specs.Prelude.{◌≡◌, ◌+◌, ◌<◌, ◌^◌, length};
+ghost use Rattle.std.specs.Prelude.{◌≡◌, ◌+◌, ◌<◌, ◌^◌};
 ghost use Rattle.wkb_abi.specs.Classes.{FitsByte};
 ghost use Rattle.wkb_abi.specs.Columns.{Reach};
 ghost use Rattle.wkb_geom.specs.Reading.{type_kind};
 ghost use Rattle.wkb_geom.specs.declared.code.TheConstants.{POLYGON};
 ghost use Rattle.wkb_check.specs.Public.{DescribesFront};
-ghost use Rattle.wkb_abi.specs.LevelLists.{LaysFound, LaysAny, LaysRow, AreLevels, TotalsSuffice, AreSameSlices};
-ghost use Rattle.wkb_abi.specs.RowItems.{KeepsFrom, rows_of};
+ghost use Rattle.wkb_abi.specs.LevelLists.{LaysAny, LaysRow, AreLevels, TotalsSuffice, AreSameSlices};
+ghost use Rattle.wkb_abi.specs.RowItems.{SetsRows};
 
 use wkb_abi::column::{Column, check_row};
 use wkb_abi::level_slices::{LevelSlices, has_room, lay_levels, lay_rings};
@@ -28,7 +28,7 @@ fn found_levels_into(
     out: &mut LevelSlices<'_>,
 ) -> u32
     requires { DescribesFront row.now found.now }
-    ensures laid { LaysFound asked row.now found.now result at.old at.new out.old out.new }
+    ensures laid { LaysAny asked row.now result at.old at.new out.old out.new }
     ensures same_slices { AreSameSlices out.old out.new }
     ensures known { FitsByte result }
 {
@@ -52,7 +52,7 @@ fn other_levels_into(
     out: &mut LevelSlices<'_>,
 ) -> u32
     requires { DescribesFront row.now found.now }
-    ensures laid { LaysFound asked row.now found.now result at.old at.new out.old out.new }
+    ensures laid { LaysAny asked row.now result at.old at.new out.old out.new }
     ensures same_slices { AreSameSlices out.old out.new }
     ensures known { FitsByte result }
 {
@@ -70,7 +70,7 @@ fn polygon_levels_into(
 ) -> u32
     requires found { DescribesFront row.now found.now }
     requires polygon { type_kind found.now.wkb_type ≡ POLYGON }
-    ensures laid { LaysFound asked row.now found.now result at.old at.new out.old out.new }
+    ensures laid { LaysAny asked row.now result at.old at.new out.old out.new }
     ensures same_slices { AreSameSlices out.old out.new }
     ensures known { FitsByte result }
 {
@@ -94,7 +94,7 @@ fn levels_by_kind_into(
     out: &mut LevelSlices<'_>,
 ) -> u32
     requires { DescribesFront row.now found.now }
-    ensures laid { LaysFound asked row.now found.now result at.old at.new out.old out.new }
+    ensures laid { LaysAny asked row.now result at.old at.new out.old out.new }
     ensures same_slices { AreSameSlices out.old out.new }
     ensures known { FitsByte result }
 {
@@ -171,13 +171,11 @@ pub extern "C" fn wkb_raw_column_coordinates(
     totals: &mut Totals,
     statuses: &mut [u8],
 )
-    ensures each { AreLevels column.now dimension statuses.new row_ends.new totals.new out.old out.new }
+    ensures each { AreLevels column.now dimension statuses.new row_ends.new totals.new
+        out.old out.new }
     ensures room { TotalsSuffice dimension out.old totals.new statuses.new row_ends.new }
     ensures same_slices { AreSameSlices out.old out.new }
-    ensures statuses_kept { KeepsFrom (rows_of statuses.old row_ends.old) statuses.old statuses.new }
-    ensures row_ends_kept { KeepsFrom (rows_of statuses.old row_ends.old) row_ends.old row_ends.new }
-    ensures as_many { length statuses.new ≡ length statuses.old }
-    ensures as_many_ends { length row_ends.new ≡ length row_ends.old }
+    ensures lists { SetsRows statuses.old statuses.new row_ends.old row_ends.new }
 {
     let mut at = Totals {
         coordinates: 0,

@@ -1,10 +1,10 @@
 //! What the check finds in a column's rows.
 
-ghost use Rattle.std.specs.Prelude.{◌≡◌, ◌+◌, ◌<◌, ◌^◌, length};
+ghost use Rattle.std.specs.Prelude.{◌+◌, ◌<◌, ◌^◌};
 ghost use Rattle.wkb_abi.specs.Classes.{FitsByte};
 ghost use Rattle.wkb_abi.specs.Checks.{IsFound, all_zeros};
 ghost use Rattle.wkb_abi.specs.Columns.{Reach, BytesShow, RowShows, RowsShow, AreStatuses};
-ghost use Rattle.wkb_abi.specs.RowItems.{KeepsFrom, rows_of};
+ghost use Rattle.wkb_abi.specs.RowItems.{SetsRows, rows_of};
 
 use wkb_abi::column::{Column, check_row};
 use wkb_abi::found::{Found, NOTHING_FOUND, found_of};
@@ -67,10 +67,7 @@ pub extern "C" fn wkb_raw_column_found(
     ensures each { RowsShow IsFound all_zeros column.now (rows_of statuses.old found.old)
         statuses.new found.new }
     ensures checked { AreStatuses column.now (rows_of statuses.old found.old) statuses.new }
-    ensures statuses_kept { KeepsFrom (rows_of statuses.old found.old) statuses.old statuses.new }
-    ensures found_kept { KeepsFrom (rows_of statuses.old found.old) found.old found.new }
-    ensures as_many { length statuses.new ≡ length statuses.old }
-    ensures as_many_found { length found.new ≡ length found.old }
+    ensures lists { SetsRows statuses.old statuses.new found.old found.new }
 {
     let mut reach = 0;
     for i in 0..statuses.len().min(found.len()) {

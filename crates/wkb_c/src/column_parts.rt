@@ -1,9 +1,9 @@
 //! The tables of parts of a column's rows, one after another.
 
-ghost use Rattle.std.specs.Prelude.{◌≡◌, ◌+◌, ◌<◌, ◌^◌, length};
+ghost use Rattle.std.specs.Prelude.{◌+◌, ◌<◌, ◌^◌};
 ghost use Rattle.wkb_abi.specs.Classes.{FitsByte};
 ghost use Rattle.wkb_abi.specs.Columns.{Reach};
-ghost use Rattle.wkb_abi.specs.RowItems.{rows_of, AreTables, IsTableStep, KeepsRest, KeepsFrom, LastEndSuffices};
+ghost use Rattle.wkb_abi.specs.RowItems.{rows_of, AreTables, IsTableStep, KeepsRest, SetsRows, LastEndSuffices};
 
 use crate::parts::list_parts;
 use wkb_abi::column::{Column, check_row};
@@ -24,10 +24,7 @@ pub extern "C" fn wkb_raw_column_parts(
     ensures each { AreTables column.now statuses.new ends.new parts.new }
     ensures room { LastEndSuffices (rows_of statuses.old ends.old) statuses.new ends.new parts.old }
     ensures parts_kept { KeepsRest statuses.new ends.new parts.old parts.new }
-    ensures statuses_kept { KeepsFrom (rows_of statuses.old ends.old) statuses.old statuses.new }
-    ensures ends_kept { KeepsFrom (rows_of statuses.old ends.old) ends.old ends.new }
-    ensures as_many { length statuses.new ≡ length statuses.old }
-    ensures as_many_ends { length ends.new ≡ length ends.old }
+    ensures lists { SetsRows statuses.old statuses.new ends.old ends.new }
 {
     let mut at = 0;
     let mut reach = 0;

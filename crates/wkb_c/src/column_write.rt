@@ -1,9 +1,9 @@
 //! The encodings of a column's rows, one after another.
 
-ghost use Rattle.std.specs.Prelude.{◌≡◌, ◌+◌, ◌<◌, ◌^◌, length};
+ghost use Rattle.std.specs.Prelude.{◌+◌, ◌<◌, ◌^◌};
 ghost use Rattle.wkb_abi.specs.Classes.{FitsByte};
 ghost use Rattle.wkb_abi.specs.Columns.{Reach};
-ghost use Rattle.wkb_abi.specs.RowItems.{rows_of, AreEncodings, IsEncodingStep, KeepsRest, KeepsFrom, LastEndSuffices};
+ghost use Rattle.wkb_abi.specs.RowItems.{rows_of, AreEncodings, IsEncodingStep, KeepsRest, SetsRows, LastEndSuffices};
 ghost use Rattle.wkb_abi.specs.Writings.{WritesAny};
 
 use crate::write::{write_others, write_plain};
@@ -28,10 +28,7 @@ pub extern "C" fn wkb_raw_column_write(
     ensures each { AreEncodings options.now column.now statuses.new ends.new out.new }
     ensures room { LastEndSuffices (rows_of statuses.old ends.old) statuses.new ends.new out.old }
     ensures out_kept { KeepsRest statuses.new ends.new out.old out.new }
-    ensures statuses_kept { KeepsFrom (rows_of statuses.old ends.old) statuses.old statuses.new }
-    ensures ends_kept { KeepsFrom (rows_of statuses.old ends.old) ends.old ends.new }
-    ensures as_many { length statuses.new ≡ length statuses.old }
-    ensures as_many_ends { length ends.new ≡ length ends.old }
+    ensures lists { SetsRows statuses.old statuses.new ends.old ends.new }
 {
     let mut at = 0;
     let mut reach = 0;
@@ -72,8 +69,8 @@ fn write_wkb_row(
     (status, size)
 }
 
-/// Writes the encoding of a row by the long way, which collections and rejected rows need. Options that mean nothing are
-/// reported whatever the row is.
+/// Writes the encoding of a row by the long way, which collections and rejected rows need. Options that mean nothing
+/// are reported whatever the row is.
 ///
 /// It isn't inlined, so that other rows don't pay for its frame.
 #[inline(never)]

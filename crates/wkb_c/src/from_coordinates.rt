@@ -5,7 +5,7 @@ ghost use Rattle.wkb_abi.specs.Classes.{FitsByte};
 ghost use Rattle.wkb_abi.specs.LevelRows.{EncodeLevels, IsLevelStep, level_rows};
 ghost use Rattle.wkb_abi.specs.LevelRows.{LastLevelEndSuffices, KeepsLevelRest};
 ghost use Rattle.wkb_abi.specs.LevelTargets.{kind_named, levels_in, target_asked, Ready};
-ghost use Rattle.wkb_abi.specs.RowItems.{KeepsFrom};
+ghost use Rattle.wkb_abi.specs.RowItems.{AreSet};
 ghost use Rattle.wkb_levels.specs.declared.ends.Ends.TheVariants.{Each, At};
 ghost use Rattle.wkb_levels.specs.EndLists.{ends_of};
 
@@ -119,13 +119,12 @@ pub extern "C" fn wkb_raw_column_from_coordinates(
     ends: &mut [u64],
     statuses: &mut [u8],
 )
-    ensures each { EncodeLevels kind dimension options.now column.now statuses.new ends.new out.new }
+    ensures each { EncodeLevels kind dimension options.now column.now
+        statuses.new ends.new out.new }
     ensures room { LastLevelEndSuffices column.now statuses.new ends.new out.old }
     ensures out_kept { KeepsLevelRest column.now statuses.new ends.new out.old out.new }
-    ensures statuses_kept { KeepsFrom (level_rows column.now statuses.old ends.old) statuses.old statuses.new }
-    ensures ends_kept { KeepsFrom (level_rows column.now statuses.old ends.old) ends.old ends.new }
-    ensures as_many { length statuses.new ≡ length statuses.old }
-    ensures as_many_ends { length ends.new ≡ length ends.old }
+    ensures lists { AreSet (level_rows column.now statuses.old ends.old)
+        statuses.old statuses.new ends.old ends.new }
 {
     let target = target_of_numbers(kind, dimension, options);
     let levels = levels_of_column(column);

@@ -1,7 +1,7 @@
 //! Well-Known Binary for C: the calls that `c/wkb.h` declares.
 //!
-//! In C a slice is a pointer and a length. No call allocates. A call stands with its helpers in a file of its name; what
-//! calls share is in `wkb_abi`.
+//! In C a slice is a pointer and a length. No call allocates. A call stands with its helpers in a file of its name;
+//! what calls share is in `wkb_abi`.
 #![tactic(auto)]
 
 mod bounds;

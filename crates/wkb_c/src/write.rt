@@ -23,7 +23,7 @@ use wkb_sink::WriteOptions;
 
 /// Writes the encoding that the options ask for, and its length.
 ///
-/// `NO_ROOM` writes the length too, but no encoding. Options that mean nothing are told whatever the bytes are. A
+/// `NO_ROOM` writes the length too, but no encoding. Options that mean nothing are reported whatever the bytes are. A
 /// refusal leaves `out` unchanged.
 #[unsafe(no_mangle)]
 pub extern "C" fn wkb_raw_write(
@@ -62,7 +62,8 @@ fn write_any(
     size: &mut u64,
     fault: &mut WkbFault,
 ) -> u32
-    ensures { Encodes options.now buf.now out.old out.new size.old size.new fault.old fault.new result }
+    ensures { Encodes options.now buf.now out.old out.new
+        size.old size.new fault.old fault.new result }
 {
     let Some(request) = request_of(options) else {
         return UNKNOWN_OPTION;

@@ -1,6 +1,6 @@
 -- Rows that are written in levels, and encoded again, are as they were.
-use Rattle.wkb_abi.proofs.Common.{◌≡◌, ℕ, suc, ◌+◌, ◌*◌, ◌<◌, ◌^◌, List, length, drop, Option, Some, None, refl, sym, ap, ◌∙◌}
-use Rattle.wkb_abi.proofs.Common.{subst, arith, Dimension, width, Spelling, Value, kind, dimension}
+use Rattle.wkb_abi.proofs.Common.{◌≡◌, ℕ, suc, ◌+◌, ◌*◌, ◌≤◌, ◌<◌, ◌^◌, List, length, drop, Option, Some, None, refl}
+use Rattle.wkb_abi.proofs.Common.{sym, ap, ◌∙◌, subst, arith, Dimension, Spelling, Value, kind, dimension}
 use Rattle.wkb_abi.proofs.Common.{length-append, header}
 use Rattle.std.specs.Prelude.{◌-◌, take, sum, flat_map, slice_range}
 use Rattle.std.proofs.Common.{take-append-drop}
@@ -22,12 +22,11 @@ use Rattle.wkb_levels.specs.Columns.{IsClear, singles_of}
 use Rattle.wkb_levels.specs.Meant.{kind_meant}
 use Rattle.wkb_levels.specs.RowWrites.{HasRowEncoding}
 use Rattle.wkb_abi.specs.Columns.{is_unset_bit}
-use Rattle.wkb_abi.specs.Coordinates.{LevelLists, ends, ring_counts}
-use Rattle.wkb_abi.specs.Coordinates.{asked_subject_words}
+use Rattle.wkb_abi.specs.Coordinates.{ends, ring_counts, Level, of_words, of_rings, of_singles, many_in, HoldLevels}
 use Rattle.wkb_abi.specs.LevelRows.{HasLevelEncoding, LacksLevels, null_row, unknown, unfit}
 use Rattle.wkb_abi.specs.LevelTargets.{levels_in, target_with, target_asked}
 use Rattle.wkb_abi.specs.Requests.{IsRequested, request_of, options_for}
-use Rattle.wkb_abi.specs.RowItems.{IsRowAnswer, handed, no_room, failed}
+use Rattle.wkb_abi.specs.RowItems.{HoldsItems, IsRowAnswer, handed, no_room, failed}
 use Rattle.wkb_column_laws.specs.ThereAndBack.{as_spelled, HasEmptyWords, bytes_of, AreGivenOn, IsLevelled}
 use Rattle.wkb_column_laws.specs.ThereAndBack.{BackAsSpelled, IsWrittenBack, ThereAndBack}
 use Rattle.wkb_abi.specs.declared.column.Column.{Column}
@@ -39,15 +38,14 @@ use Rattle.wkb_abi.specs.declared.options.Request.{Request}
 use Rattle.wkb_abi.specs.declared.options.Request.TheVariants.{Encoding, OwnSrid}
 use Rattle.wkb_abi.specs.declared.options.TheConstants.{EWKB_OWN_SRID}
 use Rattle.wkb_abi.proofs.OneRow.{one_row}
-use Rattle.wkb_abi.proofs.Rooms.{Reaches, row_says, room_before}
+use Rattle.wkb_abi.proofs.Rooms.{rise_at}
 use Rattle.wkb_column_laws.proofs.ThereAndBackEncodings.{spelled_writable, same_encoding}
 use Rattle.wkb_column_laws.proofs.ThereAndBackKinds.{singles_in, gives, HaveWords, have_words, Means, singles_mean}
-use Rattle.wkb_column_laws.proofs.ThereAndBackLevels.{IsHeld, held_on, sizes_sum, joined, joined_length}
-use Rattle.wkb_column_laws.proofs.ThereAndBackLevels.{HoldsSingles, singles_are, levels_are, spans_are}
-use Rattle.wkb_column_laws.proofs.ThereAndBackRows.{Stage, Done, stage, IsDone, rows_done, Keeps, keeps_on, reach_on}
-use Rattle.wkb_column_laws.proofs.ThereAndBackRows.{HoldsLevels, row_there}
-use Rattle.wkb_column_laws.proofs.ThereAndBackRows.{row_goes, given, single_level, ring_level, keeps_given}
-use Rattle.wkb_column_laws.proofs.ThereAndBackRows.{BeginsAt, begins_at}
+use Rattle.wkb_column_laws.proofs.ThereAndBackLevels.{sizes_sum, joined, HoldsSingles, singles_are, levels_are}
+use Rattle.wkb_column_laws.proofs.ThereAndBackLevels.{spans_are}
+use Rattle.wkb_column_laws.proofs.ThereAndBackRows.{unscaled, rings_more, coordinates_more, row_there, given, at}
+use Rattle.wkb_column_laws.proofs.ThereAndBackRows.{fits_before, held_given, single_level, ring_level, BeginsAt}
+use Rattle.wkb_column_laws.proofs.ThereAndBackRows.{begins_at}
 
 -- a part of bytes is bytes
 range_bytes : (bytes : List ℕ) (start end : ℕ) → AreBytes bytes → AreBytes (slice_range bytes start end)
@@ -60,50 +58,31 @@ module _ {c : Column} {dimension : ℕ} {asked : Dimension} {statuses : List ℕ
     (g : AreGivenOn c dimension asked statuses rows l) where
   -- a row whose levels were written
   module _ {i : ℕ} (below : i < rows) {s : Spelling} {t : Value} (lv : IsLevelled c asked statuses i s t) where
-    -- the rows up to this one, and those before it
-    behind : Stage asked (Done g (suc i)) g.to g.now
-    behind = stage g rows (suc i) g.to g.now (omega (arith, below)) g.written
-
     abbrev from : Totals
-    from = behind.done.0
-
-    abbrev before : LevelLists
-    before = behind.done.1.0
+    from = at g i
 
     abbrev to : Totals
-    to = behind.at
+    to = at g (suc i)
 
-    done_before : IsDone asked g.row_ends g.out i from before
-    done_before = rows_done g i from before behind.done.1.1.0
+    -- its levels are there, and in what is given on
+    written : HoldLevels asked (subjects s t) from to g.now
+    written = row_there g.asked_is lv.ok lv.is_row lv.front (g.written.each i below)
 
-    far : Reaches from to
-    far = (row_says behind.done.1.1.1 done_before.small).far
-
-    -- its levels are there
-    there : HoldsLevels asked g.out behind.lists from to (subjects s t)
-    there = row_there g.short done_before.long g.asked_is lv.ok lv.is_row lv.front behind.done.1.1.1
-
-    -- what is written stays
-    kept : Keeps asked to behind.lists (given g)
-    kept = keeps_on behind.kept behind.far (keeps_given g)
-
-    kept_before : Keeps asked from before (given g)
-    kept_before = keeps_on (row_goes g.short done_before.long g.asked_is behind.done.1.1.1).keeps far kept
-
-    -- where it begins and ends in what is given on
-    begin : BeginsAt (levels_in l) i from
-    begin = begins_at g i from before behind.done.1.1.0 kept_before (room_before asked g.out from to far there.room)
-
-    end : BeginsAt (levels_in l) (suc i) to
-    end = begins_at g (suc i) to behind.lists behind.done kept there.room
+    there : HoldLevels asked (subjects s t) from to (given g)
+    there = held_given g below written
 
     -- an earlier row ends before it at each level
-    earlier : (j : ℕ) → j < i → (at : Totals) × (Reaches at from × BeginsAt (levels_in l) (suc j) at)
-    earlier j before_it =
-        let s = stage g i (suc j) from before (omega (arith, before_it)) behind.done.1.1.0 in
-        let fits = room_before asked g.out s.at to (reach_on s.far far) there.room in
-        let begins = begins_at g (suc j) s.at s.lists s.done (keeps_on s.kept s.far kept_before) fits in
-        (s.at, (s.far, begins))
+    earlier : (j : ℕ) → j ≤ suc i → BeginsAt (levels_in l) j (at g j)
+    earlier j up =
+        begins_at g j (omega (arith, up, below))
+        (fits_before g (suc i) j up (omega (arith, below)) (λ k. (written k).within))
+
+    -- where it begins and ends
+    begin : BeginsAt (levels_in l) i from
+    begin = earlier i (omega arith)
+
+    end : BeginsAt (levels_in l) (suc i) to
+    end = earlier (suc i) (omega arith)
 
     -- its singles, and how many words and rings they have
     abbrev own : List (List (List (List ℕ)))
@@ -120,36 +99,40 @@ module _ {c : Column} {dimension : ℕ} {asked : Dimension} {statuses : List ℕ
     rings_are : length (flat_map ring_counts (subjects s t)) ≡ length (joined own)
     rings_are = rw (gives s t).1 (length-map (joined own) (λ cs. length cs))
 
-    many : length (flat_map (asked_subject_words asked) (subjects s t)) ≡ width asked * sum (flat_map ring_counts (subjects s t))
-    many = rw (words_are.words_are, sum_is) (joined_length (width asked) (joined (joined own)) words_are.wide)
-
     -- the levels of the row hold the singles of its geometry
     holds : HoldsSingles (levels_in l) (as_dimensions asked) i own
     holds = record {
       some_words = omega (arith, named_width asked, width-least asked);
       wide = rw (← named_width asked) words_are.wide;
       single_ends =
-          subst (λ T. T) (λ k. IsHeld (sym (single_level g).ends k) (sym begin.singles k) (sym end.singles k)
-          (ends (sym begin.rings k) ((gives s t).0 k))) (held_on there.single_ends kept.single_ends);
+          subst (λ T. T) (λ k. HoldsItems (sym (single_level g).ends k) (sym begin.singles k) (sym end.singles k)
+          (ends (sym begin.rings k) ((gives s t).0 k))) (there of_singles);
       ring_ends =
-          subst (λ T. T) (λ k. IsHeld (sym (ring_level g).ends k) (sym begin.rings k) (sym end.rings k)
-          (ends (sym begin.coordinates k) ((gives s t).1 k))) (held_on there.ring_ends kept.ring_ends);
+          subst (λ T. T) (λ k. HoldsItems (sym (ring_level g).ends k) (sym begin.rings k) (sym end.rings k)
+          (ends (sym begin.coordinates k) ((gives s t).1 k))) (there of_rings);
       words =
-          subst (λ T. T) (λ k. IsHeld l.words.now (named_width asked k * sym begin.coordinates k)
-          (named_width asked k * sym end.coordinates k) (words_are.words_are k)) (held_on (there.words many) kept.words);
-      rings = omega (arith, begin.rings, end.rings, there.rings, rings_are);
-      coordinates = end.coordinates ∙ there.coordinates ∙ (λ k. sym begin.coordinates k + sum_is k);
+          subst (λ T. T) (λ k. HoldsItems l.words.now (named_width asked k * sym begin.coordinates k)
+          (named_width asked k * sym end.coordinates k) (words_are.words_are k)) (there of_words);
+      rings = omega (arith, begin.rings, end.rings, rings_more there, rings_are);
+      coordinates = end.coordinates ∙ coordinates_more there ∙ (λ k. sym begin.coordinates k + sum_is k);
     }
 
     -- they are clear of earlier rows
     clear : IsClear (levels_in l) (as_dimensions asked) i
     clear = record {
       spans = spans_are holds;
-      singles = λ j h spans. let e = earlier j h in omega (arith, e.1.1.singles, e.1.0.singles, begin.singles);
-      rings = λ j h spans. let e = earlier j h in omega (arith, e.1.1.rings, e.1.0.rings, begin.rings);
+      singles = λ j h spans. omega (arith, (before j h).singles, begin.singles, rise j h of_singles);
+      rings = λ j h spans. omega (arith, (before j h).rings, begin.rings, rise j h of_rings);
       coordinates = λ j h spans.
-          let e = earlier j h in omega (arith, e.1.1.coordinates, e.1.0.coordinates, begin.coordinates);
+          let far = unscaled asked (at g (suc j)).coordinates from.coordinates (rise j h of_words) in
+          omega (arith, (before j h).coordinates, begin.coordinates, far);
     }
+      where
+        before : (j : ℕ) → j < i → BeginsAt (levels_in l) (suc j) (at g (suc j))
+        before j h = earlier (suc j) (omega (arith, h))
+
+        rise : (j : ℕ) → j < i → (k : Level) → many_in k asked (at g (suc j)) ≤ many_in k asked from
+        rise j h k = rise_at g.written k asked i (omega (arith, below)) (suc j) (omega (arith, h))
 
     -- they mean what the bytes spell
     means : Means s t
@@ -233,8 +216,7 @@ answered : {l : LevelColumn} {asked : Option LevelTarget} {i status start end : 
     → HasLevelEncoding l asked i encoding
     → IsRowAnswer (HasLevelEncoding l asked) (LacksLevels l asked) i status start end out
     → IsWrittenBack encoding i status start end out
-answered has (handed items is ok end_is inside range) =
-    handed items (one_level_encoding is has) ok end_is inside range
+answered has (handed items is ok held) = handed items (one_level_encoding is has) ok held
 answered has (no_room items is told end_is short) = no_room items (one_level_encoding is has) told end_is short
 answered has (failed (null_row null told) end_is) = absurd cc
 answered has (failed (unknown present none told) end_is) = absurd cc

@@ -1,7 +1,7 @@
 -- Columns whose rows are all null, or come back from their levels, come back as a whole.
-use Rattle.wkb_abi.proofs.Common.{◌≡◌, ℕ, zero, suc, ◌+◌, ◌≤◌, ◌<◌, List, [], ◌++◌, length, drop, Option, Some, refl, sym}
-use Rattle.wkb_abi.proofs.Common.{ap, ◌∙◌, subst, arith, Spelling, Value, slice_index}
-use Rattle.std.specs.Prelude.{take, true, slice_range}
+use Rattle.wkb_abi.proofs.Common.{◌≡◌, ℕ, zero, suc, ◌+◌, ◌≤◌, ◌<◌, List, [], ◌++◌, length, drop, Option, Some, refl}
+use Rattle.wkb_abi.proofs.Common.{sym, ap, ◌∙◌, subst, arith, Spelling, Value, slice_index}
+use Rattle.std.specs.Prelude.{take, true}
 use lib.Seq.{take-add}
 use Rattle.wkb_geom.specs.Fronts.{Front}
 use Rattle.wkb_levels.specs.Cuts.{start_at}
@@ -10,7 +10,8 @@ use Rattle.wkb_abi.specs.Columns as columns
 use Rattle.wkb_abi.specs.LevelRows.{EncodeLevels, HasLevelEncoding, LacksLevels, level_rows}
 use Rattle.wkb_abi.specs.LevelRows as in_levels
 use Rattle.wkb_abi.specs.Requests.{request_of}
-use Rattle.wkb_abi.specs.RowItems.{IsRowAnswer, handed, no_room, failed, RowHas, RowFails, fails, has_no_row}
+use Rattle.wkb_abi.specs.RowItems.{HoldsItems, IsRowAnswer, handed, no_room, failed, RowHas, RowFails, fails}
+use Rattle.wkb_abi.specs.RowItems.{has_no_row}
 use Rattle.wkb_abi.specs.Writings.{HasEncoding, FailsToWrite, unknown, refused}
 use Rattle.wkb_abi.specs.declared.column.Column.{Column}
 use Rattle.wkb_abi.specs.declared.level_column.LevelColumn.{LevelColumn}
@@ -42,12 +43,11 @@ never_fails {status = status} {rest = rest} {s = s} {t = t} is front asked (fail
 
 module _ {status start end : ℕ} {out : List ℕ} where
   -- of a row that is written, and of a row of which nothing is
-  tells_ok : {bytes : List ℕ} → status ≡ OK → end ≡ start + length bytes → slice_range out start end ≡ bytes
-      → Tells OK bytes status start end out
-  tells_ok ok end_is range = record {
+  tells_ok : {bytes : List ℕ} → status ≡ OK → HoldsItems out start end bytes → Tells OK bytes status start end out
+  tells_ok ok held = record {
     status_is = ok;
-    end_is = end_is;
-    range = ap (λ k. take k (drop start out)) (omega (arith, end_is)) ∙ range;
+    end_is = held.many;
+    range = ap (λ k. take k (drop start out)) (omega (arith, held.many)) ∙ held.are;
   }
 
   tells_null : status ≡ NULL_ROW → end ≡ start → Tells NULL_ROW [] status start end out
@@ -63,15 +63,14 @@ module _ {status start end : ℕ} {out : List ℕ} where
       → (status ≡ NO_ROOM → ⊥)
       → IsRowAnswer (RowHas (HasEncoding o) c) (RowFails (FailsToWrite o) c) i status start end out
       → (bytes : List ℕ) × (RowHas (HasEncoding o) c i bytes × Tells OK bytes status start end out)
-  tells_encoding fine room (handed bytes has ok end_is inside range) = (bytes, (has, tells_ok ok end_is range))
+  tells_encoding fine room (handed bytes has ok held) = (bytes, (has, tells_ok ok held))
   tells_encoding fine room (no_room bytes has is end_is short) = absurd (room is)
   tells_encoding fine room (failed why end_is) = absurd (fine why)
 
   -- and of its levels
   tells_back : {i : ℕ} {bytes : List ℕ} → (status ≡ NO_ROOM → ⊥) → IsWrittenBack bytes i status start end out
       → Tells OK bytes status start end out
-  tells_back room (handed own same ok end_is inside range) =
-      subst (λ z. Tells OK z status start end out) same (tells_ok ok end_is range)
+  tells_back room (handed own same ok held) = subst (λ z. Tells OK z status start end out) same (tells_ok ok held)
   tells_back room (no_room own same is end_is short) = absurd (room is)
   tells_back room (failed why end_is) = absurd why
 
@@ -81,7 +80,7 @@ module _ {status start end : ℕ} {out : List ℕ} where
   null_tells : {c : Column} {i : ℕ} {o : Options} → is_null_row c i ≡ true
       → IsRowAnswer (RowHas (HasEncoding o) c) (RowFails (FailsToWrite o) c) i status start end out
       → Tells NULL_ROW [] status start end out
-  null_tells null (handed bytes has ok end_is inside range) = absurd cc
+  null_tells null (handed bytes has ok held) = absurd cc
   null_tells null (no_room bytes has is end_is short) = absurd cc
   null_tells null (failed (fails row is why) end_is) = absurd cc
   null_tells null (failed (has_no_row (columns.null_row is told)) end_is) = tells_null told end_is
@@ -91,7 +90,7 @@ module _ {status start end : ℕ} {out : List ℕ} where
       → is_unset_bit l.validity.now (l.validity_offset + i) ≡ true
       → IsRowAnswer (HasLevelEncoding l asked) (LacksLevels l asked) i status start end out
       → Tells NULL_ROW [] status start end out
-  null_back null (handed bytes has ok end_is inside range) = absurd cc
+  null_back null (handed bytes has ok held) = absurd cc
   null_back null (no_room bytes has is end_is short) = absurd cc
   null_back null (failed (in_levels.null_row is told) end_is) = tells_null told end_is
   null_back null (failed (in_levels.unknown present none told) end_is) = absurd cc

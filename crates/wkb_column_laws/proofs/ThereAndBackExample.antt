@@ -1,8 +1,9 @@
 -- A column of a point and of a null row, and its levels: they are given on as the law says.
-use Rattle.wkb_abi.proofs.Common.{ℕ, zero, suc, ◌<◌, List, [], ◌∷◌, Some, None, refl, arith}
-use Rattle.wkb_abi.proofs.Common.{Spelling, node, no_spellings, Value, point, Spells}
+use Rattle.wkb_abi.proofs.Common.{◌≡◌, ℕ, zero, suc, ◌<◌, List, [], ◌∷◌, length, Some, None, refl, sym, ◌∙◌, arith}
+use Rattle.wkb_abi.proofs.Common.{slice_index, Spelling, node, no_spellings, Value, point, Spells}
 use Rattle.std.specs.Borrow.{Bor}
 use Rattle.std.proofs.Common.{rules}
+use Rattle.std.proofs.lemmas.List.{drop_all}
 use Rattle.wkb_geom.specs.Encodings.{point_words, point_encoding, header_encoding, code_of, srid_encoding}
 use Rattle.wkb_geom.specs.Encodings.{words_encoding, dimensions_fault}
 use Rattle.wkb_geom.specs.Fronts.{Front}
@@ -15,8 +16,8 @@ use Rattle.wkb_laws.proofs.EncodingBytes.{encoding_is_bytes}
 use Rattle.wkb_laws.proofs.EncodingSpells.{encoding_spells}
 use Rattle.wkb_check.specs.Subjects.{subjects}
 use Rattle.wkb_abi.specs.Columns.{IsRow, null_row}
-use Rattle.wkb_abi.specs.Coordinates.{LevelLists, levels, HasCoordinates, handed, failed, written, no_row, no_totals}
-use Rattle.wkb_abi.specs.Coordinates.{AreColumnCoordinates}
+use Rattle.wkb_abi.specs.Coordinates.{LevelLists, levels, handed, failed, written, no_row, no_totals, Level, of_words}
+use Rattle.wkb_abi.specs.Coordinates.{list_of, many_in, HoldLevels, IsCoordinatesRow}
 use Rattle.wkb_abi.specs.LevelRows.{HasLevelEncoding}
 use Rattle.wkb_abi.specs.LevelTargets.{target_asked}
 use Rattle.wkb_column_laws.specs.ThereAndBack.{AreGivenOn, IsLevelled, ComesBack, stays_null, is_levelled}
@@ -63,6 +64,10 @@ statuses = 0 ∷ 16 ∷ []
 abbrev after_point : Totals
 after_point = record { coordinates = 1; rings = 1; singles = 1 }
 
+abbrev begin : ℕ → Totals
+begin zero = no_totals
+begin (suc i) = after_point
+
 abbrev out : LevelLists
 out = levels (0 ∷ 0 ∷ []) (0 ∷ []) (0 ∷ [])
 
@@ -106,28 +111,32 @@ is_row = record {
   };
 }
 
-point_laid : HasCoordinates column 0 0 Xy (subjects spelled value)
-point_laid = record {
-  row = bytes;
-  is_row = is_row;
-  asked_is = refl;
-  s = spelled;
-  t = value;
-  rest = [];
-  front = front;
-  are = refl;
-}
+-- the levels of the first row are written, and the second row has none
+laid : HoldLevels Xy (subjects spelled value) no_totals after_point filled
+laid of_words = record { many = refl; within = omega arith; are = refl }
+laid _ = record { many = refl; within = omega arith; are = refl }
 
--- the levels of the first row are written
-first_row : AreColumnCoordinates column 0 statuses (1 ∷ 1 ∷ []) out 1 after_point filled
-first_row =
-    let laid = handed Xy (subjects spelled value) point_laid (written refl refl (search rules) refl) in
-    (no_totals, (out, ((refl, refl), laid, refl)))
+rows_are : (i : ℕ) → i < 2 → IsCoordinatesRow column 0 i (slice_index statuses i) (begin i) (begin (suc i)) filled
+rows_are zero below =
+    handed Xy refl bytes is_row (record { s = spelled; t = value; rest = []; front = front }) (written refl refl laid)
+rows_are (suc zero) below = failed (no_row (null_row refl refl)) refl
+rows_are (suc (suc i)) below = absurd (omega (arith, below))
 
 -- an encoding is bytes
 all_bytes : AreBytes bytes
 unfolding point_encoding header_encoding code_of srid_encoding words_encoding number_bytes point_words
 all_bytes = encoding_is_bytes LittleEndian Iso (geometry_of value)
+
+ends_are : (i : ℕ) → i < 2 → slice_index (1 ∷ 1 ∷ []) i ≡ (begin (suc i)).singles
+ends_are zero below = refl
+ends_are (suc zero) below = refl
+ends_are (suc (suc i)) below = absurd (omega (arith, below))
+
+-- the point fills each list
+full : (k : Level)
+    → (many_in k Xy after_point ≡ length (list_of k filled)) × (length (list_of k filled) ≡ length (list_of k out))
+full of_words = (refl, refl)
+full _ = (refl, refl)
 
 -- the levels are given on
 pub worked_given : AreGivenOn column 0 Xy statuses 2 given
@@ -136,11 +145,21 @@ worked_given = record {
   small = omega arith;
   asked_is = refl;
   out = out;
-  short = search rules;
   to = after_point;
   now = filled;
   row_ends = 1 ∷ 1 ∷ [];
-  written = (after_point, (filled, (first_row, failed (no_row (null_row refl refl)) refl refl, refl)));
+  written = record {
+    at = begin;
+    first = refl;
+    last = refl;
+    each = rows_are;
+    row_ends_are = ends_are;
+    long = λ k. (full k).1;
+    kept = λ k n far.
+        let there = far 0 (omega arith) refl Xy refl in
+        drop_all n (list_of k filled) (omega (arith, there, (full k).0))
+        ∙ sym (drop_all n (list_of k out) (omega (arith, there, full k)));
+  };
   levels = search rules;
 }
 

@@ -1,58 +1,23 @@
 -- A row whose levels hold some singles, each behind the one before it, has these singles.
-use Rattle.std.proofs.Common.{◌≡◌, ℕ, zero, suc, ◌+◌, ◌-◌, ◌*◌, ◌/◌, ◌<◌, ◌≤◌, refl, sym, ap, ◌∙◌, arith}
-use Rattle.std.proofs.Common.{List, [], ◌∷◌, ◌++◌, length, take, drop, map, slice_index, slice_range}
-use Rattle.std.proofs.Common.{append_assoc, length-append, length-take}
+use Rattle.std.proofs.Common.{◌≡◌, ℕ, zero, suc, ◌+◌, ◌-◌, ◌*◌, ◌/◌, ◌<◌, ◌≤◌, refl, sym, ap, ◌∙◌, arith, List, [], ◌∷◌}
+use Rattle.std.proofs.Common.{◌++◌, length, take, drop, map, slice_index, slice_range, length-append}
 use Rattle.std.specs.List.{AllByRecursion, flat_map, sum}
 use Rattle.std.proofs.Math.Nat.{mul-div_cancel_left, mul_comm, sub-zero}
 use Rattle.std.proofs.lemmas.Nat.{le-div}
-use Rattle.std.proofs.lemmas.List.{take_at, drop_at, take-take, drop-take, drop-drop, length-take-le}
-use lib.Seq.{sets, sets-eq, length-sets}
+use Rattle.std.proofs.lemmas.List.{take_at, drop_at, take-take, drop-take, drop-drop}
 use Rattle.wkb_geom.specs.declared.common.Dimensions.{Dimensions}
 use Rattle.wkb_geom.specs.Dimensions.{size}
 use Rattle.wkb_plain.specs.Runs.{runs, coordinates_in}
 use Rattle.wkb_plain.proofs.Runs.{length-runs}
 use Rattle.wkb_levels.specs.declared.levels.Levels.{Levels}
-use Rattle.wkb_levels.specs.Columns.{AreRowLevels, SpansCoordinates, column_rings, singles_of}
-use Rattle.wkb_levels.specs.Columns.{row_begin, row_end, rings_begin, rings_end, coordinates_begin, coordinates_end}
+use Rattle.wkb_levels.specs.Columns.{AreRowLevels, SpansCoordinates, column_rings, singles_of, row_begin, row_end}
+use Rattle.wkb_levels.specs.Columns.{rings_begin, rings_end, coordinates_begin, coordinates_end}
 use Rattle.wkb_levels.specs.Cuts.{start_at, AreEnds, pieces_from}
 use Rattle.wkb_levels.specs.EndLists.{start_of, ends_of}
 use Rattle.wkb_levels.proofs.Pieces.{length-pieces, start_behind, slice_range-pieces, coordinates_between}
 use Rattle.wkb_abi.specs.Coordinates.{ends}
+use Rattle.wkb_abi.specs.RowItems.{HoldsItems}
 use Rattle.wkb_abi.proofs.Levels.{sum-first}
-
--- ---- a list that holds items
-
--- it holds them from one number up to another
-pub record IsHeld {A : Type 0} (xs : List A) (from to : ℕ) (items : List A) : Type 0 where
-  pub many : to ≡ from + length items
-  pub within : to ≤ length xs
-  pub are : slice_range xs from to ≡ items
-
-module _ {A : Type 0} where
-  -- it does where they are laid
-  pub held_laid : (xs items : List A) (from to : ℕ) → to ≡ from + length items → to ≤ length xs
-      → IsHeld (sets xs from items) from to items
-  held_laid xs items from to many within = record {
-    many = many;
-    within = omega (arith, length-sets xs from items);
-    are =
-        let wide : to - from ≡ length items = omega (arith, many) in
-        let front = length-take-le from xs (omega (arith, many, within)) in
-        rw (sets-eq items xs from (omega (arith, many, within)), append_assoc, drop_at (take from xs) _ from front)
-        (take_at items (drop (from + length items) xs) (to - from) (sym wide));
-  }
-
-  -- and where another list is the same up to their end
-  pub held_on : {xs ys items : List A} {from to : ℕ} → IsHeld xs from to items → take to ys ≡ take to xs
-      → IsHeld ys from to items
-  held_on {xs} {ys} {items} {from} {to} h same = record {
-    many = h.many;
-    within = omega (arith, h.within, length-take to ys, length-take to xs, ap length same);
-    are =
-        let up : from + (to - from) ≡ to = omega (arith, h.many) in
-        sym (drop-take from (to - from) ys) ∙ ap (λ n. drop from (take n ys)) up ∙ ap (drop from) same
-        ∙ ap (λ n. drop from (take n xs)) (sym up) ∙ drop-take from (to - from) xs ∙ h.are;
-  }
 
 -- ---- lists one behind another, cut where they end
 
@@ -71,8 +36,8 @@ module _ {A : Type 0} where
   sizes_sum (x ∷ xss) = omega (arith, sum-first (length x) (sizes_of xss), sizes_sum xss, length-append x (joined xss))
 
   -- what is held in two parts
-  held_parts : {xs : List A} {from to : ℕ} (x y : List A) → IsHeld xs from to (x ++ y)
-      → (slice_range xs from (from + length x) ≡ x) × IsHeld xs (from + length x) to y
+  held_parts : {xs : List A} {from to : ℕ} (x y : List A) → HoldsItems xs from to (x ++ y)
+      → (slice_range xs from (from + length x) ≡ x) × HoldsItems xs (from + length x) to y
   held_parts {xs} {from} {to} x y h =
       let both = length-append x y in
       let wide : from + length x - from ≡ length x = omega arith in
@@ -87,7 +52,7 @@ module _ {A : Type 0} where
       )
 
   -- where one list holds them, its pieces are these
-  pieces_held : (xss : List (List A)) (items : List A) (start end : ℕ) → IsHeld items start end (joined xss)
+  pieces_held : (xss : List (List A)) (items : List A) (start end : ℕ) → HoldsItems items start end (joined xss)
       → pieces_from 0 items start (ends start (sizes_of xss)) ≡ xss
   pieces_held [] items start end held = refl
   pieces_held (x ∷ xss) items start end held =
@@ -138,11 +103,11 @@ coordinates_held d cs some wide =
 pub record HoldsSingles (l : Levels) (d : Dimensions) (i : ℕ) (singles : List (List (List (List ℕ)))) : Type 0 where
   pub some_words : 0 < size d
   pub wide : AreWide (size d) (joined (joined singles))
-  pub single_ends : IsHeld (ends_of l.single_ends) (row_begin l i) (row_end l i)
+  pub single_ends : HoldsItems (ends_of l.single_ends) (row_begin l i) (row_end l i)
       (ends (rings_begin l i) (sizes_of singles))
-  pub ring_ends : IsHeld (ends_of l.ring_ends) (rings_begin l i) (rings_end l i)
+  pub ring_ends : HoldsItems (ends_of l.ring_ends) (rings_begin l i) (rings_end l i)
       (ends (coordinates_begin l i) (sizes_of (joined singles)))
-  pub words : IsHeld l.words.now (size d * coordinates_begin l i) (size d * coordinates_end l i)
+  pub words : HoldsItems l.words.now (size d * coordinates_begin l i) (size d * coordinates_end l i)
       (joined (joined (joined singles)))
   pub rings : rings_end l i ≡ rings_begin l i + length (joined singles)
   pub coordinates : coordinates_end l i ≡ coordinates_begin l i + length (joined (joined singles))
@@ -156,7 +121,7 @@ module _ {l : Levels} {d : Dimensions} {i : ℕ} {singles : List (List (List (Li
       (rw (mul_comm (coordinates_end l i) (size d)) h.words.within)
 
   -- the coordinates that it has, and its rings
-  coordinates_are : IsHeld (coordinates_in d l.words.now) (coordinates_begin l i) (coordinates_end l i) (joined (joined singles))
+  coordinates_are : HoldsItems (coordinates_in d l.words.now) (coordinates_begin l i) (coordinates_end l i) (joined (joined singles))
   coordinates_are = record {
     many = h.coordinates;
     within = omega (arith, within, length-runs (size d) (length l.words.now / size d) l.words.now);
@@ -166,7 +131,7 @@ module _ {l : Levels} {d : Dimensions} {i : ℕ} {singles : List (List (List (Li
         ∙ ap (coordinates_in d) h.words.are ∙ coordinates_held d (joined (joined singles)) h.some_words h.wide;
   }
 
-  rings_are : IsHeld (column_rings l d) (rings_begin l i) (rings_end l i) (joined singles)
+  rings_are : HoldsItems (column_rings l d) (rings_begin l i) (rings_end l i) (joined singles)
   rings_are = record {
     many = h.rings;
     within =

@@ -58,12 +58,6 @@ HasEmptyWords s t = Unit {0}
 abbrev pub bytes_of : WriteOptions → Geometry → List ℕ
 bytes_of options g = encoding options.endianness options.form g
 
--- the lists that levels are written to are shorter than memory
-pub record AreShort (out : LevelLists) : Type 0 where
-  pub words : length out.words < 2 ^ 63
-  pub ring_ends : length out.ring_ends < 2 ^ 63
-  pub single_ends : length out.single_ends < 2 ^ 63
-
 -- These levels are what was written of the rows of a column: their words and ends, as many as the totals say, and which
 -- rows are null.
 pub record AreLevelsOf (c : Column) (asked : Dimension) (row_ends : List ℕ) (to : Totals) (out : LevelLists)
@@ -85,7 +79,6 @@ pub record AreGivenOn (c : Column) (dimension : ℕ) (asked : Dimension) (status
   pub small : length c.bytes.now < 2 ^ 63
   pub asked_is : dimension_of_thousands dimension ≡ Some asked
   pub out : LevelLists
-  pub short : AreShort out
   pub to : Totals
   pub now : LevelLists
   pub row_ends : List ℕ

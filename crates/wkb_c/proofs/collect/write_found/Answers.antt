@@ -7,5 +7,5 @@ write_requested-status-requires c = described_with c.requires (omega (arith, c.r
 
 pub returns-clause-written : goal.returns-clause-written
 returns-clause-written c =
-    found_written c.inner.result (λ i. (c.type_inv.row i).fits) c.requires c.inner.ensures
-    (c.takes.ensures.fits c.if-not-takes.false) c.write_requested-status.ensures
+    found_written (λ i. (c.type_inv.row i).fits) c.requires (c.takes.ensures.fits c.if-not-takes.false)
+    (rw c.inner.ensures at c.write_requested-status.ensures)

@@ -1,5 +1,5 @@
-use Rattle.wkb_abi.proofs.Common.{arith, ◌∙◌}
-use Rattle.wkb_c.proofs.Gathering.{written_more, all_written, have_before}
+use Rattle.wkb_abi.proofs.Common.{arith, ◌∙◌, no_members}
+use Rattle.wkb_c.proofs.Gathering.{written_more, all_written}
 use Rattle.wkb_c.proofs.RowItems.{lent_rest}
 use Rattle.wkb_c.proofs.collect.write_members.Goals as goal
 
@@ -22,8 +22,9 @@ returns-clause-written c =
     all_written l.reaches l.written (omega (arith, c.loop-i-test.false, c.loop-i.auto.i-end))
 
 pub returns-in-Err-clause-unfit : goal.returns-in-Err-clause-unfit
-returns-in-Err-clause-unfit c = record {
-  below = c.loop-i-test.true;
-  before = have_before c.loop-i.invariant.written;
-  unfit = c.in-Err.ensures.unfit;
-}
+returns-in-Err-clause-unfit c =
+    let w = c.loop-i.invariant.written.go_on no_members tt in record {
+      below = c.loop-i-test.true;
+      before = record { values = w.all; many = omega (arith, w.many); are = w.are };
+      unfit = c.in-Err.ensures.unfit;
+    }

@@ -1,16 +1,19 @@
-use Rattle.wkb_abi.proofs.Common.{refl, ◌∙◌}
-use Rattle.wkb_abi.specs.Coordinates.{written, no_room}
+use Rattle.wkb_abi.proofs.Common.{refl, ◌∙◌, arith}
+use Rattle.wkb_abi.proofs.Rooms.{lacks_row, laid_row}
 use Rattle.wkb_rewrite.proofs.Measured.{kind_of}
 use Rattle.wkb_check.proofs.Ahead.{here}
 use Rattle.wkb_c.proofs.column_coordinates.polygon_levels_into.Goals as goal
 
 pub returns-then-not-has_room-clause-laid : goal.returns-then-not-has_room-clause-laid
-returns-then-not-has_room-clause-laid c = λ d.
-    no_room refl (c.after.ensures (here d)) (c.if-not-has_room.ensures.no refl) refl
+returns-then-not-has_room-clause-laid c =
+    let d = c.requires.found in
+    lacks_row c.args.out.now d (c.after.ensures (here d)) (c.if-not-has_room.ensures.no refl)
 
 pub returns-clause-laid : goal.returns-clause-laid
-returns-clause-laid c = λ d.
-    written refl (c.after.ensures (here d)) (c.if-not-has_room.ensures.yes refl) (c.lay_rings.ensures.levels (here d))
+returns-clause-laid c =
+    let d = c.requires.found in
+    laid_row c.args.out.now d (c.after.ensures (here d)) c.lay_rings.new.out (omega arith) (omega arith) (omega arith)
+    (c.if-not-has_room.ensures.yes refl) (c.lay_rings.ensures.levels (here d))
 
 pub lay_rings-requires-clause-polygon : goal.lay_rings-requires-clause-polygon
 lay_rings-requires-clause-polygon c =

@@ -1,9 +1,7 @@
 use Rattle.wkb_abi.specs.Columns.{Reach}
-use Rattle.wkb_abi.specs.Coordinates.{AreColumnCoordinates, LevelsSuffice}
+use Rattle.wkb_abi.specs.Coordinates.{AreColumnCoordinates}
 use Rattle.wkb_abi.specs.LevelLists.{levels_of, AreSameSlices}
-use Rattle.wkb_c.proofs.RowItems.{AreSet}
-use Rattle.wkb_abi.proofs.Levels.{AreSmall}
-use Rattle.wkb_abi.proofs.Rooms.{AreAsLong}
+use Rattle.wkb_abi.specs.RowItems.{AreSet}
 use Rattle.wkb_c.proofs.column_coordinates.wkb_raw_column_coordinates.Given as goal
 
 abbrev pub invariant-loop-i : goal.invariant-loop-i
@@ -11,9 +9,6 @@ invariant-loop-i l = record {
   reaches : Reach l.column l.i l.reach;
   lists : AreSet l.i-end l.initial.statuses l.statuses l.initial.row_ends l.row_ends;
   done : AreColumnCoordinates l.column l.dimension l.statuses l.row_ends
-      (levels_of l.initial.out) l.i l.at (levels_of l.out);
-  room : LevelsSuffice l.dimension (levels_of l.initial.out) l.at l.i l.statuses;
-  small : AreSmall l.at;
-  long : AreAsLong (levels_of l.out) (levels_of l.initial.out);
+      (levels_of l.fn.out) l.i l.at (levels_of l.out);
   same_slices : AreSameSlices l.initial.out l.out;
 }

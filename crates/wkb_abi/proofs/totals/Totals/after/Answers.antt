@@ -3,6 +3,4 @@ use Rattle.wkb_abi.proofs.totals.Totals.after.Goals as goal
 
 pub returns-in-Some : goal.returns-in-Some
 returns-in-Some c = λ g.
-    let sums = c.and.ensures in
-    let row = c.in-Some.ensures.totals c.args.row.now c.requires.found c.requires.first g in
-    totals_and c.args.self row sums.coordinates sums.rings sums.singles
+    totals_and c.args.self (c.in-Some.ensures.totals c.args.row.now c.requires.found c.requires.first g) c.and.ensures

@@ -1,14 +1,14 @@
-use Rattle.wkb_abi.proofs.Common.{◌-◌, HasGeometry, subjects}
-use Rattle.std.specs.Prelude.{◌≡◌, ◌≤◌, length}
-use Rattle.wkb_abi.proofs.Levels.{Coming, TotalsLeft}
+use Rattle.wkb_abi.proofs.Common.{HasGeometry, subjects}
+use Rattle.std.specs.Prelude.{◌≡◌}
+use Rattle.wkb_check.specs.Pieces.{bytes_left}
+use Rattle.wkb_abi.specs.Coordinates.{totals_after}
+use Rattle.wkb_abi.proofs.Levels.{Coming, totals_behind}
 use Rattle.wkb_abi.proofs.totals.Totals.after_walk.Given as goal
 
 abbrev pub invariant-loop-piece : goal.invariant-loop-piece
-invariant-loop-piece l = record {
-  left : (g : HasGeometry l.row) → Coming l.pieces (TotalsLeft l.row l.fn.self (subjects g.spelled g.value) l.to);
-  same : l.pieces.bytes.now ≡ l.row;
-  inside : l.pieces.at ≤ length l.row;
-}
+invariant-loop-piece l =
+    (g : HasGeometry l.row)
+    → Coming l.pieces (λ ps. totals_behind l.to ps ≡ totals_after l.fn.self (subjects g.spelled g.value))
 
 abbrev pub decreases-loop-piece : goal.decreases-loop-piece
-decreases-loop-piece l = length l.row - l.pieces.at
+decreases-loop-piece l = bytes_left l.pieces
