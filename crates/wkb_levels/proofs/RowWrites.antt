@@ -1,4 +1,4 @@
--- What was told of a row, from what its writer and its size returned.
+-- What became of a row, from what its writer and its size returned.
 use Rattle.std.proofs.Common.{◌≡◌, ℕ, ◌<◌, ◌++◌, List, None, length, drop, refl, sym, ap, ◌∙◌, inl, inr}
 use Rattle.std.proofs.lemmas.Option.{none-some, same_Some}
 use Rattle.wkb_geom.specs.declared.common.Dimensions.{Dimensions}

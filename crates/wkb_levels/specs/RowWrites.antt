@@ -18,12 +18,12 @@ pub record HasRowEncoding (l : Levels) (kind : Kind) (d : Dimensions) (o : Write
   pub writable : fault_of o geometry ≡ None
   pub is : bytes ≡ encoding_of o geometry
 
--- what was told of row i, and what became of the bytes
+-- what became of row i, and of the bytes
 pub data IsRowWrite (l : Levels) (kind : Kind) (d : Dimensions) (o : WriteOptions) (i : ℕ) (before after : List ℕ)
-    (told : Written) : Type 0 where
-  put : (bytes : List ℕ) → HasRowEncoding l kind d o i bytes → told ≡ written.Whole (length bytes)
-      → after ≡ bytes ++ drop (length bytes) before → IsRowWrite l kind d o i before after told
-  lacks : (bytes : List ℕ) → HasRowEncoding l kind d o i bytes → told ≡ written.LacksRoom (length bytes)
-      → length before < length bytes → after ≡ before → IsRowWrite l kind d o i before after told
-  unfit : ((bytes : List ℕ) → HasRowEncoding l kind d o i bytes → ⊥) → told ≡ written.Unfit → after ≡ before
-      → IsRowWrite l kind d o i before after told
+    (outcome : Written) : Type 0 where
+  put : (bytes : List ℕ) → HasRowEncoding l kind d o i bytes → outcome ≡ written.Whole (length bytes)
+      → after ≡ bytes ++ drop (length bytes) before → IsRowWrite l kind d o i before after outcome
+  lacks : (bytes : List ℕ) → HasRowEncoding l kind d o i bytes → outcome ≡ written.LacksRoom (length bytes)
+      → length before < length bytes → after ≡ before → IsRowWrite l kind d o i before after outcome
+  unfit : ((bytes : List ℕ) → HasRowEncoding l kind d o i bytes → ⊥) → outcome ≡ written.Unfit → after ≡ before
+      → IsRowWrite l kind d o i before after outcome

@@ -26,8 +26,8 @@ counted_of whole (Err (read_errors.Cause cause)) old new h =
     record { turns = omega arith; slots = omega arith }
 counted_of whole (Err read_errors.Memory) old new h = h
 
-pub count_bounded : (buf : List ℕ) (r : Result Wkb ReadError) (new : Counts) → ReadsAs (reading_of buf) r zero_counts new
-    → (4 * new.turns ≤ length buf + 4) × (new.slots ≤ 15 * length buf)
+pub count_bounded : (buf : List ℕ) (r : Result Wkb ReadError) (new : Counts)
+    → ReadsAs (reading_of buf) r zero_counts new → (4 * new.turns ≤ length buf + 4) × (new.slots ≤ 15 * length buf)
 count_bounded buf r new h = grind (arith, reading_is_bounded_lem, counted_of)
 
 -- ---- a geometry that was read is at the start
@@ -62,15 +62,15 @@ is_read buf w new h = read_by buf (reading_of buf) (geometry_agrees_lem buf) w h
 
 -- ---- a refusal, and its error
 
-pub record IsTold (buf : List ℕ) (e : WkbError) (new : Counts) : Type 0 where
+pub record IsRefusedWith (buf : List ℕ) (e : WkbError) (new : Counts) : Type 0 where
   pub refusal : IsRefusal buf e
   pub one_cause : TellsEach buf e
   pub no_front : HasNoFront buf
   pub counts : CountsRefusal buf new
 
-told : (buf : List ℕ) (e : WkbError) (cause : Cause) (new : Counts)
-    → Refuses max_nesting any buf cause new.turns new.slots → Tells e cause → IsTold buf e new
-told buf e cause new refuses tells = record {
+of_cause : (buf : List ℕ) (e : WkbError) (cause : Cause) (new : Counts)
+    → Refuses max_nesting any buf cause new.turns new.slots → Tells e cause → IsRefusedWith buf e new
+of_cause buf e cause new refuses tells = record {
   refusal = record { cause = cause; turns = new.turns; slots = new.slots; refuses = refuses; tells = tells };
   one_cause =
       λ other turns slots q. subst (Tells e)
@@ -93,13 +93,13 @@ refused_by buf (c, Err e) h cause new is spent =
     rw (← same, ← turns, ← slots) h
 
 -- what holds of each error of the refusal holds of the result
-if_told : (P : WkbError → Type 0) (buf : List ℕ) (e : WkbError) (error : ReadError) (new : Counts)
-    → Stops error (reading_of buf) zero_counts new → TellsReadError e error → (IsTold buf e new → P e)
+if_refused : (P : WkbError → Type 0) (buf : List ℕ) (e : WkbError) (error : ReadError) (new : Counts)
+    → Stops error (reading_of buf) zero_counts new → TellsReadError e error → (IsRefusedWith buf e new → P e)
     → IfRefused (Err e) P
-if_told P buf (errors.Memory x) error new h tells step = tt
-if_told P buf e (read_errors.Cause cause) new h tells step =
-    step (told buf e cause new (refused_by buf (reading_of buf) (geometry_agrees_lem buf) cause new h.0 h.1) tells)
-if_told P buf e read_errors.Memory new h tells step = absurd tells
+if_refused P buf (errors.Memory x) error new h tells step = tt
+if_refused P buf e (read_errors.Cause cause) new h tells step =
+    step (of_cause buf e cause new (refused_by buf (reading_of buf) (geometry_agrees_lem buf) cause new h.0 h.1) tells)
+if_refused P buf e read_errors.Memory new h tells step = absurd tells
 
 -- ---- an allocation failure
 
@@ -140,9 +140,9 @@ module _ (buf : List ℕ) (e : WkbError) (error : ReadError) (new : Counts)
     seen = tt;
     normal = tt;
     writable = tt;
-    refusal = if_told (IsRefusal buf) buf e error new stops tells (λ t. t.refusal);
-    one_cause = if_told (TellsEach buf) buf e error new stops tells (λ t. t.one_cause);
-    no_front = if_told (λ e. HasNoFront buf) buf e error new stops tells (λ t. t.no_front);
+    refusal = if_refused (IsRefusal buf) buf e error new stops tells (λ t. t.refusal);
+    one_cause = if_refused (TellsEach buf) buf e error new stops tells (λ t. t.one_cause);
+    no_front = if_refused (λ e. HasNoFront buf) buf e error new stops tells (λ t. t.no_front);
     no_memory = λ takes. is_not_memory e error tells (none takes);
   }
 
@@ -151,7 +151,7 @@ module _ (buf : List ℕ) (e : WkbError) (error : ReadError) (new : Counts)
       let bound = count_bounded buf (Err error) new stops in
       record {
         counts = tt;
-        refusal_counts = if_told (λ e. CountsRefusal buf new) buf e error new stops tells (λ t. t.counts);
+        refusal_counts = if_refused (λ e. CountsRefusal buf new) buf e error new stops tells (λ t. t.counts);
         memory_counts = memory_counted buf e error new stops;
         turns_bounded = bound.0;
         slots_bounded = bound.1;

@@ -122,7 +122,7 @@ fn sizes_of_rings(rt: HostRuntime) -> Result<(), Fail> {
 }
 
 /// The size that a geometry tells of itself.
-fn size_told(alloc: Global, text: &str) -> Result<Option<usize>, Fail> {
+fn size_found(alloc: Global, text: &str) -> Result<Option<usize>, Fail> {
     let input = bytes(text)?;
     Ok(read(alloc, input.as_slice())?.byte_size())
 }
@@ -131,15 +131,15 @@ fn size_told(alloc: Global, text: &str) -> Result<Option<usize>, Fail> {
 #[test]
 fn sizes_of_geometries(rt: HostRuntime) -> Result<(), Fail> {
     let alloc = rt.alloc();
-    assert_eq!(rt; size_told(alloc, "01 01000020 e6100000 P")?, Some(21));
+    assert_eq!(rt; size_found(alloc, "01 01000020 e6100000 P")?, Some(21));
     assert_eq!(rt;
-        size_told(alloc, "01 04000000 01000000 01 01000000 P")?,
+        size_found(alloc, "01 04000000 01000000 01 01000000 P")?,
         Some(30)
     );
     let two_members = "01 07000020 e6100000 02000000 01 01000000 P 01 07000000 00000000";
-    assert_eq!(rt; size_told(alloc, two_members)?, Some(39));
+    assert_eq!(rt; size_found(alloc, two_members)?, Some(39));
     let srid_inside = "01 07000000 01000000 01 07000000 01000000 01 01000020 e6100000 P";
-    assert_eq!(rt; size_told(alloc, srid_inside)?, None);
-    assert_eq!(rt; size_told(alloc, MULTI_LINE_TWO)?, None);
+    assert_eq!(rt; size_found(alloc, srid_inside)?, None);
+    assert_eq!(rt; size_found(alloc, MULTI_LINE_TWO)?, None);
     Ok(())
 }

@@ -43,11 +43,11 @@ module _ {X : Type 0} (f : X → Geometry) where
 
   module _ (d : Dimensions) (xs : List X) where
     -- the encoding of a collection of these members, by the dimension that its header tells
-    told : {named : Dimension} {own : Form} (order : Endianness) (form : Form) → named ≡ written_dimension d
+    members_encoded : {named : Dimension} {own : Form} (order : Endianness) (form : Form) → named ≡ written_dimension d
         → inner form ≡ own → encoding order form (collection_of f d xs)
         ≡ header_encoding order form 7 named ++ counted order (λ x. encoding order own (f x)) xs
     unfolding members_encoding counted
-    told order form name same =
+    members_encoded order form name same =
         rw (count-geometries xs, encodings-geometries order (inner form) xs, ← name, ← same) refl
 
     -- its header and its count were laid, and with these all of it where it has no member; or they were cut
@@ -57,16 +57,16 @@ module _ {X : Type 0} (f : X → Geometry) where
           → IsLaid a b (header_encoding order form 7 named ++ number_bytes order 4 (length xs))
           → HasLaid a b (encoding order form (collection_of f d xs)) (member_encoding f order has_flags) xs 0
       unfolding member_encoding
-      collection_begun has_flags same p = head_laid order _ (told order form name same) refl p
+      collection_begun has_flags same p = head_laid order _ (members_encoded order form name same) refl p
 
       pub collection_empty : length xs ≡ 0
           → IsLaid a b (header_encoding order form 7 named ++ number_bytes order 4 (length xs))
           → IsLaid a b (encoding order form (collection_of f d xs))
-      collection_empty none p = all_laid (head_laid order _ (told order form name refl) refl p) (omega arith)
+      collection_empty none p = all_laid (head_laid order _ (members_encoded order form name refl) refl p) (omega arith)
 
       pub collection_cut : IsCut a b (header_encoding order form 7 named ++ number_bytes order 4 (length xs))
           → IsCut a b (encoding order form (collection_of f d xs))
-      collection_cut p = head_cut order _ _ xs (told order form name refl) refl p
+      collection_cut p = head_cut order _ _ xs (members_encoded order form name refl) refl p
 
     -- a collection without a fault has a count that four bytes hold
     pub collection_count : fault (collection_of f d xs) ≡ None → length xs < 2 ^ 32
@@ -84,13 +84,13 @@ module _ {X : Type 0} (f : X → Geometry) where
     pub dimensions_refused : {r : Result ℕ Fault} (before : ℕ) (e : Fault) → r ≡ Err e → Finds e (dimensions_fault d)
         → IsAdded before (collection_of f d xs) r
     unfolding IsAdded
-    dimensions_refused before e exit told = rw exit (reports_first e _ _ told)
+    dimensions_refused before e exit finds = rw exit (reports_first e _ _ finds)
 
     pub count_refused : {n : ℕ} {r : Result ℕ Fault} (before : ℕ) (e : Fault) → r ≡ Err e → dimensions_fault d ≡ None
         → n ≡ length xs → Finds e (count_fault n) → IsAdded before (collection_of f d xs) r
     unfolding IsAdded
-    count_refused before e exit supported is told =
-        rw exit (reports_rest e _ _ supported (rw (count-geometries xs, ← is) (reports_first e _ _ told)))
+    count_refused before e exit supported is finds =
+        rw exit (reports_rest e _ _ supported (rw (count-geometries xs, ← is) (reports_first e _ _ finds)))
 
     -- its members are measured as parts, after what is before it
     pub members_ahead : {n : ℕ} (before total : ℕ) → dimensions_fault d ≡ None

@@ -26,19 +26,19 @@ pub ruleset ring_laws = (length-none_first, length-some_first, some_below)
 pub record ItemAt {X : Type 0} (xs : List X) (i : ℕ) (P : X → Type 0) : Type 0 where
   pub item : X
   pub rest : drop i xs ≡ item ∷ drop (i + 1) xs
-  pub told : P item
+  pub holds : P item
 
 -- as a clause says it
 pub item_at : {X : Type 0} {P : X → Type 0} (xs : List X) (i : ℕ) → i < length xs → IfSome (slice_get xs i) P
     → ItemAt xs i P
-item_at [] i within told = absurd (omega arith)
-item_at (x ∷ xs) zero within told = record { item = x; rest = refl; told = told }
-item_at (x ∷ xs) (suc i) within told =
-    let next = item_at xs i (omega arith) told in
-    record { item = next.item; rest = rw add-one (rw add-one at next.rest); told = next.told }
+item_at [] i within holds = absurd (omega arith)
+item_at (x ∷ xs) zero within holds = record { item = x; rest = refl; holds = holds }
+item_at (x ∷ xs) (suc i) within holds =
+    let next = item_at xs i (omega arith) holds in
+    record { item = next.item; rest = rw add-one (rw add-one at next.rest); holds = next.holds }
 
 -- as a loop reads it
 pub item_read : {X : Type 0} {P : X → Type 0} {j : ℕ} (xs : List X) (i : ℕ) (x : X) → x ≡ get_or xs j x → j ≡ i
     → i < length xs → P x → ItemAt xs i P
-item_read xs i x is here within told =
-    item_at xs i within (rw (slice_get_read xs (length xs) i x refl within (rw here at is)) told)
+item_read xs i x is here within holds =
+    item_at xs i within (rw (slice_get_read xs (length xs) i x refl within (rw here at is)) holds)

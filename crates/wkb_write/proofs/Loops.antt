@@ -77,12 +77,12 @@ module _ {X : Type 0} {a b : Progress} {whole : List ℕ} {f : X → List ℕ} {
   next_laid at = record {
     front = laid.front ++ f at.item;
     is = laid.is ∙ rw (at.rest, append_assoc) refl;
-    laid = laid_then laid.laid at.told;
+    laid = laid_then laid.laid at.holds;
   }
 
   -- or cut, and then the whole was
   pub next_cut : {c : Progress} → ItemAt xs i (λ x. IsCut b c (f x)) → IsCut a c whole
-  next_cut at = rw (laid.is, at.rest) (cut_then laid.laid (cut_first _ at.told))
+  next_cut at = rw (laid.is, at.rest) (cut_then laid.laid (cut_first _ at.holds))
 
   -- the same of an item as a loop reads it
   module _ (c : Progress) {j : ℕ} (x : X) (is : x ≡ get_or xs j x) (here : j ≡ i) where

@@ -43,8 +43,8 @@ no_room_for options g e r is short fits lawful none many =
     exits e r is (no_room _ short (omega (arith, many, long, size_of_parts g none)))
 
 -- a fault is what the size rejects
-pub size_refused : {read told : Result ℕ Fault} (e : Fault) (form : Form) (g : Geometry) (r : Result ℕ Fault)
-    → IsErrAnd r (λ y. y ≡ e) → IsMeasured g told → read ≡ told → read ≡ Err e → IsSized form g r
+pub size_refused : {read given : Result ℕ Fault} (e : Fault) (form : Form) (g : Geometry) (r : Result ℕ Fault)
+    → IsErrAnd r (λ y. y ≡ e) → IsMeasured g given → read ≡ given → read ≡ Err e → IsSized form g r
 unfolding IsMeasured
 size_refused e form g r exit measured same was = λ order.
     let p = err_from_is_err_and r exit in
@@ -52,14 +52,14 @@ size_refused e form g r exit measured same was = λ order.
     rw p.1 (subst P (sym p.2) (reports_first e (fault g) _ (rw (sym same ∙ was) at measured)))
 
 -- the size that was measured, with that of the header, is that of the encoding, or past `usize`
-module _ {s : ℕ} {read told : Result ℕ Fault} (form : Form) (g : Geometry) (srid_fits : IsForm form)
-    (lawful : IsGeometry g) (measured : IsMeasured g told) (same : read ≡ told) (was : read ≡ Ok s) where
+module _ {s : ℕ} {read given : Result ℕ Fault} (form : Form) (g : Geometry) (srid_fits : IsForm form)
+    (lawful : IsGeometry g) (measured : IsMeasured g given) (same : read ≡ given) (was : read ≡ Ok s) where
   m : Measures (fault g) (bytes_behind_header g) (Ok s)
   unfolding IsMeasured
   m = rw (sym same ∙ was) at measured
 
-  pub size_told : (total : ℕ) → total ≡ s + header_size form → total < 2 ^ 64 → IsSized form g (Ok total)
-  size_told total sum fits = λ order.
+  pub size_measured : (total : ℕ) → total ≡ s + header_size form → total < 2 ^ 64 → IsSized form g (Ok total)
+  size_measured total sum fits = λ order.
       let whole = measured_length order form g srid_fits lawful m.0 in
       let exact : total ≡ length (encoding order form g) = omega (arith, m.1, sum, fits, whole, header_within g) in
       (none_both (fault g) _ m.0 (size_without_fault _ (subst (λ n. n < 2 ^ 64) exact fits)), exact)
@@ -74,5 +74,5 @@ pub ruleset size_laws = (size_refused, size_past)
 -- the error reports the fault that was found
 pub size_answered : (form : Form) (g : Geometry) (f : Fault) (r : Result ℕ WkbError) → IsErrAnd r (λ e. TellsFault e f)
     → IsSized form g (Err f) → IsSizeOf form g r
-size_answered form g f (Err e) tells size = λ order. record { fault = f; is = (size order).is; told = tells }
+size_answered form g f (Err e) tells size = λ order. record { fault = f; is = (size order).is; tells = tells }
 size_answered form g f (Ok n) tells size = absurd tells

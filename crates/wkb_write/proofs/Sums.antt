@@ -26,7 +26,7 @@ parts_ahead header part xs is counted = record { fault = rw (← is, counted) re
 pub count_found : {X : Type 0} (part : X → Measure) (xs : List X) (n : ℕ) (e : Fault) → n ≡ length xs
     → Finds e (count_fault n) → Finds e (parts_fault part xs)
 unfolding parts_fault
-count_found part xs n e is told = reports_first e _ _ (subst (λ k. Finds e (count_fault k)) is told)
+count_found part xs n e is finds = reports_first e _ _ (subst (λ k. Finds e (count_fault k)) is finds)
 
 -- the bytes that all parts begin with fit `usize`
 pub headers_fit : (header n : ℕ) → header < 2 ^ 8 → count_fault n ≡ None → 4 + header * n < 2 ^ 64
@@ -38,7 +38,7 @@ module _ {X : Type 0} {part : X → Measure} {whole : Measure} {total : ℕ} {xs
     (ahead : Ahead part whole total xs i) where
   found : (e : Fault) → ItemAt xs i (λ x. Finds e (part x).fault) → Finds e whole.fault
   unfolding first_fault
-  found e at = rw (ahead.fault, at.rest) (reports_first e _ _ at.told)
+  found e at = rw (ahead.fault, at.rest) (reports_first e _ _ at.holds)
 
   -- one more part
   pub part_step : {n sum : ℕ} → ItemAt xs i (λ x. Measures (part x).fault (part x).size (Ok n))
@@ -47,8 +47,8 @@ module _ {X : Type 0} {part : X → Measure} {whole : Measure} {total : ℕ} {xs
   part_step at more =
       let sizes = sum_by-cons (λ x. (part x).size) at.item (drop (i + 1) xs) in
       record {
-        fault = rw (at.rest, at.told.0) at ahead.fault;
-        size = omega (arith, rw at.rest at ahead.size, sizes, at.told.1, more);
+        fault = rw (at.rest, at.holds.0) at ahead.fault;
+        size = omega (arith, rw at.rest at ahead.size, sizes, at.holds.1, more);
       }
 
   -- what was measured of a part is a fault
@@ -66,7 +66,7 @@ module _ {X : Type 0} {part : X → Measure} {whole : Measure} {total : ℕ} {xs
   last_part (Ok m) at end =
       let one = at.rest ∙ ap (λ l. at.item ∷ l) (drop_all (i + 1) xs end) in
       let sizes = sum_by-cons (λ x. (part x).size) at.item [] in
-      (rw (one, at.told.0) at ahead.fault, omega (arith, rw one at ahead.size, sizes, at.told.1))
+      (rw (one, at.holds.0) at ahead.fault, omega (arith, rw one at ahead.size, sizes, at.holds.1))
   last_part (Err e) at end = found e at
 
   -- all parts

@@ -35,12 +35,12 @@ named_words d none = omega (arith, width-written_dimension d none, supported_at_
 pub ruleset width_laws = (width-least, width_most, named_words)
 
 -- so its coordinates can be laid
-pub has_width : {d of : Dimensions} {told : Dimension} {words : ℕ} → told ≡ written_dimension d → of ≡ d
-    → dimensions_fault d ≡ None → words ≡ width told → FitsCoordinate of words
-has_width {d = d} {told = told} name same none is =
+pub has_width : {d of : Dimensions} {named : Dimension} {words : ℕ} → named ≡ written_dimension d → of ≡ d
+    → dimensions_fault d ≡ None → words ≡ width named → FitsCoordinate of words
+has_width {d = d} {named = named} name same none is =
     let wide = is ∙ ap width name ∙ width-written_dimension d none in
     record {
       is = wide ∙ ap size (sym same);
-      least = omega (arith, is, width-least told);
-      most = omega (arith, is, width_most told);
+      least = omega (arith, is, width-least named);
+      most = omega (arith, is, width_most named);
     }

@@ -124,7 +124,7 @@ whole_measured g dims (Err e) is supported h =
 
 pub whole_unsupported : (g : Geometry) (dims : Dimensions) (e : Fault) → dims ≡ dimensions_of g
     → Finds e (dimensions_fault dims) → Finds e (fault g)
-whole_unsupported g dims e is told =
-    subst (Finds e) (sym (fault_by_body g)) (reports_first e _ _ (subst (λ d. Finds e (dimensions_fault d)) is told))
+whole_unsupported g dims e is finds =
+    subst (Finds e) (sym (fault_by_body g)) (reports_first e _ _ (subst (λ d. Finds e (dimensions_fault d)) is finds))
 
 pub ruleset header_laws = (whole_measured, whole_unsupported)

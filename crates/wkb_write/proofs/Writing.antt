@@ -79,17 +79,17 @@ pub ruleset put_laws = (puts_behind, puts_nothing)
 
 is_io : (e : WkbError) (failure : Option Error) → TellsFailure e failure → IsIOError e
 is_io e (Some own) is = rw is tt
-is_io (errors.IOError e) None told = tt
-is_io _ None told = absurd told
+is_io (errors.IOError e) None tells = tt
+is_io _ None tells = absurd tells
 
 -- what a writer returns of what was put
-told : (old new : Option (List ℕ)) (failed : Bool) (fails_by : Option Error → Type 0) (bytes : List ℕ)
+returned : (old new : Option (List ℕ)) (failed : Bool) (fails_by : Option Error → Type 0) (bytes : List ℕ)
     (put : Result (Unit {0}) (Option Error)) (r : Result (Unit {0}) WkbError)
     → PutsOrStops old new failed fails_by bytes put
     → TellsPut put r → Puts old new failed bytes r × IfErr r (IsOwnError fails_by)
-told old new failed fails_by bytes (Ok u) r puts is = rw is (puts, tt)
-told old new failed fails_by bytes (Err failure) (Ok u) puts never = absurd never
-told old new failed fails_by bytes (Err failure) (Err e) puts tells =
+returned old new failed fails_by bytes (Ok u) r puts is = rw is (puts, tt)
+returned old new failed fails_by bytes (Err failure) (Ok u) puts never = absurd never
+returned old new failed fails_by bytes (Err failure) (Err e) puts tells =
     ((is_io e failure tells, puts.0, puts.1), (failure, puts.2, tells))
 
 module _ {o : WriteOptions} {g : Geometry} {untouched : Type 0} {old new : Option (List ℕ)} {failed : Bool}
@@ -112,7 +112,7 @@ module _ {o : WriteOptions} {g : Geometry} {untouched : Type 0} {old new : Optio
       → IsGeometry g → IsForm o.form → PutsOrStops old new failed fails_by (encoding_of o g) put → TellsPut put r
       → Writes o g r untouched old new failed fails_by
   put_writes {r} put none lawful fits puts is =
-      let result = told old new failed fails_by (encoding_of o g) put r puts is in
+      let result = returned old new failed fails_by (encoding_of o g) put r puts is in
       record {
         refused = λ f some. absurd (cc);
         written = λ _. result.0;

@@ -23,7 +23,7 @@ result_of measured.Size = Err fault.Size
 pub record Reports (e : WkbError) (f : Option Fault) : Type 0 where
   pub fault : Fault
   pub is : f ≡ Some fault
-  pub told : TellsFault e fault
+  pub tells : TellsFault e fault
 
 -- what was found is the fault
 pub record Finds (e : Fault) (f : Option Fault) : Type 0 where

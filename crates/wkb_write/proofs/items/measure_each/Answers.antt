@@ -22,5 +22,5 @@ loop-i-preserved g c =
     let here = item_at _ c.loop-i.i (omega (arith, c.in-Some.ensures.1, c.count.ensures)) c.in-Bytes.ensures in
     record {
       ahead = part_step c.loop-i.invariant.ahead here refl;
-      fits = omega (arith, c.loop-i.invariant.fits, here.told.1);
+      fits = omega (arith, c.loop-i.invariant.fits, here.holds.1);
     }
