@@ -17,7 +17,8 @@ some_input (Some x) = (x, refl)
 
 -- ---- what was written
 
-begins : {old new : Option (List ℕ)} {rest text : List ℕ} → (h : WroteUpTo old new rest text) → StartsWith text h.written
+begins : {old new : Option (List ℕ)} {rest text : List ℕ} → (h : WroteUpTo old new rest text)
+    → StartsWith text h.written
 begins {rest = rest} h = rw (← h.parts) (take-append_seam h.written rest)
 
 pub ends_whole : {old new : Option (List ℕ)} (rest line : List ℕ) (IsDue : List ℕ → ℕ → Type 0) (status : ℕ)
@@ -55,4 +56,8 @@ pub ends_of : (old new : Option (List ℕ)) (r : Result Report AllocError) (IsDu
     → RunEnds old new (IsLineOf r) status → IfOk r (λ report. IsDue (line_of report.output) report.status)
     → RunEnds old new IsDue status
 ends_of old new r IsDue status ends h =
-    record { written = ends.written; appended = ends.appended; ends = outcome_of r IsDue status ends.written h ends.ends }
+    record {
+      written = ends.written;
+      appended = ends.appended;
+      ends = outcome_of r IsDue status ends.written h ends.ends;
+    }

@@ -18,7 +18,11 @@ pub wrote_once : {E : Type 0} (old new : Option (List ℕ)) (r : Result ℕ E) (
 wrote_once old new (Ok n) count text is p =
     record { written = take n text; appended = p; parts = rw is (grind (arith, common_steps)) }
 wrote_once old new (Err e) count text is p =
-    record { written = []; appended = Appends-kept _ _ _ _ (Appends-nil old) p; parts = rw is (grind (arith, common_steps)) }
+    record {
+      written = [];
+      appended = Appends-kept _ _ _ _ (Appends-nil old) p;
+      parts = rw is (grind (arith, common_steps));
+    }
 
 pub taken_fits : {E : Type 0} (r : Result ℕ E) (bytes : List ℕ) → WritesAtMost r bytes
     → result_unwrap_or r 0 ≤ length bytes

@@ -152,7 +152,7 @@ fn failure_report(alloc: Global, failure: HexFault) -> Result<Report, AllocError
     }
 }
 
-#[tactic(auto, using(crate::proofs::Told::report_laws))]
+#[tactic(auto, using(crate::proofs::Reports::report_laws))]
 fn rewriting_report(alloc: Global, order: Endianness, text: &str) -> Result<Report, AllocError>
     ensures { IfOk result (IsReportOn (Command.Rewrite order) text.now) }
 {
@@ -169,7 +169,7 @@ fn rewriting_report(alloc: Global, order: Endianness, text: &str) -> Result<Repo
     }
 }
 
-#[tactic(auto, using(crate::proofs::Told::report_laws))]
+#[tactic(auto, using(crate::proofs::Reports::report_laws))]
 fn rewriting_with_srid_report(
     alloc: Global,
     order: Endianness,
@@ -197,7 +197,7 @@ fn two_lines(text: &str) -> Option<(&str, &str)>
     Some((first, second))
 }
 
-#[tactic(auto, using(crate::proofs::Told::comparison_laws))]
+#[tactic(auto, using(crate::proofs::Reports::comparison_laws))]
 fn comparison_report(alloc: Global, text: &str) -> Result<Report, AllocError>
     ensures { IfOk result (IsReportOn Command.Same text.now) }
 {
@@ -229,7 +229,7 @@ fn cost_report(alloc: Global, text: &str) -> Result<Report, AllocError>
     }
 }
 
-#[tactic(auto, using(crate::proofs::Told::counts_line))]
+#[tactic(auto, using(crate::proofs::Reports::counts_line))]
 fn counts_report(
     alloc: Global,
     verdict: &str,
@@ -246,7 +246,7 @@ fn counts_report(
     })
 }
 
-#[tactic(auto, using(crate::proofs::Told::report_laws))]
+#[tactic(auto, using(crate::proofs::Reports::report_laws))]
 fn srid_report(alloc: Global, text: &str) -> Result<Report, AllocError>
     ensures { IfOk result (IsReportOn Command.Srid text.now) }
 {

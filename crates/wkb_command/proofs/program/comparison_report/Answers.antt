@@ -1,4 +1,4 @@
-use Rattle.wkb_command.proofs.Told.{fails_two}
+use Rattle.wkb_command.proofs.Reports.{fails_two}
 use Rattle.wkb_command.proofs.program.comparison_report.Goals as goal
 
 pub returns-in_default : goal.returns-in_default

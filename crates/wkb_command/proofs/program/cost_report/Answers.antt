@@ -1,5 +1,5 @@
 use Rattle.wkb_command.specs.declared.program.Command.TheVariants.{Cost}
-use Rattle.wkb_command.proofs.Told.{fails_one, reports_line, says_accepted, says_counted}
+use Rattle.wkb_command.proofs.Reports.{fails_one, reports_line, says_accepted, says_counted}
 use Rattle.wkb_command.proofs.program.cost_report.Goals as goal
 
 pub returns-in-Err : goal.returns-in-Err

@@ -1,5 +1,5 @@
 use Rattle.std.proofs.Common.{refl}
-use Rattle.wkb_command.proofs.Told.{tells_text}
+use Rattle.wkb_command.proofs.Reports.{tells_text}
 use Rattle.wkb_command.proofs.program.error_report.Goals as goal
 
 pub returns : goal.returns

@@ -1,7 +1,7 @@
 use Rattle.wkb_geom.specs.declared.common.Form.TheVariants.{Iso}
 use Rattle.wkb.specs.Canonical.{IsRefusedUnder}
 use Rattle.wkb_command.specs.declared.program.Command.TheVariants.{Rewrite}
-use Rattle.wkb_command.proofs.Told.{fails_one, iso_refusal}
+use Rattle.wkb_command.proofs.Reports.{fails_one, iso_refusal}
 use Rattle.wkb_command.proofs.program.rewriting_report.Goals as goal
 
 pub returns-in-Err : goal.returns-in-Err

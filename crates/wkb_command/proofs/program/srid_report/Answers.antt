@@ -1,6 +1,6 @@
 use Rattle.wkb.specs.Reads.{IsRefusal}
 use Rattle.wkb_command.specs.declared.program.Command.TheVariants.{Srid}
-use Rattle.wkb_command.proofs.Told.{fails_one}
+use Rattle.wkb_command.proofs.Reports.{fails_one}
 use Rattle.wkb_command.proofs.program.srid_report.Goals as goal
 
 pub returns-in-Err : goal.returns-in-Err

@@ -1,5 +1,5 @@
 use Rattle.wkb_command.specs.Program.{not_hex}
-use Rattle.wkb_command.proofs.Told.{reports_line}
+use Rattle.wkb_command.proofs.Reports.{reports_line}
 use Rattle.wkb_command.proofs.program.Report.not_hex.Goals as goal
 
 pub returns : goal.returns

@@ -50,7 +50,7 @@ pub fails_one : (command : Command) (text : List ℕ) (IsRight : List ℕ → Wk
     → FailsOn text IsRight failure → IsFailureOn command text failure
 fails_one command text IsRight NotHex ne f h = λ inputs spelled. h (one_hex command text inputs ne spelled)
 fails_one command text IsRight (Wkb e) ne f h =
-    let refusal = f h.0 e h.2 in λ line told. said (one ne h.1) (refused refusal.0 refusal.1 told)
+    let refusal = f h.0 e h.2 in λ line tells. said (one ne h.1) (refused refusal.0 refusal.1 tells)
 fails_one command text IsRight Memory ne f h = tt
 
 -- without an SRID no rewriting is too long
@@ -61,20 +61,20 @@ iso_refusal order bytes e (inr h) = absurd (iso_fits order bytes h.0)
 
 says_pair : (a b line : List ℕ) (e : WkbError) → IsPairRefusal a b e → TellsError e line
     → Says Same (a ∷ b ∷ []) line 1
-says_pair a b line e (inl h) told = refused (λ is. cc) h told
-says_pair a b line e (inr h) told = second_refused h.0 h.1 told
+says_pair a b line e (inl h) tells = refused (λ is. cc) h tells
+says_pair a b line e (inr h) tells = second_refused h.0 h.1 tells
 
 pub fails_two : (text first second : List ℕ) (failure : HexFault) → IsCut text first second
     → FailsOnTwo first second IsPairRefusal failure → IsFailureOn Same text failure
 fails_two text first second NotHex cut h = λ inputs spelled. h (cut.spelled inputs spelled)
 fails_two text first second (Wkb e) cut h =
-    λ line told. rw cut.whole (said (two h.1 h.2.1) (says_pair h.0 h.2.0 line e h.2.2 told))
+    λ line tells. rw cut.whole (said (two h.1 h.2.1) (says_pair h.0 h.2.0 line e h.2.2 tells))
 fails_two text first second Memory cut h = tt
 
 -- ---- answers
 
-pub says_rewritten : (order : Endianness) (text items : List ℕ) → OfHex text (λ bytes. IsRewriting order Iso bytes items)
-    → Replies (Rewrite order) text (hex_line items) 0
+pub says_rewritten : (order : Endianness) (text items : List ℕ)
+    → OfHex text (λ bytes. IsRewriting order Iso bytes items) → Replies (Rewrite order) text (hex_line items) 0
 says_rewritten order text items h = said (one (λ is. cc) h.1) (rewritten h.2)
 
 pub says_rewritten_with_srid : (order : Endianness) (text items : List ℕ)
