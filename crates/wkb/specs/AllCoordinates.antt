@@ -23,7 +23,8 @@ use Rattle.wkb.specs.Coordinates.{HaveOnly}
 -- ---- every coordinate fits the dimension
 
 module _ (dims : Dimensions) where
-  both_fit : (xs ys : List Coordinate) → AreCoordinates dims xs → AreCoordinates dims ys → AreCoordinates dims (xs ++ ys)
+  both_fit : (xs ys : List Coordinate) → AreCoordinates dims xs → AreCoordinates dims ys
+      → AreCoordinates dims (xs ++ ys)
   both_fit [] ys h g = g
   both_fit (x ∷ xs) ys h g = (h.0, both_fit xs ys h.1 g)
 

@@ -67,7 +67,8 @@ pub next_member_stands : (whole : Item) (k n : ℕ) (part : Item)
 next_member_stands whole k n part {lent = lent} {next = next} is member own stands =
     let start = member_start k whole.spelled whole.value in
     let spells = spelled_in_full part.spelled part.value part.encoding own.spells in
-    let long : length lent ≡ _ = ap length own.encoding ∙ size_of_spelled part.spelled part.value part.encoding spells in
+    let long : length lent ≡ _ =
+    ap length own.encoding ∙ size_of_spelled part.spelled part.value part.encoding spells in
     let ends = next_start k whole.spelled whole.value part.spelled part.value member ∙ ap (λ l. start + l) (sym long) in
     subst (λ m. StandsAt m next whole.encoding)
     (ap (λ m. member_start m whole.spelled whole.value) is ∙ ends) stands
@@ -109,8 +110,9 @@ pub ring_word_stands : (p : Listed (List (List Coordinate))) (j i n w : ℕ) (r 
     → number (order_of p.spelled) 8
     (drop (start + ring_start j p.spelled p.dimension p.parts + 4 + 8 * (width p.dimension * i + n)) outer) ≡ w
 ring_word_stands p j i n w r start {outer = outer} own stands ring word =
-    word_stands (order_of p.spelled) p.dimension (ring_seen r) i n w (start + ring_start j p.spelled p.dimension p.parts)
-    ring.spelled (stands_within ring.stands (subst (λ b. StandsAt start b outer) own.encoding stands)) word
+    word_stands (order_of p.spelled) p.dimension (ring_seen r) i n w
+    (start + ring_start j p.spelled p.dimension p.parts) ring.spelled
+    (stands_within ring.stands (subst (λ b. StandsAt start b outer) own.encoding stands)) word
 
 -- ---- where the records of `Laws` have them
 

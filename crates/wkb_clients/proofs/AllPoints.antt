@@ -53,7 +53,8 @@ module _ (options : WriteOptions) (t : Value) (form : IsForm options.form) (fit 
       → fault_of options (points_meant t) ≡ None → ArePoints options t bytes
   are_points bytes is fine =
       let read = encoding_is_read [] options (points_meant t) bytes bytes form
-      (points_lawful (as_dimensions (dimension t)) (coordinates_of t) fit) is fine (sym (append-nil bytes)) (omega arith) in
+      (points_lawful (as_dimensions (dimension t)) (coordinates_of t) fit) is fine (sym (append-nil bytes))
+      (omega arith) in
       let normal_is : normal (points_meant t)
       ≡ multi_point (dimension t) (map (λ c. normal_point (Some c)) (coordinates_of t)) =
       λ i. multi_point (dimension_again (dimension t) i) (normal_points (coordinates_of t) i) in
@@ -64,5 +65,9 @@ module _ (options : WriteOptions) (t : Value) (form : IsForm options.form) (fit 
   want_of_room e (inl memory) = inl memory
   want_of_room e (inr r) =
       let lawful = points_lawful (as_dimensions (dimension t)) (coordinates_of t) fit in
-      let many = refused_points_are_many options (dimension t) (map (λ c. Some c) (coordinates_of t)) r.fault form lawful r.is in
-      inr (record { many = omega (arith, many, length-map (coordinates_of t) (λ (c : Coordinate). Some c)); reports = r })
+      let many =
+      refused_points_are_many options (dimension t) (map (λ c. Some c) (coordinates_of t)) r.fault form lawful r.is in
+      inr (record {
+        many = omega (arith, many, length-map (coordinates_of t) (λ (c : Coordinate). Some c));
+        reports = r;
+      })

@@ -116,7 +116,13 @@ written h w b blob few fits x y iso front bounded is =
     let behind = (number_is_read h.order 4 h.srs 4 blob rest fits (ap (drop 4) is)).2 in
     let e = envelope_written h.order blob b w.value w.encoding h.envelope x y bounded few behind in
     let long : start_behind h.envelope ≤ length (header_bytes h ++ rest) =
-    omega (arith, length-drop (start_behind h.envelope) blob, ap length e.1, ap length is, some_bytes w.encoding w front) in
+    omega (
+      arith,
+      length-drop (start_behind h.envelope) blob,
+      ap length e.1,
+      ap length is,
+      some_bytes w.encoding w front,
+    ) in
     let head = subst (λ l. IsBlobHeader l h) (sym is) (header_is h rest few fits long) in
     holds blob w.encoding h b w head (sym (ap (λ k. drop (start_behind k) blob) (sym head.envelope) ∙ e.1)) iso bounded
     (sym e.0) front

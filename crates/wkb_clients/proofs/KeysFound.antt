@@ -19,7 +19,8 @@ pub one_key_lem : HasOneKey
 unfolding key_of
 one_key_lem a b x y bytes bytes' k l =
     let same =
-    equal_encodings LittleEndian Iso a b k.spelled l.spelled k.value l.value k.rest l.rest tt bytes bytes' k.front l.front in
+    equal_encodings LittleEndian Iso a b k.spelled l.spelled k.value l.value k.rest l.rest tt bytes bytes' k.front
+    l.front in
     (λ e. same.0 (sym k.is ∙ e ∙ l.is), λ e. k.is ∙ same.1 e ∙ sym l.is)
 
 -- a key is read as the value that it was made of

@@ -27,8 +27,9 @@ no_polygon w ms k j m c is other = λ ring h.
     (member_of w ms k m c is) h.is_member))
 
 -- the rings of a member are those of one polygon
-same_rings : (w : Item) (k j : ℕ) (ring : List Coordinate) (s : Spelling) (d : Dimension) (rings : List (List Coordinate))
-    → IsMember k w.spelled w.value s (polygon d rings) → IsRingOf w k j ring → slice_get rings j ≡ Some ring
+same_rings : (w : Item) (k j : ℕ) (ring : List Coordinate) (s : Spelling) (d : Dimension)
+    (rings : List (List Coordinate)) → IsMember k w.spelled w.value s (polygon d rings)
+    → IsRingOf w k j ring → slice_get rings j ≡ Some ring
 same_rings w k j ring s d rings is h =
     ap (λ v. slice_get (rings_of v) j)
     (one_member w k s h.spelled (polygon d rings) (polygon h.of_polygon h.rings) is h.is_member) ∙ h.is

@@ -1,4 +1,4 @@
-//! A word of a ring of a polygon in a collection at an offset in a blob: where in the blob it is, or that there is none.
+//! A word of a ring of a polygon in a collection at an offset in a blob: where in the blob it is, or that it has none.
 
 ghost use Rattle.wkb.specs.Geometries.{IsItemAt};
 ghost use Rattle.wkb.specs.Reads.{ring_seen};

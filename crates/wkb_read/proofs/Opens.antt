@@ -20,8 +20,8 @@ more_slots_is : (c : Cost) (entries : ℕ) → more_slots c entries ≡ c ⊕ sl
 more_slots_is c entries = cost_is _ _ (omega arith) refl
 
 -- the collection's own list is asked for, and its members are read
-pub opens : (l : Layout) (bytes : List ℕ) (depth n : ℕ) (spent : Cost) (rest : List ℕ) (r : Reading Item) → depth < max_nesting
-    → body_start l.has_srid + 4 ≤ length bytes
+pub opens : (l : Layout) (bytes : List ℕ) (depth n : ℕ) (spent : Cost) (rest : List ℕ) (r : Reading Item)
+    → depth < max_nesting → body_start l.has_srid + 4 ≤ length bytes
     → n ≡ number l.order 4 (drop (body_start l.has_srid) bytes) → rest ≡ drop (body_start l.has_srid + 4) bytes
     → r ≡ and_then (repeated n (geometry_inside (suc depth)) rest) (closing l bytes)
     → costs (more_slots spent (entries_asked 9 l bytes)) r ≡ costs spent (collection_inside l depth bytes)

@@ -14,13 +14,13 @@ pub use Rattle.std.proofs.Props.{props}
 pub use Rattle.wkb_geom.specs.declared.common.Endianness.TheVariants.{LittleEndian}
 pub use Rattle.wkb_geom.specs.Reading.{◌⊕◌, slots_of, then_body, cause_of}
 pub use Rattle.wkb_read.specs.Prelude.{WkbType, Endianness, Cause, ReadError, WkbError, Head, Layout, max_nesting}
-pub use Rattle.wkb_read.specs.Prelude.{Geometry, Geometries, geometries, geometry_of, geometries_of, IsGeometry, number}
-pub use Rattle.wkb_read.specs.Prelude.{Item, Cost, free, one_turn, Outcome, Reading, costs, done, list_item}
+pub use Rattle.wkb_read.specs.Prelude.{Geometry, Geometries, geometries, geometry_of, geometries_of, IsGeometry}
+pub use Rattle.wkb_read.specs.Prelude.{number, Item, Cost, free, one_turn, Outcome, Reading, costs, done, list_item}
 pub use Rattle.wkb_read.specs.Prelude.{collection_with, collection_within, layout_of, laid, at_no_cost, and_then}
 pub use Rattle.wkb_read.specs.Prelude.{consumed, body_start, parts_start, type_kind, type_dimension, too_deep, body_at}
-pub use Rattle.wkb_read.specs.Prelude.{values, spellings, Refuses, any, Listed, Tells, TellsReadError, Coordinate, Value}
-pub use Rattle.wkb_read.specs.Prelude.{Values, collection, member_count, listed_count, Counts, HasHead, IsCause, Spent}
-pub use Rattle.wkb_read.specs.Prelude.{AtMost, CanCount, Stops, BytesSpell, count_in, cost_of, nest, nest_each}
+pub use Rattle.wkb_read.specs.Prelude.{values, spellings, Refuses, any, Listed, Tells, TellsReadError, Coordinate}
+pub use Rattle.wkb_read.specs.Prelude.{Value, Values, collection, member_count, listed_count, Counts, HasHead, IsCause}
+pub use Rattle.wkb_read.specs.Prelude.{Spent, AtMost, CanCount, Stops, BytesSpell, count_in, cost_of, nest, nest_each}
 unfoldable pub use Rattle.wkb_read.specs.Prelude.{repeated, head_at, by_type, geometry_at, collection_at}
 pub use Rattle.wkb_laws.specs.Laws.{Agrees}
 pub use Rattle.wkb_laws.proofs.GeometryAt.{geometry_agrees_lem}

@@ -1,11 +1,11 @@
 -- The collections that are open around what is read, and how reading goes on once it is read.
-use Rattle.std.specs.Prelude.{◌≡◌, ℕ, suc, ◌<◌, ◌+◌, ◌-◌, ◌*◌, ◌/◌, ◌≤◌, min, List, [], ◌∷◌, ◌++◌, length, drop, Result}
-use Rattle.std.specs.Prelude.{Ok, Err, Option, Some, None, Vec, reverse}
+use Rattle.std.specs.Prelude.{◌≡◌, ℕ, suc, ◌<◌, ◌+◌, ◌-◌, ◌*◌, ◌/◌, ◌≤◌, min, List, [], ◌∷◌, ◌++◌, length, drop}
+use Rattle.std.specs.Prelude.{Result, Ok, Err, Option, Some, None, Vec, reverse}
 use Rattle.std.specs.Global.{Global}
 use Rattle.std.specs.List.{AllByRecursion}
-use Rattle.wkb_read.specs.Prelude.{ReadError, Layout, max_nesting, number, Item, Reading, costs, one_turn, done, cost_of}
-use Rattle.wkb_read.specs.Prelude.{and_then, repeated, collection_within, body_start, parts_start, geometry_at, Counts}
-use Rattle.wkb_read.specs.Prelude.{HasHead, Spent, Stops, BytesSpell, nest, nest_each, values}
+use Rattle.wkb_read.specs.Prelude.{ReadError, Layout, max_nesting, number, Item, Reading, costs, one_turn, done}
+use Rattle.wkb_read.specs.Prelude.{cost_of, and_then, repeated, collection_within, body_start, parts_start}
+use Rattle.wkb_read.specs.Prelude.{geometry_at, Counts, HasHead, Spent, Stops, BytesSpell, nest, nest_each, values}
 use Rattle.wkb_view.specs.Entries.{entries, capacity}
 use Rattle.wkb_geom.specs.declared.code.WkbType.TheVariants as kinds
 use Rattle.wkb_read.specs.declared.geometry.Wkb.{Wkb}

@@ -7,4 +7,5 @@ returns-in-Some c =
     let p = c.in-Some.polygon.now in
     let o = c.in-Some.ensures in
     let member = polygon_is_member c.args.multi.now c.args.i p o.dimension o.spelled o.part in
-    member_stands (multi_polygon_seen c.args.multi.now) c.args.i (polygon_seen p) member c.buf.ensures c.buf-in-Some.ensures
+    member_stands (multi_polygon_seen c.args.multi.now) c.args.i (polygon_seen p) member c.buf.ensures
+    c.buf-in-Some.ensures

@@ -8,7 +8,8 @@ use Rattle.wkb_clients.proofs.places.round_trip.Goals as goal
 use Rattle.wkb_clients.proofs.places.round_trip.Goals.{After-as_type}
 
 -- what was read is the point that was written
-value : (c : After-as_type) → point Xy (normal_point (Some (place_words c.args.place.now))) ≡ c.in-Ok-read_wkb.geometry.value
+value : (c : After-as_type)
+    → point Xy (normal_point (Some (place_words c.args.place.now))) ≡ c.in-Ok-read_wkb.geometry.value
 value c =
     value_is_read c.new-sink.ensures.bytes c.write_point.ensures c.in-Ok.is (omega arith)
     (c.as_slice.ensures.value ∙ c.into_vec-bytes.ensures) c.in-Ok-read_wkb.ensures.one_front

@@ -1,6 +1,6 @@
 use Rattle.wkb_read.specs.Prelude.read_errors
-use Rattle.wkb_read.proofs.Prelude.{◌≡◌, ◌-◌, ◌∙◌, ap, at_no_cost, refl, sym, subst, rules, Reading, Item, WkbType, CanCount}
-use Rattle.wkb_read.proofs.Prelude.{BeginsAs, geometry_inside, body_at, collection_within, max_nesting}
+use Rattle.wkb_read.proofs.Prelude.{◌≡◌, ◌-◌, ◌∙◌, ap, at_no_cost, refl, sym, subst, rules, Reading, Item, WkbType}
+use Rattle.wkb_read.proofs.Prelude.{CanCount, BeginsAs, geometry_inside, body_at, collection_within, max_nesting}
 use Rattle.wkb_read.proofs.Bodies.{by_header, hands_on, stops_without_header, whole_at_no_cost}
 use Rattle.wkb_view.proofs.Lists.{refused_stops}
 use Rattle.wkb_laws.proofs.GeometryAt.{line_string_free}
@@ -67,8 +67,8 @@ read-requires-in-MultiPoint-clause-fits c =
 pub returns-in_err-multi-in-MultiPoint-clause-begins : goal.returns-in_err-multi-in-MultiPoint-clause-begins
 returns-in_err-multi-in-MultiPoint-clause-begins c =
     let p = (goal.at.returns-in_err-multi-in-MultiPoint-clause-begins c).After-layout-layout in
-    hands_on c.args.depth c.args.bytes.now _ (read_errors.Cause c.in_err-multi-in-MultiPoint.field-0.0) _ c.args.counts.now
-    c.read-in-MultiPoint.new.counts c.from_residual-in_err-multi-in-MultiPoint.ensures.1
+    hands_on c.args.depth c.args.bytes.now _ (read_errors.Cause c.in_err-multi-in-MultiPoint.field-0.0) _
+    c.args.counts.now c.read-in-MultiPoint.new.counts c.from_residual-in_err-multi-in-MultiPoint.ensures.1
     (by_type p _ c.in-MultiPoint.is) c.in_err-multi-in-MultiPoint.ensures.answer
 
 pub read-requires-in-MultiLineString-clause-fits : goal.read-requires-in-MultiLineString-clause-fits
