@@ -6,7 +6,7 @@ pub use Rattle.std.proofs.lemmas.List.{drop-drop}
 pub use Rattle.std.specs.Prelude.{is_some, slice_get, unwrap_or, slice_index, false, ◌-◌}
 pub use Rattle.wkb_geom.specs.Dimensions.{width}
 pub use Rattle.wkb_geom.specs.Numbers.{order_byte, IsNumber, number}
-pub use Rattle.wkb_geom.specs.Refusals.{ring_end, srid_size}
+pub use Rattle.wkb_geom.specs.Refusals.{srid_size}
 pub use Rattle.wkb_geom.specs.Spellings.{Header, Spelling, node, Spellings, no_spellings, spelling, Spells, header}
 pub use Rattle.wkb_geom.specs.Spellings.{SpellsCoordinate, SpellsCoordinates, SpellsBody, Wanted, SpellsEach}
 pub use Rattle.wkb_geom.specs.Values.{members, kind, dimension, point, line_string, polygon, multi_line_string}

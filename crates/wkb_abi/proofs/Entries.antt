@@ -1,33 +1,65 @@
 -- The entries of a table: of rings one after another, and of geometries and what is inside each.
-use Rattle.wkb_abi.proofs.Common.{◌≡◌, ℕ, suc, ◌+◌, ◌-◌, ◌<◌, ◌≤◌, ◌^◌, List, [], ◌∷◌, ◌++◌, length, drop, set}
-use Rattle.wkb_abi.proofs.Common.{refl, sym, ap, ◌∙◌, arith, length-append, sets, length-sets, width, number, Piece}
+use Rattle.wkb_abi.proofs.Common.{◌≡◌, ℕ, suc, ◌+◌, ◌-◌, ◌<◌, ◌≤◌, ◌^◌, List, [], ◌∷◌, ◌++◌, length, drop, set, refl}
+use Rattle.wkb_abi.proofs.Common.{sym, ap, ◌∙◌, arith, length-append, sets, length-sets, width, number, Piece}
 use Rattle.wkb_abi.proofs.Common.{Dimension, Endianness, Spelling, node, Value, Subject, subjects, subjects_of_each}
-use Rattle.std.proofs.Common.{add-one, length-set}
+use Rattle.std.proofs.Common.{add-one}
 use Rattle.std.proofs.lemmas.List.{set_comm}
 use Rattle.wkb_geom.specs.declared.common.Dimension.TheVariants.{Xy}
 use Rattle.wkb_check.specs.Known.{AreWhole, HasGeometry, HasGeometries}
 use Rattle.wkb_check.specs.Subjects.{ring, subjects_of_rings}
 use Rattle.wkb_check.specs.Pieces.{own_end, piece_of, piece_at, ring_piece, last_end, first_rings}
 use Rattle.wkb_check.proofs.Placing.{inner, itself_first, sets_after, end_append, end_onward, first_one, begun_at}
-use Rattle.wkb_check.proofs.Placing.{behind_geometry}
+use Rattle.wkb_check.proofs.Placing.{behind_geometry, inner_end}
 use Rattle.wkb_check.proofs.Rings.{next_ring}
 use Rattle.wkb_abi.specs.declared.parts.Part.{Part}
+use Rattle.wkb_abi.specs.declared.parts.PartPlace.{PartPlace}
 use Rattle.wkb_abi.specs.Tables.{entry_of, entry_at, entries_from, geometry_entries}
 
 pub width_is_small : (d : Dimension) → width d < 2 ^ 32
 width_is_small Xy = omega arith
 width_is_small _ = omega arith
 
--- What is left to be laid, at the next index and from the next byte on, makes of the table what all rings make of it.
+pub as_many_entries : (index at : ℕ) (xs : List Subject) → length (entries_from index at xs) ≡ length xs
+as_many_entries index at [] = refl
+as_many_entries index at (x ∷ xs) = omega (arith, as_many_entries (index + 1) (own_end (piece_at at x)) xs)
+
+pub entries_append : (index at next to : ℕ) (xs ys : List Subject) → next ≡ index + length xs → to ≡ last_end at xs
+    → entries_from index at xs ++ entries_from next to ys ≡ entries_from index at (xs ++ ys)
+entries_append index at next to [] ys n e =
+    let here : next ≡ index = omega (arith, n) in
+    λ i. entries_from (here i) (e i) ys
+entries_append index at next to (x ∷ xs) ys n e =
+    ap (λ es. entry_at index at x ∷ es)
+    (entries_append (index + 1) (own_end (piece_at at x)) next to xs ys (omega (arith, n)) e)
+
+-- What is left of some subjects, from the next byte on, makes of the table at the next index what all make of it.
+pub record AreLeft (xs all : List Subject) (index at first start : ℕ) (parts before : List Part) : Type 0 where
+  pub bytes : last_end at xs ≡ last_end start all
+  pub laid : sets parts index (entries_from index at xs) ≡ sets before first (entries_from first start all)
+  pub long : length parts ≡ length before
+
+-- the entries of those that come first are laid
+left_more : {xs all : List Subject} {index at first start next to : ℕ} {parts before new : List Part}
+    → AreLeft xs all index at first start parts before → (own others : List Subject) → xs ≡ own ++ others
+    → new ≡ sets parts index (entries_from index at own) → next ≡ index + length own → to ≡ last_end at own
+    → AreLeft others all next to first start new before
+left_more {index = index} {at} {next = next} {to} {parts} left own others are laid n b =
+    let left = rw are at left in
+    let more = sets_after parts index next (entries_from index at own) (entries_from next to others)
+    (omega (arith, n, as_many_entries index at own)) in
+    record {
+      bytes = rw (b, ← end_append at own others) left.bytes;
+      laid = rw laid (more ∙ ap (sets parts index) (entries_append index at next to own others n b) ∙ left.laid);
+      long = ap length laid ∙ length-sets parts index (entries_from index at own) ∙ left.long;
+    }
+
+-- of the rings of a polygon these are left
 pub record RingsLeft (buf : List ℕ) (order : Endianness) (d : Dimension) (n index at : ℕ) (parts : List Part)
     (all first start : ℕ) (before : List Part) : Type 0 where
   pub whole : AreWhole order d n (drop at buf)
-  pub many : length parts ≡ length before
   pub indices : index + n ≡ first + all
-  pub bytes : last_end at (first_rings order d n (drop at buf))
-      ≡ last_end start (first_rings order d all (drop start buf))
-  pub laid : sets parts index (entries_from index at (first_rings order d n (drop at buf)))
-      ≡ sets before first (entries_from first start (first_rings order d all (drop start buf)))
+  pub left : AreLeft (first_rings order d n (drop at buf)) (first_rings order d all (drop start buf)) index at first
+      start parts before
 
 pub ring_laid : {buf : List ℕ} {order : Endianness} {d : Dimension} {n m index at : ℕ} {parts : List Part}
     {all first start : ℕ} {before : List Part} → RingsLeft buf order d n index at parts all first start before
@@ -35,23 +67,16 @@ pub ring_laid : {buf : List ℕ} {order : Endianness} {d : Dimension} {n m index
     → next ≡ own_end (ring_piece order d at (number order 4 (drop at buf)))
     → p ≡ entry_of (ring_piece order d at (number order 4 (drop at buf))) next (index + 1)
     → RingsLeft buf order d m (index + 1) next (set parts index p) all first start before
-ring_laid {buf = buf} {order = order} {d = d} {n = n} {m = m} {index = index} {at = at} {parts = parts} l e p next ends
-    is =
+ring_laid {buf} {order} {d} {n} {m} {index} {at} {parts} l e p next ends is =
     let r = next_ring buf order d n m at next l.whole e ends in
-    let one : index + 1 ≡ suc index = omega arith in
-    let others = first_rings order d m (drop next buf) in
     let entry : p ≡ entry_at index at (ring order d r.ring) =
     is ∙ (λ i. entry_of (ring_piece order d at (sym r.many i)) (r.next_is i) (index + 1)) in
     record {
       whole = r.whole;
-      many = length-set parts index p ∙ l.many;
       indices = omega (arith, l.indices, e);
-      bytes =
-          (λ i. last_end (r.next_is i) others)
-          ∙ ap (λ rs. last_end at (subjects_of_rings order d rs)) (sym r.are) ∙ l.bytes;
-      laid =
-          (λ i. sets (set parts index (entry i)) (one i) (entries_from (index + 1) (r.next_is i) others))
-          ∙ ap (λ rs. sets parts index (entries_from index at (subjects_of_rings order d rs))) (sym r.are) ∙ l.laid;
+      left =
+          left_more l.left (ring order d r.ring ∷ []) _ (ap (subjects_of_rings order d) r.are)
+          (ap (set parts index) entry) refl r.next_is;
     }
 
 -- ---- stores
@@ -69,55 +94,50 @@ module _ {A : Type 0} where
 
 -- ---- a geometry
 
-pub as_many_entries : (index at : ℕ) (xs : List Subject) → length (entries_from index at xs) ≡ length xs
-as_many_entries index at [] = refl
-as_many_entries index at (x ∷ xs) = omega (arith, as_many_entries (index + 1) (own_end (piece_at at x)) xs)
-
-pub entries_append : (index at next to : ℕ) (xs ys : List Subject) → next ≡ index + length xs → to ≡ last_end at xs
-    → entries_from index at xs ++ entries_from next to ys ≡ entries_from index at (xs ++ ys)
-entries_append index at next to [] ys n e =
-    let here : next ≡ index = omega (arith, n) in
-    λ i. entries_from (here i) (e i) ys
-entries_append index at next to (x ∷ xs) ys n e =
-    ap (λ es. entry_at index at x ∷ es)
-    (entries_append (index + 1) (own_end (piece_at at x)) next to xs ys (omega (arith, n)) e)
-
 -- The entry of this geometry and of what is inside it are laid at this index, and the next place is the one after them.
 pub record IsLaid (parts new : List Part) (index at next to : ℕ) (s : Spelling) (t : Value) : Type 0 where
   pub laid : new ≡ sets parts index (geometry_entries index at s t)
   pub next_is : next ≡ index + length (subjects s t)
   pub to_is : to ≡ last_end at (subjects s t)
 
--- so it is where the own entry is laid after those of what is inside
-pub item_laid : (index at : ℕ) (s : Spelling) (t : Value) (p : Piece) → p ≡ piece_of at s t
-    → (parts with : List Part) (from next to : ℕ) (e : Part) → from ≡ own_end p
-    → with ≡ sets parts (index + 1) (entries_from (index + 1) from (inner s t))
-    → next ≡ index + length (subjects s t) → to ≡ last_end at (subjects s t) → e ≡ entry_of p to next
-    → IsLaid parts (set with index e) index at next to s t
-item_laid index at s t p p-is parts with from next to e ends laid n b e-is = record {
-  laid =
-      laid_first parts with index e (entries_from (index + 1) from (inner s t)) laid
-      ∙ (λ j. sets parts index
-      ((e-is ∙ (λ k. entry_of (p-is k) (b k) (n k))) j
-      ∷ entries_from (index + 1) ((ends ∙ ap own_end p-is) j) (inner s t)))
-      ∙ ap (λ xs. sets parts index (entries_from index at xs)) (sym (itself_first s t));
-  next_is = n;
-  to_is = b;
-}
+-- the entries of what is inside it are laid behind its own, with which they are so many, and this is the next place
+pub record LaysInside (parts new : List Part) (index from : ℕ) (after : PartPlace) (inside : List Subject) (many : ℕ)
+    : Type 0 where
+  pub laid : new ≡ sets parts (index + 1) (entries_from (index + 1) from inside)
+  pub index_is : after.index ≡ index + many
+  pub byte_is : after.byte ≡ last_end from inside
+
+-- then its own entry is laid
+pub item_laid : (buf : List ℕ) (at : ℕ) (g : HasGeometry (drop at buf)) (p : Piece)
+    → (is : p ≡ piece_of at g.spelled g.value) → {parts with : List Part} {index from : ℕ} {after : PartPlace}
+    → from ≡ own_end p
+    → LaysInside parts with index from after (inner g.spelled g.value) (length (subjects g.spelled g.value))
+    → (e : Part) → e ≡ entry_of p after.byte after.index
+    → IsLaid parts (set with index e) index at after.index after.byte g.spelled g.value
+item_laid buf at g p is {parts} {with} {index} {from} {after} ends inside e e-is =
+    let own = inner g.spelled g.value in
+    let to : after.byte ≡ last_end at (subjects g.spelled g.value) =
+    inside.byte_is ∙ inner_end buf at g p is from ends in
+    record {
+      laid =
+          laid_first parts with index e (entries_from (index + 1) from own) inside.laid
+          ∙ (λ j. sets parts index ((e-is ∙ (λ k. entry_of (is k) (to k) (inside.index_is k))) j
+          ∷ entries_from (index + 1) ((ends ∙ ap own_end is) j) own))
+          ∙ ap (λ xs. sets parts index (entries_from index at xs)) (sym (itself_first g.spelled g.value));
+      next_is = inside.index_is;
+      to_is = to;
+    }
 
 -- ---- the loop over geometries
 
--- What is left of the geometries, at the next index and from the next byte on, makes of the table what all make of it.
+-- of the geometries these are left
 pub record Left (buf : List ℕ) (total start : ℕ) (more : List ℕ) (all : HasGeometries total (drop start buf) more)
     (first : ℕ) (before : List Part) (n index at : ℕ) (parts : List Part) : Type 0 where
   pub to_come : HasGeometries n (drop at buf) more
   pub indices : index + length (subjects_of_each to_come.spelled to_come.values)
       ≡ first + length (subjects_of_each all.spelled all.values)
-  pub bytes : last_end at (subjects_of_each to_come.spelled to_come.values)
-      ≡ last_end start (subjects_of_each all.spelled all.values)
-  pub laid : sets parts index (entries_from index at (subjects_of_each to_come.spelled to_come.values))
-      ≡ sets before first (entries_from first start (subjects_of_each all.spelled all.values))
-  pub long : length parts ≡ length before
+  pub left : AreLeft (subjects_of_each to_come.spelled to_come.values) (subjects_of_each all.spelled all.values) index
+      at first start parts before
   pub onward : start ≤ at
 
 some_entries : (s : Spelling) (t : Value) → 1 ≤ length (subjects s t)
@@ -133,7 +153,12 @@ module _ {buf more : List ℕ} {total start : ℕ} {all : HasGeometries total (d
     {before : List Part} where
   pub left_first : {n : ℕ} → n ≡ total → Left buf total start more all first before n first start before
   left_first e =
-      rw e (record { to_come = all; indices = refl; bytes = refl; laid = refl; long = refl; onward = omega arith })
+      rw e (record {
+        to_come = all;
+        indices = refl;
+        left = record { bytes = refl; laid = refl; long = refl };
+        onward = omega arith;
+      })
 
   module _ {n index at : ℕ} {parts : List Part} (l : Left buf total start more all first before n index at parts) where
     pub left_next : {m : ℕ} → n ≡ suc m → (next to : ℕ) (after : List Part)
@@ -148,18 +173,7 @@ module _ {buf more : List ℕ} {total start : ℕ} {all : HasGeometries total (d
         record {
           to_come = begun_at (behind_geometry buf at to g i.to_is).0 f.others;
           indices = omega (arith, l.indices, ap length f.are, length-append own others, i.next_is);
-          bytes =
-              (λ j. last_end (i.to_is j) others) ∙ sym (end_append at own others)
-              ∙ ap (last_end at) (sym f.are) ∙ l.bytes;
-          laid =
-              ap (λ ps. sets ps next (entries_from next to others)) i.laid
-              ∙ sets_after parts index next (entries_from index at own) (entries_from next to others)
-              (omega (arith, i.next_is, as_many_entries index at own))
-              ∙ ap (sets parts index)
-              (entries_append index at next to own others i.next_is i.to_is
-              ∙ ap (entries_from index at) (sym f.are))
-              ∙ l.laid;
-          long = ap length i.laid ∙ length-sets parts index (entries_from index at own) ∙ l.long;
+          left = left_more l.left own others f.are i.laid i.next_is i.to_is;
           onward = omega (arith, l.onward, i.to_is, end_onward at own);
         }
 
@@ -171,6 +185,6 @@ module _ {buf more : List ℕ} {total start : ℕ} {all : HasGeometries total (d
         let others = subjects_of_each f.others.spelled f.others.values in
         record {
           geometry = f.geometry;
-          room = omega (arith, fit, l.indices, ap length f.are, length-append own others, l.long);
+          room = omega (arith, fit, l.indices, ap length f.are, length-append own others, l.left.long);
           some = some_entries f.geometry.spelled f.geometry.value;
         }

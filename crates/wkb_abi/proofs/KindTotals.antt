@@ -2,26 +2,25 @@
 use Rattle.wkb_abi.proofs.Common.{◌≡◌, ℕ, ◌+◌, ◌<◌, List, [], ◌∷◌, ◌++◌, length, refl, sym, ap, ◌∙◌, arith}
 use Rattle.wkb_abi.proofs.Common.{length-append, Option, Dimension, Spelling, node, Spellings, no_spellings, spelling}
 use Rattle.wkb_abi.proofs.Common.{Spells, Wanted, SpellsEach, Coordinate, Value, point, line_string, polygon}
-use Rattle.wkb_abi.proofs.Common.{multi_point, multi_line_string, multi_polygon, collection, subst}
-use Rattle.wkb_abi.proofs.Common.{member_count, Endianness, HasGeometry, DescribesFront, Summary, Piece, Totals}
-use Rattle.wkb_abi.proofs.Common.{Subject, subjects, subjects_of_each}
-use Rattle.std.specs.Prelude.{sum, sum_by, flat_map}
+use Rattle.wkb_abi.proofs.Common.{multi_point, multi_line_string, multi_polygon, collection, subst, member_count}
+use Rattle.wkb_abi.proofs.Common.{Endianness, HasGeometry, DescribesFront, Summary, Piece, Totals, Subject, subjects}
+use Rattle.wkb_abi.proofs.Common.{subjects_of_each}
+use Rattle.std.specs.Prelude.{sum, sum_by}
 use Rattle.std.proofs.lemmas.Grind.{flat_map-append}
 use Rattle.std.proofs.lemmas.List.Sums.{sum_by-cons}
 use Rattle.wkb_geom.specs.Values.{each}
 use Rattle.wkb_laws.proofs.OneFront.{one_spelling}
 use Rattle.wkb_geom.specs.Counted.{coordinate_count}
 use Rattle.wkb_check.specs.Pieces.{piece_of, IsPieceAt}
-use Rattle.wkb_abi.specs.Coordinates.{ring_counts, single_counts, totals_after, AreTotals}
-use Rattle.wkb_abi.specs.PieceLevels.{ring_number, single_number, totals_plus}
+use Rattle.wkb_abi.specs.Coordinates.{ring_counts, single_counts, AreTotals}
+use Rattle.wkb_abi.specs.PieceLevels.{ring_number, single_number}
 use Rattle.wkb_check.specs.Subjects.{ring, subjects_of_rings}
-use Rattle.wkb_abi.proofs.Levels.{sum-first, sum_append}
+use Rattle.wkb_abi.proofs.Levels.{sum_append}
 
 -- these subjects have so many coordinates, rings and singles
-pub record Count (xs : List Subject) (coordinates rings singles : ℕ) : Type 0 where
-  pub coordinates_are : coordinates ≡ sum (flat_map ring_counts xs)
-  pub rings_are : rings ≡ length (flat_map ring_counts xs)
-  pub singles_are : singles ≡ length (flat_map single_counts xs)
+abbrev Count : List Subject → ℕ → ℕ → ℕ → Type 0
+Count xs coordinates rings singles =
+    AreTotals (record { coordinates = coordinates; rings = rings; singles = singles }) xs
 
 no_subject : Count [] 0 0 0
 no_subject = record { coordinates_are = refl; rings_are = refl; singles_are = refl }
@@ -50,16 +49,15 @@ rings_count : (order : Endianness) (d : Dimension) (rings : List (List Coordinat
     → Count (subjects_of_rings order d rings) (sum_by length rings) (length rings) 0
 rings_count order d [] = no_subject
 rings_count order d (cs ∷ rest) =
-    more (ring order d cs) (rings_count order d rest)
-    (omega (arith, sum-first (length cs) [], sum_by-cons length cs rest)) (omega arith) (omega arith)
+    more (ring order d cs) (rings_count order d rest) (omega (arith, sum_by-cons length cs rest)) (omega arith)
+    (omega arith)
 
 point_counts : (d : Dimension) (c : Option Coordinate) (s : Spelling) → Count (subjects s (point d c)) 1 1 1
 point_counts d c (node h words ss) = more _ no_subject (omega arith) (omega arith) (omega arith)
 
 line_counts : (d : Dimension) (cs : List Coordinate) (s : Spelling)
     → Count (subjects s (line_string d cs)) (length cs) 1 1
-line_counts d cs (node h words ss) =
-    more _ no_subject (omega (arith, sum-first (length cs) [])) (omega arith) (omega arith)
+line_counts d cs (node h words ss) = more _ no_subject (omega arith) (omega arith) (omega arith)
 
 polygon_counts : (d : Dimension) (rings : List (List Coordinate)) (s : Spelling)
     → Count (subjects s (polygon d rings)) (sum_by length rings) (length rings) 1
@@ -107,11 +105,11 @@ kind_counts at (node h words ss) (multi_polygon d polygons) bytes sp small =
 kind_counts at (node h words ss) (collection d ts) bytes sp small = absurd (omega (arith, small))
 
 -- what the check found of a geometry that is no collection has its totals
-pub totals_told : {own : Totals} {found : Summary} {first : Piece} (input : List ℕ) → (d : DescribesFront input found)
+pub totals_found : {own : Totals} {found : Summary} {first : Piece} (input : List ℕ) → (d : DescribesFront input found)
     → IsPieceAt input 0 first → (g : HasGeometry input) → first.kind < 7
     → own.coordinates ≡ found.coordinates → own.rings ≡ ring_number first found.parts
     → own.singles ≡ single_number first → AreTotals own (subjects g.spelled g.value)
-totals_told input d at g small coordinates_is rings_is singles_is =
+totals_found input d at g small coordinates_is rings_is singles_is =
     let same = one_spelling d.spelled g.spelled d.value g.value d.front.front g.begins.front d.rest g.rest
     d.front.spelled g.begins.first (sym d.front.whole ∙ g.begins.whole) in
     let counts = kind_counts 0 g.spelled g.value g.begins.front g.begins.first
@@ -123,9 +121,3 @@ totals_told input d at g small coordinates_is rings_is singles_is =
       rings_are = rings_is ∙ (λ i. ring_number (at g i) (parts i)) ∙ counts.rings_are;
       singles_are = singles_is ∙ ap single_number (at g) ∙ counts.singles_are;
     }
-
--- totals and others are where the subjects of the others end
-pub totals_and : {own to : Totals} {xs : List Subject} (from : Totals) → AreTotals own xs
-    → to ≡ totals_plus from own.coordinates own.rings own.singles → to ≡ totals_after from xs
-totals_and from are is =
-    is ∙ (λ i. totals_plus from (are.coordinates_are i) (are.rings_are i) (are.singles_are i))

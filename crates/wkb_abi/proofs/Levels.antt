@@ -1,10 +1,10 @@
 -- Words and ends that are written one after another, and how far they go.
-use Rattle.wkb_abi.proofs.Common.{◌≡◌, ℕ, suc, ◌+◌, ◌*◌, ◌≤◌, ◌<◌, ◌^◌, List, [], ◌∷◌, ◌++◌}
-use Rattle.wkb_abi.proofs.Common.{length, drop, None, slice_index, refl, ap, sym, ◌∙◌, arith, append_assoc}
-use Rattle.wkb_abi.proofs.Common.{append-nil, length-append, drop-drop, Dimension, width, number, Coordinate, Spelling}
-use Rattle.wkb_abi.proofs.Common.{node, Spellings, no_spellings, spelling, Value, Values, point, line_string, polygon}
-use Rattle.wkb_abi.proofs.Common.{no_members, member, members, dimension, sets, length-sets, Endianness}
-use Rattle.wkb_abi.proofs.Common.{HasGeometry, Piece, levels_of, Totals, Subject, subjects, subjects_of_each}
+use Rattle.wkb_abi.proofs.Common.{◌≡◌, ℕ, suc, ◌+◌, ◌*◌, ◌≤◌, ◌<◌, ◌^◌, List, [], ◌∷◌, ◌++◌, length, drop, None}
+use Rattle.wkb_abi.proofs.Common.{slice_index, refl, ap, sym, ◌∙◌, arith, append_assoc, append-nil, length-append}
+use Rattle.wkb_abi.proofs.Common.{drop-drop, Dimension, width, number, Coordinate, Spelling, node, Spellings}
+use Rattle.wkb_abi.proofs.Common.{no_spellings, spelling, Value, Values, point, no_members, member, members, dimension}
+use Rattle.wkb_abi.proofs.Common.{sets, length-sets, Endianness, HasGeometry, Piece, levels_of, Totals, Subject}
+use Rattle.wkb_abi.proofs.Common.{subjects, subjects_of_each}
 use Rattle.std.specs.Prelude.{sum, flat_map, nat_lt, Bool, true, false, cond}
 use Rattle.std.proofs.lemmas.Grind.{common_steps}
 use Rattle.std.proofs.lemmas.Option.{slice_get-get_or}
@@ -12,18 +12,17 @@ use Rattle.wkb_geom.specs.declared.common.Dimension.TheVariants.{Xy}
 use Rattle.wkb_geom.specs.Items.{length-items}
 use Rattle.wkb_geom.specs.Reading.{coordinate, coordinates}
 use Rattle.wkb_laws.proofs.Parts.{item_at}
-use Rattle.wkb_check.specs.Pieces.{piece_at, pieces_from, own_end, all_pieces, IsAhead, IsTaken}
+use Rattle.wkb_check.specs.Pieces.{piece_at, pieces_from, own_end, all_pieces, IsAhead, IsTaken, IsPieceAt}
 use Rattle.wkb_check.specs.declared.pieces.Pieces.{Pieces}
-use Rattle.wkb_check.proofs.Placing.{sets_after}
+use Rattle.wkb_check.proofs.Placing.{sets_after, itself_first}
 use Rattle.wkb_abi.specs.Coordinates.{words_asked, asked_subject_words, ring_counts, single_counts, ends, totals_after}
 use Rattle.wkb_abi.specs.Coordinates.{LevelLists, with_levels}
-use Rattle.wkb_abi.specs.LevelLists.{AreSameSlices, HasRoomFor}
+use Rattle.wkb_abi.specs.LevelLists.{AreSameSlices, HasRoomFor, LaysLevels}
 use Rattle.wkb_abi.specs.declared.level_slices.LevelSlices.{LevelSlices}
 use Rattle.wkb_abi.specs.PieceLevels.{ring_sizes, single_sizes, piece_words, PieceFits, with_piece, totals_with}
 use Rattle.wkb_abi.specs.RowItems.{end_of}
 use Rattle.wkb_check.proofs.Subjects.{ArePlaced, all_placed, says}
-use Rattle.wkb_check.specs.Subjects.{whole, ring, subjects_of_rings, dimension_in}
-use Rattle.wkb_check.specs.Subjects.{subject_coordinates, rings_of}
+use Rattle.wkb_check.specs.Subjects.{whole, ring, subjects_of_rings, dimension_in, subject_coordinates, rings_of}
 
 -- ---- words
 
@@ -103,13 +102,9 @@ pub record AreSmall (at : Totals) : Type 0 where
   pub rings : at.rings < 2 ^ 64
   pub singles : at.singles < 2 ^ 64
 
--- where nothing is added they stay
-pub none_added : (at : Totals) → AreSmall at → at ≡ totals_after at []
-none_added at small =
-    let c : at.coordinates ≡ end_of at.coordinates 0 = omega (arith, small.coordinates) in
-    let r : at.rings ≡ end_of at.rings 0 = omega (arith, small.rings) in
-    let s : at.singles ≡ end_of at.singles 0 = omega (arith, small.singles) in
-    λ i. record { coordinates = c i; rings = r i; singles = s i }
+-- totals of the same numbers are the same
+same_totals : {a b : Totals} → a.coordinates ≡ b.coordinates → a.rings ≡ b.rings → a.singles ≡ b.singles → a ≡ b
+same_totals c r s = λ i. record { coordinates = c i; rings = r i; singles = s i }
 
 -- the totals after these pieces
 abbrev pub totals_behind : Totals → List Piece → Totals
@@ -119,21 +114,13 @@ totals_behind at (p ∷ ps) = totals_behind (totals_with at p) ps
 -- those after the pieces of subjects
 pub totals_reached : (begin : ℕ) (xs : List Subject) (at : Totals) → AreSmall at
     → totals_behind at (pieces_from begin xs) ≡ totals_after at xs
-totals_reached begin [] at small = none_added at small
+totals_reached begin [] at small = same_totals (omega arith) (omega arith) (omega arith)
 totals_reached begin (x ∷ xs) at small =
     let own = own_sizes begin x in
-    let to = totals_with at (piece_at begin x) in
-    let c : end_of to.coordinates (sum (flat_map ring_counts xs))
-    ≡ end_of at.coordinates (sum (flat_map ring_counts (x ∷ xs))) = omega (arith, ap sum own.0, sum_append) in
-    let r : end_of to.rings (length (flat_map ring_counts xs))
-    ≡ end_of at.rings (length (flat_map ring_counts (x ∷ xs))) =
-    omega (arith, ap length own.0, length-append {A = ℕ}) in
-    let s : end_of to.singles (length (flat_map single_counts xs))
-    ≡ end_of at.singles (length (flat_map single_counts (x ∷ xs))) =
-    omega (arith, ap length own.1, length-append {A = ℕ}) in
-    totals_reached (own_end (piece_at begin x)) xs to
+    totals_reached (own_end (piece_at begin x)) xs (totals_with at (piece_at begin x))
     (record { coordinates = omega arith; rings = omega arith; singles = omega arith })
-    ∙ (λ i. record { coordinates = c i; rings = r i; singles = s i })
+    ∙ same_totals (omega (arith, ap sum own.0, sum_append)) (omega (arith, ap length own.0, length-append {A = ℕ}))
+    (omega (arith, ap length own.1, length-append {A = ℕ}))
 
 pub totals_next : {now : Pieces} {ps : List Piece} {p : Piece} {to all : Totals} (at : Totals) → IsTaken now ps p
     → to ≡ totals_with at p → totals_behind at ps ≡ all → Coming now (λ ps. totals_behind to ps ≡ all)
@@ -166,9 +153,8 @@ rings_end order d (cs ∷ rings) xs h at =
 -- a single counts its own ring, or those behind it
 single_opens : (s : Spelling) (t : Value)
     → sum (single_counts (whole s t)) ≡ length (ring_counts (whole s t)) + length (rings_of t)
-single_opens s (polygon d rings) = omega (arith, sum-first (length rings) [])
 single_opens s (point d c) = refl
-single_opens s _ = refl
+single_opens s _ = omega arith
 
 mutual
   geometry_ends : (s : Spelling) (t : Value) (xs : List Subject) → EndInTurn xs → EndInTurn (subjects s t ++ xs)
@@ -213,10 +199,9 @@ words_length asked own (c ∷ cs) =
 
 -- a ring has as many coordinates as it counts, and nothing else has any
 subject_length : (x : Subject) → length (subject_coordinates x) ≡ sum (ring_counts x)
-subject_length (ring order d cs) = omega (arith, sum-first (length cs) [])
+subject_length (ring order d cs) = omega arith
 subject_length (whole (node h words ss) (point d None)) = refl
-subject_length (whole (node h words ss) (line_string d cs)) = omega (arith, sum-first (length cs) [])
-subject_length (whole (node h words ss) _) = refl
+subject_length (whole (node h words ss) _) = omega arith
 
 subject_words : (asked : Dimension) (x : Subject)
     → length (asked_subject_words asked x) ≡ width asked * sum (ring_counts x)
@@ -298,45 +283,82 @@ module _ (asked : Dimension) (input : List ℕ) (all : LevelLists) where
             (rw (own.1, k, own.0)) (omega (arith, ends_length at.rings (single_sizes p)))),
       )
 
--- in front of the first piece
-pub levels_fill : (asked : Dimension) (row : List ℕ) (from : Totals) (before : LevelSlices)
-    → length before.words.now < 2 ^ 63 → length before.ring_ends.now < 2 ^ 63 → length before.single_ends.now < 2 ^ 63
-    → HasRoomFor asked row from before → (g : HasGeometry row)
-    → Fill asked row (with_levels asked (subjects g.spelled g.value) from (levels_of before)) from (levels_of before)
-    (all_pieces g)
-levels_fill asked row from before short short' short'' fits g =
-    let room = fits g in
-    let xs = subjects g.spelled g.value in
-    let rings = flat_map ring_counts xs in
-    let singles : single_ends from.rings xs ≡ ends from.rings (flat_map single_counts xs) =
-    rw (append-nil xs) at (geometry_ends g.spelled g.value [] (λ at. refl) from.rings) in
-    let to : from.coordinates + sum rings ≡ end_of from.coordinates (sum rings) =
-    omega (arith, wide_enough asked (end_of from.coordinates (sum rings))) in
-    fill asked row _ 0 xs from (levels_of before) (all_placed row 0 g.spelled g.value g.begins)
-    (record {
-      short = short;
-      room = omega (arith, ap (λ n. width asked * n) to, subjects_words asked xs);
-      written = refl;
-    })
-    (record { short = short'; room = omega (arith, ends_length from.coordinates rings); written = refl })
-    (record {
-      short = short'';
-      room = omega (arith, ap length singles, ends_length);
-      written = ap (sets before.single_ends.now from.singles) singles;
-    })
-
 -- ---- a walk
 
--- with the pieces that are to come the lists become those with all levels of the geometry
-abbrev pub Walks : Dimension → List ℕ → Totals → LevelSlices → Pieces → Totals → LevelSlices → Type 0
-Walks asked row from before w at out =
-    (g : HasGeometry row)
-    → Coming w
-    (Fill asked row (with_levels asked (subjects g.spelled g.value) from (levels_of before)) at (levels_of out))
+-- with the pieces that are to come the lists become those with all levels of the geometry, in the same slices
+pub record Walks (asked : Dimension) (row : List ℕ) (from : Totals) (before : LevelSlices) (w : Pieces) (at : Totals)
+    (out : LevelSlices) : Type 0 where
+  pub left : (g : HasGeometry row)
+      → Coming w
+      (Fill asked row (with_levels asked (subjects g.spelled g.value) from (levels_of before)) at (levels_of out))
+  pub same_slices : AreSameSlices before out
 
-pub levels_next : {asked : Dimension} {input : List ℕ} (all : LevelLists) (at : Totals) {to : Totals} (out : LevelLists)
+-- a piece is laid
+levels_next : {asked : Dimension} {input : List ℕ} (all : LevelLists) (at : Totals) {to : Totals} (out : LevelLists)
     {new : LevelLists} {ps : List Piece} {p : Piece} {now : Pieces} → Fill asked input all at out ps
     → IsTaken now ps p → to ≡ totals_with at p → new ≡ with_piece asked input p at out
     → Coming now (Fill asked input all to new)
 levels_next all at out left taken with laid =
     record { ps = taken.rest; ahead = taken.ahead; left = rw (with, laid) (rw taken.first at left).1 }
+
+module _ (asked : Dimension) (row : List ℕ) (from : Totals) (before : LevelSlices)
+    (fits : HasRoomFor asked row from before) (short : length before.words.now < 2 ^ 63)
+    (short' : length before.ring_ends.now < 2 ^ 63) (short'' : length before.single_ends.now < 2 ^ 63) where
+  -- in front of the first piece
+  pub levels_fill : (g : HasGeometry row)
+      → Fill asked row (with_levels asked (subjects g.spelled g.value) from (levels_of before)) from (levels_of before)
+      (all_pieces g)
+  levels_fill g =
+      let room = fits g in
+      let xs = subjects g.spelled g.value in
+      let rings = flat_map ring_counts xs in
+      let singles : single_ends from.rings xs ≡ ends from.rings (flat_map single_counts xs) =
+      rw (append-nil xs) at (geometry_ends g.spelled g.value [] (λ at. refl) from.rings) in
+      let to : from.coordinates + sum rings ≡ end_of from.coordinates (sum rings) =
+      omega (arith, wide_enough asked (end_of from.coordinates (sum rings))) in
+      fill asked row _ 0 xs from (levels_of before) (all_placed row 0 g.spelled g.value g.begins)
+      (record {
+        short = short;
+        room = omega (arith, ap (λ n. width asked * n) to, subjects_words asked xs);
+        written = refl;
+      })
+      (record { short = short'; room = omega (arith, ends_length from.coordinates rings); written = refl })
+      (record {
+        short = short'';
+        room = omega (arith, ap length singles, ends_length);
+        written = ap (sets before.single_ends.now from.singles) singles;
+      })
+
+  -- which fits
+  pub first_fits : {first : Piece} → IsPieceAt row 0 first → HasGeometry row
+      → PieceFits asked row first from (levels_of before)
+  first_fits is g = rw (is g) (rw (itself_first g.spelled g.value) at (levels_fill g)).0
+
+  -- behind it the walk begins
+  pub walk_begins : {first : Piece} {w : Pieces} {to : Totals} {new : LevelSlices}
+      → ((g : HasGeometry row) → IsTaken w (all_pieces g) first) → to ≡ totals_with from first
+      → levels_of new ≡ with_piece asked row first from (levels_of before) → AreSameSlices before new
+      → Walks asked row from before w to new
+  walk_begins steps with laid same =
+      record { left = λ g. levels_next _ _ _ (levels_fill g) (steps g) with laid; same_slices = same }
+
+module _ {asked : Dimension} {row : List ℕ} {from at : Totals} {before out : LevelSlices} {w : Pieces}
+    (walk : Walks asked row from before w at out) where
+  -- the next piece fits
+  pub piece_fits : {now : Pieces} {p : Piece} → ((ps : List Piece) → IsAhead w ps → IsTaken now ps p)
+      → HasGeometry row → PieceFits asked row p at (levels_of out)
+  piece_fits steps g = let l = walk.left g in (rw (steps l.ps l.ahead).first at l.left).0
+
+  -- behind it the walk goes on
+  pub walk_on : {now : Pieces} {p : Piece} {to : Totals} {new : LevelSlices}
+      → ((ps : List Piece) → IsAhead w ps → IsTaken now ps p) → to ≡ totals_with at p
+      → levels_of new ≡ with_piece asked row p at (levels_of out) → AreSameSlices out new
+      → Walks asked row from before now to new
+  walk_on steps with laid same = record {
+    left = λ g. let l = walk.left g in levels_next _ _ _ l.left (steps l.ps l.ahead) with laid;
+    same_slices = stay_same same walk.same_slices;
+  }
+
+  -- and where no piece is left it ends
+  pub walk_ends : ((ps : List Piece) → IsAhead w ps → ps ≡ []) → LaysLevels asked row from before out
+  walk_ends none = λ g. let l = walk.left g in rw (none l.ps l.ahead) at l.left

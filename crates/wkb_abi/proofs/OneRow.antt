@@ -1,7 +1,7 @@
 -- What holds of one row of a column: it has one list of bytes, and no two answers.
-use Rattle.wkb_abi.proofs.Common.{◌≡◌, ◌≢◌, ℕ, List, Some, None, sym, ◌∙◌, false, IsAccepted, IsRow, IsRefusedWith}
-use Rattle.wkb_abi.proofs.Common.{Column, Options}
-use Rattle.std.specs.Prelude.{true, slice_range}
+use Rattle.wkb_abi.proofs.Common.{◌≡◌, ◌≢◌, ℕ, List, Some, None, sym, ◌∙◌, IsAccepted, IsRow, IsRefusedWith, Column}
+use Rattle.wkb_abi.proofs.Common.{Options}
+use Rattle.std.specs.Prelude.{slice_range}
 use Rattle.wkb_laws.proofs.Outcomes.{never_both_lem}
 use Rattle.wkb_abi.specs.Columns.{LacksRow, null_row, bad_offsets}
 use Rattle.wkb_abi.specs.Requests.{request_of}
@@ -17,9 +17,8 @@ one_row {c} x y =
     p.row_is ∙ (λ i. slice_range c.bytes.now (starts i) (ends i)) ∙ sym q.row_is
 
 pub never_lacks : {c : Column} {i status : ℕ} {row : List ℕ} → IsRow c i row → LacksRow c i status → ⊥
-never_lacks {c} {i} is (null_row null told) =
-    let never : true ≡ false = sym null ∙ is.present in absurd cc
-never_lacks is (bad_offsets some none told) = none _ is.slice
+never_lacks is (null_row null is_status) = cc
+never_lacks is (bad_offsets some none is_status) = none _ is.slice
 
 -- what is accepted isn't rejected
 pub never_refused : {row : List ℕ} {status : ℕ} → IsAccepted row → IsRefusedWith row status → ⊥
@@ -28,4 +27,4 @@ never_refused {row} a why =
 
 -- what is asked for is not nothing
 pub is_asked : (o : Options) (request : Request) → request_of o ≡ Some request → request_of o ≢ None
-is_asked o request asked none = let never : Some request ≡ None = sym asked ∙ none in absurd (cc)
+is_asked o request asked none = cc

@@ -13,9 +13,9 @@ use lib.Seq.{get_or-set_same, get_or-set_other}
 use Rattle.wkb_geom.specs.Codes.{dimension_of_thousands}
 use Rattle.std.proofs.Math.Nat.{mul-le-mul_left}
 use Rattle.wkb_abi.specs.Coordinates.{LevelLists, HasRoomUpTo, LevelsSuffice, totals_after, with_levels, ring_counts}
-use Rattle.wkb_abi.specs.Coordinates.{single_counts, no_totals, Level, of_words, of_rings, of_singles, list_of, many_in}
-use Rattle.wkb_abi.specs.Coordinates.{items_of, AreLaid, written, no_room, LacksCoordinates, IsCoordinatesRow, handed}
-use Rattle.wkb_abi.specs.Coordinates.{failed, AreColumnCoordinates, IsCoordinatesStep}
+use Rattle.wkb_abi.specs.Coordinates.{no_totals, Level, of_words, of_rings, of_singles, list_of, many_in, items_of}
+use Rattle.wkb_abi.specs.Coordinates.{AreLaid, written, no_room, LacksCoordinates, IsCoordinatesRow, handed, failed}
+use Rattle.wkb_abi.specs.Coordinates.{AreColumnCoordinates, IsCoordinatesStep}
 use Rattle.wkb_abi.specs.LevelLists.{LaysAny}
 use Rattle.wkb_abi.specs.RowItems.{HoldsItems, KeepsFrom, end_of}
 use Rattle.wkb_abi.specs.declared.level_slices.LevelSlices.{LevelSlices}
@@ -43,16 +43,14 @@ module _ {A : Type 0} where
   pub front_laid : (xs items : List A) (at : ℕ) → at + length items ≤ length xs
       → take at (sets xs at items) ≡ take at xs
   front_laid xs items at there =
-      ap (take at) (sets-eq items xs at there ∙ append_assoc (take at xs) items (drop (at + length items) xs))
-      ∙ take_at (take at xs) _ at (length-take-le at xs (omega (arith, there)))
+      rw (sets-eq items xs at there, append_assoc) (take_at (take at xs) _ at (length-take-le at xs (omega (arith, there))))
 
   pub behind_laid : (xs items : List A) (at n : ℕ) → at + length items ≤ length xs → at + length items ≤ n
       → KeepsFrom n xs (sets xs at items)
   behind_laid xs items at n there far =
       let end = at + length items in
-      ap (drop n) (sets-eq items xs at there)
-      ∙ drop-append-drop end xs (take at xs ++ items) n far
-      (omega (arith, length-append (take at xs) items, length-take-le at xs (omega (arith, there))))
+      rw (sets-eq items xs at there) (drop-append-drop end xs (take at xs ++ items) n far
+      (omega (arith, length-append (take at xs) items, length-take-le at xs (omega (arith, there)))))
 
   -- lists that are the same up to a number are so up to fewer
   pub fewer : (m n : ℕ) (xs ys : List A) → m ≤ n → take n xs ≡ take n ys → take m xs ≡ take m ys
@@ -89,20 +87,6 @@ pub room_of : (asked : Dimension) (out : LevelLists) (to : Totals)
 room_of asked out to fits =
     record { words_fit = fits of_words; rings_fit = fits of_rings; singles_fit = fits of_singles }
 
--- where there is room, totals grow by as many as there are items
-many_more : (k : Level) (asked : Dimension) (xs : List Subject) (from : Totals) (room : ℕ)
-    → many_in k asked (totals_after from xs) ≤ room → room < 2 ^ 63
-    → many_in k asked (totals_after from xs) ≡ many_in k asked from + length (items_of k asked xs from)
-many_more of_words asked xs from room fits short =
-    let n = sum (flat_map ring_counts xs) in
-    let to : end_of from.coordinates n ≡ from.coordinates + n =
-    omega (arith, fits, short, wide_enough asked (end_of from.coordinates n)) in
-    rw (subjects_words asked xs, ← mul-add) (ap (λ n. width asked * n) to)
-many_more of_rings asked xs from room fits short =
-    omega (arith, fits, short, ends_length from.coordinates (flat_map ring_counts xs))
-many_more of_singles asked xs from room fits short =
-    omega (arith, fits, short, ends_length from.rings (flat_map single_counts xs))
-
 -- a row that is laid into no list
 pub unchanged : {c : Column} {dimension i status : ℕ} {from to : Totals} {out : LevelLists}
     → IsCoordinatesRow c dimension i status from to out → IsCoordinatesStep c dimension i status from to out out
@@ -130,7 +114,8 @@ module _ {asked : Dimension} {row : List ℕ} {found : Summary} {from to : Total
     long = λ k. ap length (now k) ∙ length-sets (old k) (many_in k asked from) (items k);
     front = λ k other named'.
         one_dimension (λ d. take (many_in k d from) (list_of k (levels_of after)) ≡ take (many_in k d from) (old k))
-        dimension asked other named named' (ap (take (many_in k asked from)) (now k) ∙ front_laid (old k) _ _ (there k));
+        dimension asked other named named'
+        (ap (take (many_in k asked from)) (now k) ∙ front_laid (old k) _ _ (there k));
     kept = λ k n far.
         ap (drop n) (now k) ∙ behind_laid (old k) _ _ n (there k) (omega (arith, many k, far refl asked named));
   }
@@ -141,18 +126,24 @@ module _ {asked : Dimension} {row : List ℕ} {found : Summary} {from to : Total
       items : (k : Level) → List ℕ
       items k = items_of k asked (subjects d.spelled d.value) from
 
-      short : (k : Level) → length (old k) < 2 ^ 63
-      short of_words = words
-      short of_rings = ring_ends
-      short of_singles = single_ends
-
       now : (k : Level) → list_of k (levels_of after) ≡ sets (old k) (many_in k asked from) (items k)
       now of_words = ap (λ out. out.words) laid
       now of_rings = ap (λ out. out.ring_ends) laid
       now of_singles = ap (λ out. out.single_ends) laid
 
+      fits : (k : Level) → many_in k asked (totals_after from (subjects d.spelled d.value)) ≤ length (old k)
+      fits k = rw to_is at (room_at room k)
+
+      -- where there is room, totals grow by as many as there are items
       many : (k : Level) → many_in k asked to ≡ many_in k asked from + length (items k)
-      many k = rw to_is (many_more k asked _ from (length (old k)) (rw to_is at (room_at room k)) (short k))
+      many of_words =
+          let xs = subjects d.spelled d.value in
+          let n = sum (flat_map ring_counts xs) in
+          let end : end_of from.coordinates n ≡ from.coordinates + n =
+          omega (arith, fits of_words, words, wide_enough asked (end_of from.coordinates n)) in
+          rw (to_is, subjects_words asked xs, ← mul-add) (ap (λ n. width asked * n) end)
+      many of_rings = rw to_is (omega (arith, fits of_rings, ring_ends, ends_length))
+      many of_singles = rw to_is (omega (arith, fits of_singles, single_ends, ends_length))
 
       there : (k : Level) → many_in k asked from + length (items k) ≤ length (old k)
       there k = omega (arith, many k, room_at room k)
@@ -172,15 +163,14 @@ after_rises from xs small = record {
   where
     far : (k : Level) (asked : Dimension) → many_in k asked from ≤ many_in k asked (totals_after from xs)
     far of_words asked = mul-le-mul_left (width asked) (omega (arith, small))
-    far of_rings asked = omega (arith, small)
-    far of_singles asked = omega (arith, small)
+    far _ asked = omega (arith, small)
 
 -- nor does a row
 row_rises : {c : Column} {dimension i status : ℕ} {from to : Totals} {out : LevelLists}
     → IsCoordinatesRow c dimension i status from to out → AreSmall from → Rises from to
 row_rises (handed asked named row is a (written ok to_is held)) small =
     rw to_is (after_rises _ (subjects a.s a.t) small)
-row_rises (handed asked named row is a (no_room told to_is short)) small =
+row_rises (handed asked named row is a (no_room is_status to_is short)) small =
     rw to_is (after_rises _ (subjects a.s a.t) small)
 row_rises (failed why to_is) small = rw to_is (record { small = small; far = λ k asked. omega arith })
 
@@ -188,12 +178,12 @@ row_rises (failed why to_is) small = rw to_is (record { small = small; far = λ 
 pub row_lacks : {c : Column} {dimension i status : ℕ} {asked : Dimension} {from to : Totals} {out : LevelLists}
     → dimension_of_thousands dimension ≡ Some asked → IsCoordinatesRow c dimension i status from to out
     → HasRoomUpTo asked out to → status ≡ NO_ROOM → ⊥
-row_lacks named (handed other named' row is a (written ok to_is held)) room told = omega (arith, ok, told)
+row_lacks named (handed other named' row is a (written ok to_is held)) room lacks = omega (arith, ok, lacks)
 row_lacks {dimension = dimension} {asked} {to = to} {out} named
-    (handed other named' row is a (no_room told' to_is short)) room told =
+    (handed other named' row is a (no_room is_status to_is short)) room lacks =
     short (one_dimension (λ d. HasRoomUpTo d out to) dimension asked other named named' room)
-row_lacks {c = c} {dimension} {i} named (failed why to_is) room told =
-    coordinates_tell_other c dimension i (subst (LacksCoordinates c dimension i) told why)
+row_lacks {c = c} {dimension} {i} named (failed why to_is) room lacks =
+    coordinates_tell_other c dimension i (subst (LacksCoordinates c dimension i) lacks why)
 
 module _ {c : Column} {dimension : ℕ} {statuses row_ends : List ℕ} {out : LevelLists} {rows : ℕ} {at : Totals}
     {before : LevelLists} (r : AreColumnCoordinates c dimension statuses row_ends out rows at before) where
@@ -227,16 +217,17 @@ module _ {c : Column} {dimension : ℕ} {statuses row_ends : List ℕ} {out : Le
   module _ {status : ℕ} {to : Totals} {after : LevelLists}
       (step : IsCoordinatesStep c dimension rows status at to before after) where
     -- the rows above stay
-    kept_row : {i told : ℕ} {from end : Totals} → IsCoordinatesRow c dimension i told from end before
+    kept_row : {i status : ℕ} {from end : Totals} → IsCoordinatesRow c dimension i status from end before
         → ((k : Level) (asked : Dimension) → many_in k asked end ≤ many_in k asked at)
-        → IsCoordinatesRow c dimension i told from end after
+        → IsCoordinatesRow c dimension i status from end after
     kept_row (handed asked named row is a (written ok to_is held)) far =
         handed asked named row is a
         (written ok to_is (λ k.
         held_on (held k) (fewer _ _ (list_of k after) (list_of k before) (far k asked) (step.front k asked named))))
-    kept_row (handed asked named row is a (no_room told to_is short)) far =
+    kept_row (handed asked named row is a (no_room is_status to_is short)) far =
         handed asked named row is a
-        (no_room told to_is (λ room. short (room_of asked before _ (λ k. omega (arith, room_at room k, step.long k)))))
+        (no_room is_status to_is
+        (λ room. short (room_of asked before _ (λ k. omega (arith, room_at room k, step.long k)))))
     kept_row (failed why to_is) far = failed why to_is
 
     abbrev begin : ℕ → Totals
@@ -256,8 +247,8 @@ module _ {c : Column} {dimension : ℕ} {statuses row_ends : List ℕ} {out : Le
       first = begin_above 0 (omega arith) ∙ r.first;
       last = begin_next (rows + 1) (omega arith);
       each =
-          statuses_more (λ i told. IsCoordinatesRow c dimension i told (begin i) (begin (suc i)) after) statuses rows
-          status there
+          statuses_more (λ i s. IsCoordinatesRow c dimension i s (begin i) (begin (suc i)) after) statuses rows status
+          there
           (λ i below. rw (begin_above i (omega (arith, below)), begin_above (suc i) (omega (arith, below)))
           (kept_row (r.each i below) (λ k asked. end_at k asked (suc i) (omega (arith, below)))))
           (rw (begin_above rows (omega arith), r.last, begin_next (suc rows) (omega arith)) step.row);

@@ -22,7 +22,7 @@ pub shown_more : {A : Type 0} {Shows : List ℕ → A → Type 0} {none : A} {c 
     → RowShows Shows none c i s a → RowsShow Shows none c (i + 1) (set statuses i s) (set items i a)
 shown_more {Shows = Shows} {none} {c} {statuses} {items} i s a there room above own = record {
   each =
-      statuses_more (λ j told. RowShows Shows none c j told (slice_index_or (set items i a) j none)) statuses i s there
+      statuses_more (λ j t. RowShows Shows none c j t (slice_index_or (set items i a) j none)) statuses i s there
       (λ j below.
       let other = get_or-set_other items i j a none (λ same. omega (arith, same, below)) in
       subst (RowShows Shows none c j (slice_index statuses j)) (sym other) (above.each j below))

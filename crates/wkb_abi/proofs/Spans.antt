@@ -4,15 +4,14 @@ use Rattle.wkb_abi.proofs.Common.{Column, IsRow}
 use Rattle.std.specs.Prelude.{max, drop}
 use Rattle.std.proofs.lemmas.List.{length-take}
 use borrow.Author.Count.{below_more}
-use Rattle.wkb_abi.specs.Columns.{IsSpan, HasNoSpan, HasNoSlice, EndBy, IsReach, Reach}
-use Rattle.wkb_abi.specs.Columns.{RowsFollow, RowsFit, total_length}
+use Rattle.wkb_abi.specs.Columns.{IsSpan, HasNoSpan, EndBy, IsReach, Reach, RowsFollow, RowsFit, total_length}
 
 module _ (bytes offsets : List ℕ) (size : ℕ) where
   -- the rows before row i are among those before the next one
   fewer : (i limit : ℕ) → EndBy bytes offsets size (i + 1) limit → EndBy bytes offsets size i limit
   fewer i limit by = λ j start end below is. by j start end (omega (arith, below)) is
 
-  -- so far the rows reach with a row that has bytes, where the greater end is told
+  -- so far the rows reach with a row that has bytes, and this is the greater end
   pub reached : {i reach start end to : ℕ} → to ≡ max reach end → IsReach bytes offsets size i reach
       → IsSpan bytes offsets size i start end → IsReach bytes offsets size (i + 1) to
   reached {i} {reach} {start} {end} {to} to_is r own = record {
@@ -34,11 +33,6 @@ module _ (bytes offsets : List ℕ) (size : ℕ) where
 -- they reach no further than the bytes
 pub reach_inside : (c : Column) (i reach : ℕ) → Reach c i reach → reach ≤ length c.bytes.now
 reach_inside c i reach r = r.least (length c.bytes.now) (λ j s e below is. is.inside)
-
--- without a span there is no slice
-pub no_span : {i : ℕ} (c : Column) → HasNoSpan c.bytes.now c.offsets.now c.offset_size i
-    → HasNoSlice c.bytes.now c.offsets.now c.offset_size i
-no_span c none = λ row is. none is.start is.end is.span
 
 pub rows_follow : RowsFollow
 rows_follow c i j row later below a b = b.slice.after i a.slice.start a.slice.end below a.slice.span

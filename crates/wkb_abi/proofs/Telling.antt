@@ -1,13 +1,13 @@
 -- What the C library reports of a result of the check.
-use Rattle.wkb_abi.proofs.Common.{◌≡◌, ◌≢◌, ℕ, List, refl, arith, sym, ap, subst, kind, dimension, Value, header}
-use Rattle.wkb_abi.proofs.Common.{Spelling, node, Spells, Piece, HasGeometry, DescribesFront, Summary, IsAccepted}
-use Rattle.wkb_abi.proofs.Common.{IsRefusedWith}
+use Rattle.wkb_abi.proofs.Common.{◌≡◌, ◌≢◌, ℕ, List, refl, arith, sym, subst, kind, dimension, Value, header, Spelling}
+use Rattle.wkb_abi.proofs.Common.{node, Spells, Piece, HasGeometry, DescribesFront, Summary, IsAccepted, IsRefusedWith}
+use Rattle.std.proofs.Common.{rules}
 use Rattle.wkb_geom.specs.Fronts.{Front}
 use Rattle.wkb_geom.specs.Grammar.{Begins}
 use Rattle.wkb_geom.specs.declared.error.Cause.TheVariants.{General as general}
 use Rattle.wkb_geom.specs.declared.error.General.{General as Bad}
 use Rattle.wkb_geom.specs.declared.error.General.TheVariants.{InvalidByteOrder, CodeOutOfRange, UnsupportedDimensions}
-use Rattle.wkb_check.specs.Pieces.{leading, count_of, piece_of}
+use Rattle.wkb_check.specs.Pieces.{leading, count_of, piece_of, HeaderIs}
 use Rattle.wkb_check.specs.Public.{IsRefusedFor}
 use Rattle.wkb_check.specs.declared.answer.Refused.{Refused}
 use Rattle.wkb_check.specs.Inputs.{HaveOneValue, HaveTwoValues}
@@ -42,19 +42,7 @@ others_tell_no_end _ part offset long = (refl, refl)
 -- the status of its cause says why the bytes are rejected
 pub refused_with : (buf : List ℕ) (e : Refused) (status : ℕ) → IsRefusedFor buf e → status ≡ cause_status e.cause
     → IsRefusedWith buf status
-refused_with buf e status r is = (
-  cause_fault e.part e.offset e.cause,
-  record {
-    cause = e.cause;
-    turns = e.part;
-    slots = r.slots;
-    refuses = r.refuses;
-    offset = e.offset;
-    status_is = is;
-    fault_is = refl;
-    begins = r.begins;
-  },
-)
+refused_with buf e status r is = (cause_fault e.part e.offset e.cause, search rules)
 
 -- what is found is accepted
 pub found_is_accepted : (buf : List ℕ) (f : Summary) → DescribesFront buf f → IsAccepted buf
@@ -69,23 +57,10 @@ abbrev pub begins : (buf : List ℕ) (s : Spelling) (t : Value) (rest : List ℕ
 begins buf s t rest f = record { front = f.front; whole = f.whole; first = f.spelled }
 
 -- what the first piece of a geometry says of it
-pub record FirstPiece (s : Spelling) (t : Value) (p : Piece) : Type 0 where
-  pub offset_is : p.offset ≡ leading (header s) t
-  pub count_is : p.count ≡ count_of t
-  pub kind_is : p.kind ≡ kind t
-  pub dimension_is : p.dimension ≡ dimension t
-  pub order_is : p.order ≡ (header s).order
-  pub srid_is : p.srid ≡ (header s).srid
-
-pub first_piece : (s : Spelling) (t : Value) {p : Piece} → p ≡ piece_of 0 s t → FirstPiece s t p
-first_piece (node h words ss) t is = record {
-  offset_is = omega (arith, ap (λ p. p.offset) is);
-  count_is = ap (λ p. p.count) is;
-  kind_is = ap (λ p. p.kind) is;
-  dimension_is = ap (λ p. p.dimension) is;
-  order_is = ap (λ p. p.order) is;
-  srid_is = ap (λ p. p.srid) is;
-}
+pub first_piece : (s : Spelling) (t : Value) {p : Piece} → p ≡ piece_of 0 s t
+    → HeaderIs s t p.kind p.dimension p.order p.srid × ((p.offset ≡ leading (header s) t) × (p.count ≡ count_of t))
+first_piece (node h words ss) t is =
+    rw is (record { kind_is = refl; dimension_is = refl; order_is = refl; srid_is = refl }, (omega arith, refl))
 
 -- the geometry that is accepted
 abbrev pub accepted_there : (buf : List ℕ) → IsAccepted buf → HasGeometry buf

@@ -1,4 +1,4 @@
--- What is told of the rows of a column in levels, and what is written of them.
+-- The statuses of the rows of a column in levels, and what is written of them.
 use Rattle.std.specs.Prelude.{◌≡◌, ℕ, ◌+◌, min, List, length, Option, Some, None, true, false}
 use Rattle.wkb_levels.specs.EndLists.{ends_of}
 use Rattle.wkb_levels.specs.RowWrites.{HasRowEncoding}
@@ -29,8 +29,8 @@ pub data LacksLevels (c : LevelColumn) (asked : Option LevelTarget) (i status : 
 
 -- the status of row i and the length of its encoding, which is laid behind those before it if there is room
 abbrev pub IsLevelStep : LevelColumn → Option LevelTarget → ℕ → ℕ × ℕ → ℕ → List ℕ → List ℕ → Type 0
-IsLevelStep c asked i told start before after =
-    IsRowStep (HasLevelEncoding c asked) (LacksLevels c asked) i told.0 told.1 start before after
+IsLevelStep c asked i result start before after =
+    IsRowStep (HasLevelEncoding c asked) (LacksLevels c asked) i result.0 result.1 start before after
 
 -- as many rows as the column and both of these lists have entries for
 abbrev pub level_rows : LevelColumn → List ℕ → List ℕ → ℕ

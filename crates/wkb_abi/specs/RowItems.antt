@@ -108,10 +108,10 @@ pub data IsRowStep {A : Type 0} (Has : ℕ → List A → Type 0) (Fails : ℕ �
 
 -- the step of row i, whose items are the entries of its table of parts
 abbrev pub IsTableStep : Column → ℕ → ℕ × ℕ → ℕ → List Part → List Part → Type 0
-IsTableStep c i told start before after =
-    IsRowStep (RowHas HasTable c) (RowFails IsRefusedWith c) i told.0 told.1 start before after
+IsTableStep c i result start before after =
+    IsRowStep (RowHas HasTable c) (RowFails IsRefusedWith c) i result.0 result.1 start before after
 
 -- the step of row i, whose items are the bytes of its encoding
 abbrev pub IsEncodingStep : Options → Column → ℕ → ℕ × ℕ → ℕ → List ℕ → List ℕ → Type 0
-IsEncodingStep o c i told start before after =
-    IsRowStep (RowHas (HasEncoding o) c) (RowFails (FailsToWrite o) c) i told.0 told.1 start before after
+IsEncodingStep o c i result start before after =
+    IsRowStep (RowHas (HasEncoding o) c) (RowFails (FailsToWrite o) c) i result.0 result.1 start before after

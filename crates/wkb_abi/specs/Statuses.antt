@@ -2,8 +2,8 @@
 use Rattle.std.specs.Prelude.{◌≡◌, ◌⊎◌, ℕ, ◌+◌, List, length}
 use Rattle.wkb_geom.specs.declared.error.General.{General}
 use Rattle.wkb_geom.specs.declared.error.General.TheVariants.{UnsupportedDimensions, CodeOutOfRange, InvalidByteOrder}
-use Rattle.wkb_geom.specs.declared.error.General.TheVariants.{ShortPoint, ShortLineString}
-use Rattle.wkb_geom.specs.declared.error.General.TheVariants.{ShortLinearRing, ShortMultiPoint}
+use Rattle.wkb_geom.specs.declared.error.General.TheVariants.{ShortPoint, ShortLineString, ShortLinearRing}
+use Rattle.wkb_geom.specs.declared.error.General.TheVariants.{ShortMultiPoint}
 use Rattle.wkb_geom.specs.Spellings.{any}
 use Rattle.wkb_geom.specs.Fronts.{max_nesting}
 use Rattle.wkb_geom.specs.declared.error.Cause.{Cause}
@@ -15,11 +15,10 @@ use Rattle.wkb_check.specs.Public.{IsRefusedForWithin}
 use Rattle.wkb_check.specs.declared.answer.Refused.{Refused}
 use Rattle.wkb_check.specs.Inputs.{IsAccepted, HaveOneValue, HaveTwoValues}
 use Rattle.wkb_abi.specs.Classes.{IsRefusalStatus}
-use Rattle.wkb_abi.specs.declared.status.TheConstants.{OK, NO_ROOM, UNKNOWN_OPTION}
-use Rattle.wkb_abi.specs.declared.status.TheConstants.{SHORT_HEADER, INVALID_BYTE_ORDER, CODE_OUT_OF_RANGE}
-use Rattle.wkb_abi.specs.declared.status.TheConstants.{INCORRECT_TYPE}
-use Rattle.wkb_abi.specs.declared.status.TheConstants.{NESTING_DEPTH_EXCEEDED, SHORT_POINT}
-use Rattle.wkb_abi.specs.declared.status.TheConstants.{SHORT_LINE_STRING, SHORT_MULTI_POINT, SHORT_LINEAR_RING}
+use Rattle.wkb_abi.specs.declared.status.TheConstants.{OK, NO_ROOM, UNKNOWN_OPTION, SHORT_HEADER, INVALID_BYTE_ORDER}
+use Rattle.wkb_abi.specs.declared.status.TheConstants.{CODE_OUT_OF_RANGE, INCORRECT_TYPE, NESTING_DEPTH_EXCEEDED}
+use Rattle.wkb_abi.specs.declared.status.TheConstants.{SHORT_POINT, SHORT_LINE_STRING, SHORT_MULTI_POINT}
+use Rattle.wkb_abi.specs.declared.status.TheConstants.{SHORT_LINEAR_RING}
 use Rattle.wkb_abi.specs.declared.numbers.TheConstants.{FIRST, SECOND, DIFFERENT, EQUAL}
 use Rattle.wkb_abi.specs.declared.fault.WkbFault.{WkbFault}
 

@@ -1,22 +1,18 @@
 -- Rows that are written in levels, and encoded again, are as they were.
 use Rattle.wkb_abi.proofs.Common.{◌≡◌, ℕ, suc, ◌+◌, ◌*◌, ◌≤◌, ◌<◌, ◌^◌, List, length, drop, Option, Some, None, refl}
 use Rattle.wkb_abi.proofs.Common.{sym, ap, ◌∙◌, subst, arith, Dimension, Spelling, Value, kind, dimension}
-use Rattle.wkb_abi.proofs.Common.{length-append, header}
+use Rattle.wkb_abi.proofs.Common.{length-append, header, encoding, geometry_of, Endianness, subjects}
 use Rattle.std.specs.Prelude.{◌-◌, take, sum, flat_map, slice_range}
 use Rattle.std.proofs.Common.{take-append-drop}
 use Rattle.std.proofs.lemmas.Bool.Decides.{nat_tests}
 use Rattle.std.proofs.lemmas.List.{length-map}
 use Rattle.wkb_geom.specs.Dimensions.{as_dimensions}
-use Rattle.wkb_geom.specs.Encodings.{encoding}
 use Rattle.wkb_geom.specs.Fronts.{Front}
-use Rattle.wkb_geom.specs.Geometries.{Geometry, geometry_of}
 use Rattle.wkb_geom.specs.Numbers.{AreBytes}
-use Rattle.wkb_geom.specs.declared.common.Endianness.{Endianness}
 use Rattle.wkb_geom.specs.declared.common.Form.TheVariants.{Ewkb}
 use Rattle.wkb_laws.proofs.Lengths.{named_width, width-least}
 use Rattle.wkb_laws.proofs.OneFront.{one_front_lem}
 use Rattle.wkb_laws.proofs.Values.{front_bytes, AreBytes-front, AreBytes-rest}
-use Rattle.wkb_check.specs.Subjects.{subjects}
 use Rattle.wkb_levels.proofs.Pieces.{length-range}
 use Rattle.wkb_levels.specs.Columns.{IsClear, singles_of}
 use Rattle.wkb_levels.specs.Meant.{kind_meant}
@@ -29,8 +25,6 @@ use Rattle.wkb_abi.specs.Requests.{IsRequested, request_of, options_for}
 use Rattle.wkb_abi.specs.RowItems.{HoldsItems, IsRowAnswer, handed, no_room, failed}
 use Rattle.wkb_column_laws.specs.ThereAndBack.{as_spelled, HasEmptyWords, bytes_of, AreGivenOn, IsLevelled}
 use Rattle.wkb_column_laws.specs.ThereAndBack.{BackAsSpelled, IsWrittenBack, ThereAndBack}
-use Rattle.wkb_abi.specs.declared.column.Column.{Column}
-use Rattle.wkb_abi.specs.declared.totals.Totals.{Totals}
 use Rattle.wkb_abi.specs.declared.level_column.LevelColumn.{LevelColumn}
 use Rattle.wkb_abi.specs.declared.level_column.LevelTarget.{LevelTarget}
 use Rattle.wkb_abi.specs.declared.options.Options.{Options}
@@ -46,6 +40,8 @@ use Rattle.wkb_column_laws.proofs.ThereAndBackLevels.{spans_are}
 use Rattle.wkb_column_laws.proofs.ThereAndBackRows.{unscaled, rings_more, coordinates_more, row_there, given, at}
 use Rattle.wkb_column_laws.proofs.ThereAndBackRows.{fits_before, held_given, single_level, ring_level, BeginsAt}
 use Rattle.wkb_column_laws.proofs.ThereAndBackRows.{begins_at}
+use Rattle.wkb_abi.specs.declared.column.Column.{Column}
+use Rattle.wkb_abi.specs.declared.totals.Totals.{Totals}
 
 -- a part of bytes is bytes
 range_bytes : (bytes : List ℕ) (start end : ℕ) → AreBytes bytes → AreBytes (slice_range bytes start end)
@@ -142,24 +138,17 @@ module _ {c : Column} {dimension : ℕ} {asked : Dimension} {statuses : List ℕ
         ≡ Some (as_spelled s t)
     row_meant = rw (singles_are holds) (rw lv.dimension_is at means.meant)
 
-    -- which can be written
-    front_bytes_are : AreBytes lv.front.front
-    front_bytes_are =
-        front_bytes lv.row s t lv.rest (rw lv.is_row.slice.row_is
-        (range_bytes c.bytes.now lv.is_row.slice.start lv.is_row.slice.end g.bytes)) lv.front
-
-    front_small : length lv.front.front < 2 ^ 63
-    front_small =
-        let r = lv.is_row.slice in
-        let long = length-range c.bytes.now r.start r.end r.span.inside in
-        omega (arith, g.small, ap length lv.front.whole, length-append lv.front.front lv.rest, ap length r.row_is, r)
-
-    -- so the row has the encoding of that
+    -- which can be written, so the row has the encoding of that
     has_encoding : (o : Options) (request : Request) → request_of o ≡ Some request
         → HasLevelEncoding l (target_asked (kind t) dimension o) i
         (bytes_of (options_for request None) (as_spelled s t))
     has_encoding o request asked_so =
         let options = options_for request None in
+        let r = lv.is_row.slice in
+        let are = front_bytes lv.row s t lv.rest (rw r.row_is (range_bytes c.bytes.now r.start r.end g.bytes)) lv.front in
+        let long = length-range c.bytes.now r.start r.end r.span.inside in
+        let small : length lv.front.front < 2 ^ 63 =
+        omega (arith, g.small, ap length lv.front.whole, length-append lv.front.front lv.rest, ap length r.row_is, r) in
         record {
           present =
               (λ k. is_unset_bit (g.levels.validity k) (g.levels.validity_offset k + i)) ∙ lv.is_row.present;
@@ -169,8 +158,7 @@ module _ {c : Column} {dimension : ℕ} {asked : Dimension} {statuses : List ℕ
             geometry = as_spelled s t;
             row = record { levels = levels_are holds; clear = clear; meant = row_meant };
             writable =
-                spelled_writable options.endianness options.form s t lv.front.front front_bytes_are front_small
-                lv.front.spelled;
+                spelled_writable options.endianness options.form s t lv.front.front are small lv.front.spelled;
             is = refl;
           };
         }
@@ -180,18 +168,7 @@ pub back_as_spelled : BackAsSpelled
 back_as_spelled c dimension asked statuses rows l g i below s t lv o request asked_so =
     has_encoding g below lv o request asked_so
 
--- ---- one encoding
-
--- a row of levels has one encoding
-one_level_encoding : {l : LevelColumn} {asked : Option LevelTarget} {i : ℕ} {x y : List ℕ}
-    → HasLevelEncoding l asked i x → HasLevelEncoding l asked i y → x ≡ y
-one_level_encoding a b = cc
-
 -- ---- what is written of the row itself
-
--- an encoding under EWKB
-abbrev encoding_in : Endianness → Option ℕ → Geometry → List ℕ
-encoding_in order srid g = encoding order (Ewkb srid) g
 
 -- only one number of a form asks for the row's own SRID
 own_srid : (o : Options) (order : Endianness) → request_of o ≡ Some (OwnSrid order) → o.form ≡ EWKB_OWN_SRID
@@ -200,34 +177,33 @@ own_srid o order asked = grind (arith, nat_tests)
 module _ {row rest : List ℕ} {s : Spelling} {t : Value} (front : Front row s t rest) (empty : HasEmptyWords s t) where
   -- as it is asked for, it is that of what the bytes spell
   requested : (request : Request) → ((order : Endianness) → request ≡ OwnSrid order → (header s).srid ≡ None)
-      → (encoding : List ℕ) → IsRequested request row encoding
-      → encoding ≡ bytes_of (options_for request None) (as_spelled s t)
-  requested (Encoding o) none encoding is =
+      → (bytes : List ℕ) → IsRequested request row bytes → bytes ≡ bytes_of (options_for request None) (as_spelled s t)
+  requested (Encoding o) none bytes is =
       let one = one_front_lem row is.s s is.t t is.rest rest is.front front in
       is.written ∙ ap (λ v. bytes_of o (geometry_of v)) one.2 ∙ sym (same_encoding o.endianness o.form s t empty)
-  requested (OwnSrid order) none encoding is =
+  requested (OwnSrid order) none bytes is =
       let one = one_front_lem row is.s s is.t t is.rest rest is.front front in
       let srid : (header is.s).srid ≡ None = ap (λ z. (header z).srid) one.1 ∙ none order refl in
-      is.written ∙ (λ k. encoding_in order (srid k) (geometry_of (one.2 k)))
+      is.written ∙ (λ k. encoding order (Ewkb (srid k)) (geometry_of (one.2 k)))
       ∙ sym (same_encoding order (Ewkb None) s t empty)
 
--- what a call tells of a row that has an encoding
+-- what a call tells of a row that has an encoding, which is its only one
 answered : {l : LevelColumn} {asked : Option LevelTarget} {i status start end : ℕ} {out encoding : List ℕ}
     → HasLevelEncoding l asked i encoding
     → IsRowAnswer (HasLevelEncoding l asked) (LacksLevels l asked) i status start end out
     → IsWrittenBack encoding i status start end out
-answered has (handed items is ok held) = handed items (one_level_encoding is has) ok held
-answered has (no_room items is told end_is short) = no_room items (one_level_encoding is has) told end_is short
-answered has (failed (null_row null told) end_is) = absurd cc
-answered has (failed (unknown present none told) end_is) = absurd cc
-answered {l} {i = i} {encoding = encoding} has (failed (unfit present t is_asked differ told) end_is) =
+answered has (handed items is ok held) = handed items (cc) ok held
+answered has (no_room items is lacks end_is short) = no_room items (cc) lacks end_is short
+answered has (failed (null_row null is_status) end_is) = absurd cc
+answered has (failed (unknown present none is_status) end_is) = absurd cc
+answered {l} {i = i} {encoding = encoding} has (failed (unfit present t is_asked differ is_status) end_is) =
     let same : has.target ≡ t = cc in
     absurd (differ encoding (subst (λ t. HasRowEncoding (levels_in l) t.kind t.dim t.options i encoding) same
     has.encoding))
 
 -- both together
 pub there_and_back : ThereAndBack
-there_and_back c dimension asked statuses rows l g i below s t lv empty o none encoding has told ends out each inside =
+there_and_back c dimension asked statuses rows l g i below s t lv empty o none encoding has statuses' ends out each inside =
     let request = has.has.request in
     let front : Front has.row s t lv.rest = subst (λ z. Front z s t lv.rest) (one_row lv.is_row has.is) lv.front in
     let is = requested front empty request

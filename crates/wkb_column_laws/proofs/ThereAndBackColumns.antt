@@ -7,26 +7,24 @@ use Rattle.wkb_geom.specs.Fronts.{Front}
 use Rattle.wkb_levels.specs.Cuts.{start_at}
 use Rattle.wkb_abi.specs.Columns.{IsRow, is_null_row, is_unset_bit}
 use Rattle.wkb_abi.specs.Columns as columns
-use Rattle.wkb_abi.specs.LevelRows.{EncodeLevels, HasLevelEncoding, LacksLevels, level_rows}
+use Rattle.wkb_abi.specs.LevelRows.{EncodeLevels, LacksLevels}
 use Rattle.wkb_abi.specs.LevelRows as in_levels
 use Rattle.wkb_abi.specs.Requests.{request_of}
-use Rattle.wkb_abi.specs.RowItems.{HoldsItems, IsRowAnswer, handed, no_room, failed, RowHas, RowFails, fails}
-use Rattle.wkb_abi.specs.RowItems.{has_no_row}
-use Rattle.wkb_abi.specs.Writings.{HasEncoding, FailsToWrite, unknown, refused}
-use Rattle.wkb_abi.specs.declared.column.Column.{Column}
+use Rattle.wkb_abi.specs.RowItems.{IsRowAnswer, handed, no_room, failed, RowFails, fails, has_no_row}
+use Rattle.wkb_abi.specs.Writings.{FailsToWrite, unknown, refused}
 use Rattle.wkb_abi.specs.declared.level_column.LevelColumn.{LevelColumn}
 use Rattle.wkb_abi.specs.declared.level_column.LevelTarget.{LevelTarget}
-use Rattle.wkb_abi.specs.declared.options.Options.{Options}
 use Rattle.wkb_abi.specs.declared.options.Request.{Request}
 use Rattle.wkb_abi.specs.declared.status.TheConstants.{OK, NO_ROOM, NULL_ROW}
 use Rattle.wkb_abi.proofs.OneRow.{is_asked, one_row, never_lacks, never_refused}
-use Rattle.wkb_column_laws.specs.ThereAndBack.{IsWrittenBack, ComesBack, stays_null, is_levelled, AreTheSame}
-use Rattle.wkb_column_laws.specs.ThereAndBack.{ColumnsComeBack}
+use Rattle.wkb_column_laws.specs.ThereAndBack.{ComesBack, stays_null, is_levelled, AreTheSame, ColumnsComeBack}
 use Rattle.wkb_column_laws.proofs.ThereAndBack.{there_and_back}
+use Rattle.wkb_abi.specs.declared.column.Column.{Column}
+use Rattle.wkb_abi.specs.declared.options.Options.{Options}
 
--- a call tells this of a row, and writes these bytes of it
-record Tells (told : ℕ) (bytes : List ℕ) (status start end : ℕ) (out : List ℕ) : Type 0 where
-  status_is : status ≡ told
+-- a call gives a row this status, and writes these bytes of it
+record Tells (s : ℕ) (bytes : List ℕ) (status start end : ℕ) (out : List ℕ) : Type 0 where
+  status_is : status ≡ s
   end_is : end ≡ start + length bytes
   range : take (length bytes) (drop start out) ≡ bytes
 
@@ -35,78 +33,60 @@ never_fails : {c : Column} {o : Options} {i status : ℕ} {row rest : List ℕ} 
     {request : Request} → IsRow c i row → Front row s t rest → request_of o ≡ Some request
     → RowFails (FailsToWrite o) c i status → ⊥
 never_fails is front asked (has_no_row lacks) = never_lacks is lacks
-never_fails {o = o} {request = request} is front asked (fails other is' (unknown none told)) =
+never_fails {o = o} {request = request} is front asked (fails other is' (unknown none is_status)) =
     is_asked o request asked none
 never_fails {status = status} {rest = rest} {s = s} {t = t} is front asked (fails other is' (refused some fault why)) =
     never_refused (record { s = s; t = t; rest = rest; front = front })
     (subst (λ z. columns.IsRefusedWith z status) (one_row is' is) (fault, why))
 
-module _ {status start end : ℕ} {out : List ℕ} where
-  -- of a row that is written, and of a row of which nothing is
-  tells_ok : {bytes : List ℕ} → status ≡ OK → HoldsItems out start end bytes → Tells OK bytes status start end out
-  tells_ok ok held = record {
-    status_is = ok;
-    end_is = held.many;
-    range = ap (λ k. take k (drop start out)) (omega (arith, held.many)) ∙ held.are;
-  }
+-- up to its end there are its bytes more than up to its start
+grown : {s status start end : ℕ} {bytes out : List ℕ} → Tells s bytes status start end out
+    → take end out ≡ take start out ++ bytes
+grown {start = start} {bytes = bytes} {out} t =
+    ap (λ k. take k out) t.end_is ∙ take-add start (length bytes) out ∙ ap (λ z. take start out ++ z) t.range
 
-  tells_null : status ≡ NULL_ROW → end ≡ start → Tells NULL_ROW [] status start end out
-  tells_null told end_is = record { status_is = told; end_is = omega (arith, end_is); range = refl }
+module _ {Has : ℕ → List ℕ → Type 0} {Fails : ℕ → ℕ → Type 0} {i status start end : ℕ} {out : List ℕ} where
+  -- of a row that is written
+  tells_ok : (Fails i status → ⊥) → (status ≡ NO_ROOM → ⊥) → IsRowAnswer Has Fails i status start end out
+      → (bytes : List ℕ) × (Has i bytes × Tells OK bytes status start end out)
+  tells_ok fine room (handed bytes has ok held) =
+      let range = ap (λ k. take k (drop start out)) (omega (arith, held.many)) ∙ held.are in
+      (bytes, (has, record { status_is = ok; end_is = held.many; range = range }))
+  tells_ok fine room (no_room bytes has is end_is short) = absurd (room is)
+  tells_ok fine room (failed why end_is) = absurd (fine why)
 
-  -- up to its end there are its bytes more than up to its start
-  grown : {told : ℕ} {bytes : List ℕ} → Tells told bytes status start end out → take end out ≡ take start out ++ bytes
-  grown {told} {bytes} t =
-      ap (λ k. take k out) t.end_is ∙ take-add start (length bytes) out ∙ ap (λ z. take start out ++ z) t.range
+  -- and of a null row
+  tells_null : ((bytes : List ℕ) → Has i bytes → ⊥) → (Fails i status → status ≡ NULL_ROW)
+      → IsRowAnswer Has Fails i status start end out → Tells NULL_ROW [] status start end out
+  tells_null none null (handed bytes has ok held) = absurd (none bytes has)
+  tells_null none null (no_room bytes has is end_is short) = absurd (none bytes has)
+  tells_null none null (failed why end_is) =
+      record { status_is = null why; end_is = omega (arith, end_is); range = refl }
 
-  -- what is told of it in the column, with room for all
-  tells_encoding : {c : Column} {o : Options} {i : ℕ} → (RowFails (FailsToWrite o) c i status → ⊥)
-      → (status ≡ NO_ROOM → ⊥)
-      → IsRowAnswer (RowHas (HasEncoding o) c) (RowFails (FailsToWrite o) c) i status start end out
-      → (bytes : List ℕ) × (RowHas (HasEncoding o) c i bytes × Tells OK bytes status start end out)
-  tells_encoding fine room (handed bytes has ok held) = (bytes, (has, tells_ok ok held))
-  tells_encoding fine room (no_room bytes has is end_is short) = absurd (room is)
-  tells_encoding fine room (failed why end_is) = absurd (fine why)
+-- a null row has no other status, in the column and in the levels
+null_status : {c : Column} {o : Options} {i status : ℕ} → is_null_row c i ≡ true
+    → RowFails (FailsToWrite o) c i status → status ≡ NULL_ROW
+null_status null (fails row is why) = absurd cc
+null_status null (has_no_row (columns.null_row is is_status)) = is_status
+null_status null (has_no_row (columns.bad_offsets some none is_status)) = absurd cc
 
-  -- and of its levels
-  tells_back : {i : ℕ} {bytes : List ℕ} → (status ≡ NO_ROOM → ⊥) → IsWrittenBack bytes i status start end out
-      → Tells OK bytes status start end out
-  tells_back room (handed own same ok held) = subst (λ z. Tells OK z status start end out) same (tells_ok ok held)
-  tells_back room (no_room own same is end_is short) = absurd (room is)
-  tells_back room (failed why end_is) = absurd why
-
-  -- ---- a null row
-
-  -- in the column, and in the levels
-  null_tells : {c : Column} {i : ℕ} {o : Options} → is_null_row c i ≡ true
-      → IsRowAnswer (RowHas (HasEncoding o) c) (RowFails (FailsToWrite o) c) i status start end out
-      → Tells NULL_ROW [] status start end out
-  null_tells null (handed bytes has ok held) = absurd cc
-  null_tells null (no_room bytes has is end_is short) = absurd cc
-  null_tells null (failed (fails row is why) end_is) = absurd cc
-  null_tells null (failed (has_no_row (columns.null_row is told)) end_is) = tells_null told end_is
-  null_tells null (failed (has_no_row (columns.bad_offsets some none told)) end_is) = absurd cc
-
-  null_back : {l : LevelColumn} {asked : Option LevelTarget} {i : ℕ}
-      → is_unset_bit l.validity.now (l.validity_offset + i) ≡ true
-      → IsRowAnswer (HasLevelEncoding l asked) (LacksLevels l asked) i status start end out
-      → Tells NULL_ROW [] status start end out
-  null_back null (handed bytes has ok held) = absurd cc
-  null_back null (no_room bytes has is end_is short) = absurd cc
-  null_back null (failed (in_levels.null_row is told) end_is) = tells_null told end_is
-  null_back null (failed (in_levels.unknown present none told) end_is) = absurd cc
-  null_back null (failed (in_levels.unfit present t asked_is differ told) end_is) = absurd cc
+null_back : {l : LevelColumn} {asked : Option LevelTarget} {i status : ℕ}
+    → is_unset_bit l.validity.now (l.validity_offset + i) ≡ true → LacksLevels l asked i status → status ≡ NULL_ROW
+null_back null (in_levels.null_row is is_status) = is_status
+null_back null (in_levels.unknown present none is_status) = absurd cc
+null_back null (in_levels.unfit present t asked_is differ is_status) = absurd cc
 
 -- ---- all rows
 
 -- both calls tell the same of row i
-record SameRow (told ends out back_told back_ends back : List ℕ) (i : ℕ) : Type 0 where
+record SameRow (statuses ends out back_statuses back_ends back : List ℕ) (i : ℕ) : Type 0 where
   status : ℕ
   bytes : List ℕ
-  first : Tells status bytes (slice_index told i) (start_at 0 ends i) (slice_index ends i) out
-  second : Tells status bytes (slice_index back_told i) (start_at 0 back_ends i) (slice_index back_ends i) back
+  first : Tells status bytes (slice_index statuses i) (start_at 0 ends i) (slice_index ends i) out
+  second : Tells status bytes (slice_index back_statuses i) (start_at 0 back_ends i) (slice_index back_ends i) back
 
-module _ {told ends out back_told back_ends back : List ℕ} {rows : ℕ}
-    (each : (i : ℕ) → i < rows → SameRow told ends out back_told back_ends back i) where
+module _ {statuses ends out back_statuses back_ends back : List ℕ} {rows : ℕ}
+    (each : (i : ℕ) → i < rows → SameRow statuses ends out back_statuses back_ends back i) where
   -- so they write the same up to each row
   up_to : (n : ℕ) → n ≤ rows
       → (start_at 0 ends n ≡ start_at 0 back_ends n)
@@ -120,7 +100,7 @@ module _ {told ends out back_told back_ends back : List ℕ} {rows : ℕ}
       )
 
   -- and up to all
-  columns_same : AreTheSame rows told ends out back_told back_ends back
+  columns_same : AreTheSame rows statuses ends out back_statuses back_ends back
   columns_same = record {
     statuses = λ i below. let row = each i below in row.first.status_is ∙ sym row.second.status_is;
     ends_are = λ i below. (up_to (suc i) (omega (arith, below))).0;
@@ -129,29 +109,25 @@ module _ {told ends out back_told back_ends back : List ℕ} {rows : ℕ}
 
 -- each row is null, or comes back
 pub columns_come_back : ColumnsComeBack
-columns_come_back c dimension asked statuses rows l g k o request asked_so come told ends out each there room back_told
-    back_ends back each_back there' room' =
+columns_come_back c dimension asked statuses rows l g k o request asked_so come row_statuses ends out each there room
+    back_statuses back_ends back each_back there' room' =
     columns_same (λ i below. same i below (come i below))
   where
-    same : (i : ℕ) → i < rows → ComesBack c asked statuses o k i → SameRow told ends out back_told back_ends back i
-    same i below (stays_null null) = record {
-      status = NULL_ROW;
-      bytes = [];
-      first = null_tells null (each i (omega (arith, below, there)));
-      second =
-          null_back ((λ j. is_unset_bit (g.levels.validity j) (g.levels.validity_offset j + i)) ∙ null)
-          (each_back i (omega (arith, below, there')));
-    }
-    same i below (is_levelled s t lv kind_is empty srid) =
-        let first = tells_encoding (never_fails lv.is_row lv.front asked_so) (room i below)
-        (each i (omega (arith, below, there))) in
-        let each_back = subst (λ n. EncodeLevels n dimension o l back_told back_ends back) (sym kind_is) each_back in
+    same : (i : ℕ) → i < rows → ComesBack c asked statuses o k i
+        → SameRow row_statuses ends out back_statuses back_ends back i
+    same i below (stays_null null) =
+        let back_null = (λ j. is_unset_bit (g.levels.validity j) (g.levels.validity_offset j + i)) ∙ null in
         record {
-          status = OK;
-          bytes = first.0;
-          first = first.1.1;
-          second =
-              tells_back (room' i below)
-              (there_and_back c dimension asked statuses rows l g i below s t lv empty o srid first.0 first.1.0
-              back_told back_ends back each_back (omega (arith, below, there')));
+          status = NULL_ROW;
+          bytes = [];
+          first = tells_null (λ bytes has. cc) (null_status null) (each i (omega (arith, below, there)));
+          second = tells_null (λ bytes has. cc) (null_back back_null) (each_back i (omega (arith, below, there')));
         }
+    same i below (is_levelled s t lv kind_is empty srid) =
+        let first = tells_ok (never_fails lv.is_row lv.front asked_so) (room i below)
+        (each i (omega (arith, below, there))) in
+        let each_back = subst (λ n. EncodeLevels n dimension o l back_statuses back_ends back) (sym kind_is) each_back in
+        let second = tells_ok (λ why. why) (room' i below)
+        (there_and_back c dimension asked statuses rows l g i below s t lv empty o srid first.0 first.1.0 back_statuses
+        back_ends back each_back (omega (arith, below, there'))) in
+        record { status = OK; bytes = first.0; first = first.1.1; second = rw second.1.0 at second.1.1 }

@@ -1,17 +1,15 @@
 -- What bytes spell, with the words of its empty points, can be written; and where these are the words that are written
 -- of empty points, its encoding is that of the value.
-use Rattle.wkb_abi.proofs.Common.{◌≡◌, ℕ, suc, ◌≤◌, ◌<◌, ◌^◌, List, [], ◌∷◌, ◌++◌, length, Option, Some, None}
-use Rattle.wkb_abi.proofs.Common.{refl}
-use Rattle.wkb_abi.proofs.Common.{ap, ◌∙◌, arith, is_some, Dimension, Coordinate, Spelling, node, Spellings}
-use Rattle.wkb_abi.proofs.Common.{no_spellings, spelling, Spells, SpellsEach, SpellsCoordinate, Value, point}
-use Rattle.wkb_abi.proofs.Common.{multi_point, IsNumber}
+use Rattle.wkb_abi.proofs.Common.{◌≡◌, ℕ, suc, ◌≤◌, ◌<◌, ◌^◌, List, [], ◌∷◌, ◌++◌, length, Option, Some, None, refl, ap}
+use Rattle.wkb_abi.proofs.Common.{◌∙◌, arith, is_some, Dimension, Coordinate, Spelling, node, Spellings, no_spellings}
+use Rattle.wkb_abi.proofs.Common.{spelling, Spells, SpellsEach, SpellsCoordinate, Value, point, multi_point, IsNumber}
 use Rattle.std.specs.Prelude.{map, flat_map, if◌then◌else◌, Bool, true, false}
 use Rattle.std.specs.List.{AllByRecursion}
 use Rattle.std.proofs.Common.{lt-ltb}
 use Rattle.std.proofs.lemmas.List.{length-map}
 use Rattle.wkb_geom.specs.Dimensions.{as_dimensions, written_dimension}
-use Rattle.wkb_geom.specs.Encodings.{encoding, point_encoding, point_words, fault}
-use Rattle.wkb_geom.specs.Encodings.{or_else, size_fault, fault_under, inner, form_srid}
+use Rattle.wkb_geom.specs.Encodings.{encoding, point_encoding, point_words, fault, or_else, size_fault, fault_under}
+use Rattle.wkb_geom.specs.Encodings.{inner, form_srid}
 use Rattle.wkb_geom.specs.Geometries.{geometry_of, normal, IsGeometry, IsCoordinate, IsPoint}
 use Rattle.wkb_geom.specs.Grammar.{IsEach}
 use Rattle.wkb_geom.specs.Numbers.{AreBytes, IsWord}

@@ -1,13 +1,12 @@
 -- A column of a point and of a null row, and its levels: they are given on as the law says.
 use Rattle.wkb_abi.proofs.Common.{◌≡◌, ℕ, zero, suc, ◌<◌, List, [], ◌∷◌, length, Some, None, refl, sym, ◌∙◌, arith}
-use Rattle.wkb_abi.proofs.Common.{slice_index, Spelling, node, no_spellings, Value, point, Spells}
+use Rattle.wkb_abi.proofs.Common.{slice_index, Spelling, node, no_spellings, Value, point, Spells, geometry_of}
 use Rattle.std.specs.Borrow.{Bor}
 use Rattle.std.proofs.Common.{rules}
 use Rattle.std.proofs.lemmas.List.{drop_all}
 use Rattle.wkb_geom.specs.Encodings.{point_words, point_encoding, header_encoding, code_of, srid_encoding}
 use Rattle.wkb_geom.specs.Encodings.{words_encoding, dimensions_fault}
 use Rattle.wkb_geom.specs.Fronts.{Front}
-use Rattle.wkb_geom.specs.Geometries.{geometry_of}
 use Rattle.wkb_geom.specs.Numbers.{AreBytes, number, number_bytes}
 use Rattle.wkb_geom.specs.declared.common.Dimension.TheVariants.{Xy}
 use Rattle.wkb_geom.specs.declared.common.Endianness.TheVariants.{LittleEndian}
@@ -21,12 +20,12 @@ use Rattle.wkb_abi.specs.Coordinates.{list_of, many_in, HoldLevels, IsCoordinate
 use Rattle.wkb_abi.specs.LevelRows.{HasLevelEncoding}
 use Rattle.wkb_abi.specs.LevelTargets.{target_asked}
 use Rattle.wkb_column_laws.specs.ThereAndBack.{AreGivenOn, IsLevelled, ComesBack, stays_null, is_levelled}
-use Rattle.wkb_abi.specs.declared.column.Column.{Column}
 use Rattle.wkb_abi.specs.declared.totals.Totals.{Totals}
 use Rattle.wkb_abi.specs.declared.level_column.LevelColumn.{LevelColumn}
 use Rattle.wkb_abi.specs.declared.options.Options.{Options}
 use Rattle.wkb_abi.specs.declared.options.Request.TheVariants.{Encoding}
 use Rattle.wkb_column_laws.proofs.ThereAndBack.{back_as_spelled}
+use Rattle.wkb_abi.specs.declared.column.Column.{Column}
 
 -- a slice of these items
 abbrev slice : List ℕ → Bor (List ℕ)

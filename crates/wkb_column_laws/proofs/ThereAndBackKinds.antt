@@ -1,14 +1,12 @@
 -- The singles of a geometry: what its subjects give each level, and the geometry that they mean.
-use Rattle.std.proofs.Common.{subst}
+use Rattle.std.proofs.Common.{subst, lt-ltb}
 use Rattle.wkb_abi.proofs.Common.{◌≡◌, ℕ, ◌<◌, List, [], ◌∷◌, ◌++◌, length, Option, Some, None, refl, ap, arith}
-use Rattle.wkb_abi.proofs.Common.{append-nil, Dimension, width, Coordinate}
-use Rattle.wkb_abi.proofs.Common.{Spelling, node, Spellings, no_spellings, spelling, Spells, SpellsEach, SpellsBody}
-use Rattle.wkb_abi.proofs.Common.{Value, Values, point, line_string, polygon, multi_point, multi_line_string, Header}
-use Rattle.wkb_abi.proofs.Common.{multi_polygon, collection, no_members, member, members, kind, dimension}
-use Rattle.wkb_abi.proofs.Common.{SpellsCoordinate, SpellsCoordinates}
+use Rattle.wkb_abi.proofs.Common.{append-nil, Dimension, width, Coordinate, Spelling, node, Spellings, no_spellings}
+use Rattle.wkb_abi.proofs.Common.{spelling, Spells, SpellsEach, SpellsBody, Value, Values, point, line_string, polygon}
+use Rattle.wkb_abi.proofs.Common.{multi_point, multi_line_string, Header, multi_polygon, collection, no_members, member}
+use Rattle.wkb_abi.proofs.Common.{members, kind, dimension, SpellsCoordinate, SpellsCoordinates, Endianness}
 use Rattle.std.specs.Prelude.{◌-◌, map, flat_map, sum}
 use Rattle.std.specs.List.{AllByRecursion}
-use Rattle.std.proofs.Common.{lt-ltb}
 use Rattle.std.proofs.lemmas.List.{map-append, length-map, map-id}
 use Rattle.std.proofs.lemmas.List.Concat.{flat_map-append}
 use Rattle.wkb_geom.specs.Dimensions.{as_dimensions}
@@ -16,9 +14,8 @@ use Rattle.wkb_geom.specs.Grammar.{IsEach}
 use Rattle.wkb_geom.specs.Spellings.{Wanted, part, member_part}
 use Rattle.wkb_geom.specs.Values.{each}
 use Rattle.wkb_geom.specs.declared.common.Dimension.TheVariants.{Xy, Xyz, Xym, Xyzm}
-use Rattle.wkb_geom.specs.declared.common.Endianness.{Endianness}
-use Rattle.wkb_check.specs.Subjects.{Subject, whole, ring, subjects, subjects_of_rings, subjects_of_each}
-use Rattle.wkb_check.specs.Subjects.{dimension_in, subject_coordinates, rings_of}
+use Rattle.wkb_check.specs.Subjects.{Subject, whole, ring, subjects, subjects_of_rings, subjects_of_each, dimension_in}
+use Rattle.wkb_check.specs.Subjects.{subject_coordinates, rings_of}
 use Rattle.wkb_levels.specs.Cuts.{only_each}
 use Rattle.wkb_levels.specs.Meant.{kind_meant}
 use Rattle.wkb_levels.specs.declared.row.Kind.{Kind}
@@ -90,12 +87,9 @@ mutual
       give_both (subjects s t) (subjects_of_each ss ts) (singles_in s t) (singles_of_each ss ts) (gives s t)
       (each_gives ss ts)
 
--- the singles of subjects have as many rings as there are
-abbrev pub AreCounted : List Subject → Type 0
-AreCounted xs = sum (flat_map single_counts xs) ≡ length (flat_map ring_counts xs)
-
--- those of a geometry have
-pub counted : (s : Spelling) (t : Value) → AreCounted (subjects s t)
+-- the singles of a geometry have as many rings as there are
+pub counted : (s : Spelling) (t : Value)
+    → sum (flat_map single_counts (subjects s t)) ≡ length (flat_map ring_counts (subjects s t))
 counted s t =
     let g = gives s t in
     rw (g.0, g.1, sizes_sum (singles_in s t), length-map (joined (singles_in s t)))
@@ -177,19 +171,16 @@ head_words h words ss (polygon d rings) bytes b =
     words_more d _ _ refl tt (rings_words h.order d rings b.1.rest b.1.second)
 head_words h words ss t bytes b = words_more (dimension t) _ [] refl tt (words_none (dimension t))
 
--- the members of a geometry that is no collection are of one kind
-plain_part : (k : ℕ) (d : Dimension) → k < 7 → member_part k d ≡ part (k - 3) d
-plain_part k d low = rw (lt-ltb k 7 low)
-
 mutual
   -- a geometry that is no collection, and members of one kind
   own_words : (s : Spelling) (t : Value) (bytes : List ℕ) → kind t < 7 → Spells s t bytes
       → HaveOwnWords (dimension t) (subjects s t)
   own_words (node h words ss) t bytes low spelled =
+      let same : member_part (kind t) (dimension t) ≡ part (kind t - 3) (dimension t) = rw (lt-ltb (kind t) 7 low) in
       words_both (whole (node h words ss) t ∷ subjects_of_rings h.order (dimension t) (rings_of t))
       (subjects_of_each ss (members t)) (head_words h words ss t spelled.second.front spelled.second.first)
       (each_words (kind t - 3) (dimension t) ss (members t) spelled.second.rest (omega (arith, low))
-      (rw (plain_part (kind t) (dimension t) low) at spelled.second.second))
+      (rw same at spelled.second.second))
 
   each_words : (k : ℕ) (d : Dimension) (ss : Spellings) (ts : Values) (bytes : List ℕ) → k < 7
       → SpellsEach (part k d) ss ts bytes → HaveOwnWords d (subjects_of_each ss ts)

@@ -91,12 +91,6 @@ runs_held : (w : ℕ) (cs : List (List ℕ)) → AreWide w cs → runs w (length
 runs_held w [] wide = refl
 runs_held w (c ∷ cs) wide = rw (take_at c _ w wide.0, drop_at c _ w wide.0, runs_held w cs wide.1)
 
--- and so as coordinates
-coordinates_held : (d : Dimensions) (cs : List (List ℕ)) → 0 < size d → AreWide (size d) cs
-    → coordinates_in d (joined cs) ≡ cs
-coordinates_held d cs some wide =
-    rw (joined_length (size d) cs wide, mul-div_cancel_left (length cs) some) (runs_held (size d) cs wide)
-
 -- ---- the levels of a row
 
 -- at each level the row has the items of these singles, each of which is a list of rings
@@ -121,15 +115,20 @@ module _ {l : Levels} {d : Dimensions} {i : ℕ} {singles : List (List (List (Li
       (rw (mul_comm (coordinates_end l i) (size d)) h.words.within)
 
   -- the coordinates that it has, and its rings
-  coordinates_are : HoldsItems (coordinates_in d l.words.now) (coordinates_begin l i) (coordinates_end l i) (joined (joined singles))
-  coordinates_are = record {
-    many = h.coordinates;
-    within = omega (arith, within, length-runs (size d) (length l.words.now / size d) l.words.now);
-    are =
-        sym (coordinates_between d l.words.now (coordinates_begin l i) (coordinates_end l i) h.some_words
-        (omega (arith, h.coordinates)) within)
-        ∙ ap (coordinates_in d) h.words.are ∙ coordinates_held d (joined (joined singles)) h.some_words h.wide;
-  }
+  coordinates_are : HoldsItems (coordinates_in d l.words.now) (coordinates_begin l i) (coordinates_end l i)
+      (joined (joined singles))
+  coordinates_are =
+      let cs = joined (joined singles) in
+      let held : coordinates_in d (joined cs) ≡ cs =
+      rw (joined_length (size d) cs h.wide, mul-div_cancel_left (length cs) h.some_words) (runs_held (size d) cs h.wide) in
+      record {
+        many = h.coordinates;
+        within = omega (arith, within, length-runs (size d) (length l.words.now / size d) l.words.now);
+        are =
+            sym (coordinates_between d l.words.now (coordinates_begin l i) (coordinates_end l i) h.some_words
+            (omega (arith, h.coordinates)) within)
+            ∙ ap (coordinates_in d) h.words.are ∙ held;
+      }
 
   rings_are : HoldsItems (column_rings l d) (rings_begin l i) (rings_end l i) (joined singles)
   rings_are = record {

@@ -14,7 +14,7 @@ use Rattle.wkb_levels.specs.declared.ends.Ends.{Ends}
 use Rattle.wkb_levels.specs.declared.ends.Ends.TheVariants.{Each, At}
 use Rattle.wkb_levels.specs.declared.levels.Levels.{Levels}
 use Rattle.wkb_levels.specs.Cuts.{start_at}
-use Rattle.wkb_levels.specs.EndLists.{start_of, ends_of, begin_of}
+use Rattle.wkb_levels.specs.EndLists.{ends_of, begin_of}
 use Rattle.wkb_levels.proofs.Pieces.{start_behind, last_of_part}
 use Rattle.wkb_abi.specs.Columns.{IsRow, IsRefusedWith}
 use Rattle.wkb_abi.specs.Coordinates.{LevelLists, levels, Level, of_words, of_rings, of_singles, list_of, many_in}
@@ -22,15 +22,15 @@ use Rattle.wkb_abi.specs.Coordinates.{HoldLevels, written, no_room, IsCoordinate
 use Rattle.wkb_abi.specs.Coordinates.{refused, ends, ring_counts, single_counts}
 use Rattle.wkb_abi.specs.LevelTargets.{levels_in}
 use Rattle.wkb_abi.specs.RowItems.{HoldsItems}
-use Rattle.wkb_abi.specs.declared.column.Column.{Column}
 use Rattle.wkb_abi.specs.declared.totals.Totals.{Totals}
 use Rattle.wkb_abi.specs.declared.level_column.LevelColumn.{LevelColumn}
-use Rattle.wkb_abi.specs.declared.status.TheConstants.{OK}
 use Rattle.wkb_abi.proofs.OneRow.{one_row, never_lacks, never_refused}
 use Rattle.wkb_abi.proofs.Levels.{ends_length, sum-first, subjects_words}
 use Rattle.wkb_abi.proofs.Rooms.{one_dimension, row_lacks, room_of, held_on, rise_at, end_at}
 use Rattle.wkb_column_laws.specs.ThereAndBack.{AreGivenOn}
 use Rattle.wkb_column_laws.proofs.ThereAndBackKinds.{counted}
+use Rattle.wkb_abi.specs.declared.column.Column.{Column}
+use Rattle.wkb_abi.specs.declared.status.TheConstants.{OK}
 
 -- ---- what a row has
 
@@ -57,14 +57,14 @@ module _ {c : Column} {dimension i status : ℕ} {asked : Dimension} {from to : 
   -- the levels of a row of the status OK are there, if it begins with this geometry
   pub row_there : {row rest : List ℕ} {s : Spelling} {t : Value} → status ≡ OK → IsRow c i row → Front row s t rest
       → IsCoordinatesRow c dimension i status from to out → HoldLevels asked (subjects s t) from to out
-  row_there {row} {rest} {s} {t} ok is front (handed other named' own is' a (written told to_is held)) =
+  row_there {row} {rest} {s} {t} ok is front (handed other named' own is' a (written is_status to_is held)) =
       let one = one_front_lem row a.s s a.t t a.rest rest (subst (λ z. Front z a.s a.t a.rest) (one_row is' is) a.front)
       front in
       one_dimension (λ d. HoldLevels d (subjects s t) from to out) dimension other asked named' named
       (subst (λ xs. HoldLevels other xs from to out) (λ k. subjects (one.1 k) (one.2 k)) held)
-  row_there ok is front (handed other named' own is' a (no_room told to_is short)) = absurd (omega (arith, ok, told))
+  row_there ok is front (handed other named' own is' a (no_room lacks to_is short)) = absurd (omega (arith, ok, lacks))
   row_there ok is front (failed (no_row lacks) to_is) = absurd (never_lacks is lacks)
-  row_there ok is front (failed (unknown other is' none told) to_is) = absurd (cc named)
+  row_there ok is front (failed (unknown other is' none is_status) to_is) = absurd (cc named)
   row_there {s = s} {t = t} ok is front (failed (refused other d is' n why) to_is) =
       absurd (never_refused (record { s = s; t = t; rest = _; front = front })
       (subst (λ z. IsRefusedWith z status) (one_row is' is) why))
@@ -92,10 +92,10 @@ held_ends {xs} {from} {to} start ns h is =
 
 -- ---- the levels that are given on
 
--- ends that are given, or none if there are no items
+-- ends that are given, or none if there are no items, and where items begin by them
 pub record AreGivenEnds (e : Ends) (xs : List ℕ) : Type 0 where
-  pub start : start_of e ≡ 0
   pub ends : ends_of e ≡ xs
+  pub begins : (k : ℕ) → begin_of e k ≡ start_at 0 xs k
 
 -- those of a level are
 given_ends : (xs : Bor (List ℕ)) (n : ℕ) → n ≡ length xs.now
@@ -104,12 +104,9 @@ given_ends xs n many =
     cond_both (length xs.now == 0) (Each 0 n) (At 0 xs) (λ e. AreGivenEnds e xs.now)
     (λ none.
     let empty : length xs.now ≡ 0 = eqb-true (length xs.now) 0 none in
-    record { start = refl; ends = rw (many, empty) (sym (nil_from_length xs.now empty)) })
-    (λ some. record { start = refl; ends = refl })
-
--- so an item begins where they say
-begin_same : (e : Ends) (xs : List ℕ) (k : ℕ) → AreGivenEnds e xs → begin_of e k ≡ start_at 0 xs k
-begin_same e xs k g = λ i. start_at (g.start i) (g.ends i) k
+    let same : ends_of (Each 0 n) ≡ xs.now = rw (many, empty) (sym (nil_from_length xs.now empty)) in
+    record { ends = same; begins = λ k. ap (λ z. start_at 0 z k) same })
+    (λ some. record { ends = refl; begins = λ k. refl })
 
 -- where row j begins at each level of a column
 pub record BeginsAt (l : Levels) (j : ℕ) (at : Totals) : Type 0 where
@@ -162,9 +159,9 @@ module _ {c : Column} {dimension : ℕ} {asked : Dimension} {statuses : List ℕ
             held_ends (at i).coordinates (flat_map ring_counts (subjects a.s a.t)) (h of_rings) p.rings
             ∙ sym (coordinates_more h);
       }
-  placed_next i below fits p (handed other named own is a (no_room told to_is short)) =
-      absurd (row_lacks {dimension = dimension} g.asked_is (handed other named own is a (no_room told to_is short))
-      (room_of asked g.now (at (suc i)) fits) told)
+  placed_next i below fits p (handed other named own is a (no_room lacks to_is short)) =
+      absurd (row_lacks {dimension = dimension} g.asked_is (handed other named own is a (no_room lacks to_is short))
+      (room_of asked g.now (at (suc i)) fits) lacks)
   placed_next i below fits p (failed why to_is) = rw to_is p
 
   placed : (i : ℕ) → i ≤ rows → Fits i → IsPlaced given (at i)
@@ -190,17 +187,13 @@ module _ {c : Column} {dimension : ℕ} {asked : Dimension} {statuses : List ℕ
   pub begins_at : (j : ℕ) → j ≤ rows → Fits j → BeginsAt (levels_in l) j (at j)
   begins_at j below fits =
       let p = placed j below fits in
-      let row_level = given_ends l.row_ends l.rows g.levels.rows in
       let singles =
-      begin_same (levels_in l).row_ends l.row_ends.now j row_level
-      ∙ ap (λ z. start_at 0 z j) g.levels.row_ends_are ∙ row_begins j below in
+      (given_ends l.row_ends l.rows g.levels.rows).begins j ∙ ap (λ z. start_at 0 z j) g.levels.row_ends_are
+      ∙ row_begins j below in
       let rings =
-      ap (begin_of (levels_in l).single_ends) singles
-      ∙ begin_same (levels_in l).single_ends l.single_ends.now (at j).singles single_level ∙ p.singles in
+      ap (begin_of (levels_in l).single_ends) singles ∙ single_level.begins (at j).singles ∙ p.singles in
       record {
         singles = singles;
         rings = rings;
-        coordinates =
-            ap (begin_of (levels_in l).ring_ends) rings
-            ∙ begin_same (levels_in l).ring_ends l.ring_ends.now (at j).rings ring_level ∙ p.rings;
+        coordinates = ap (begin_of (levels_in l).ring_ends) rings ∙ ring_level.begins (at j).rings ∙ p.rings;
       }

@@ -1,7 +1,7 @@
 -- What the two calls say of each other: a column's rows are written as levels, these are given on, and the rows come
 -- back from them. `proofs/ThereAndBackExample` has a column that is given on so.
-use Rattle.std.specs.Prelude.{◌≡◌, ℕ, ◌*◌, ◌^◌, ◌<◌, ◌≤◌, List, [], ◌∷◌, length, take, map, Option, Some}
-use Rattle.std.specs.Prelude.{None, true, slice_index}
+use Rattle.std.specs.Prelude.{◌≡◌, ℕ, ◌*◌, ◌^◌, ◌<◌, ◌≤◌, List, [], ◌∷◌, length, take, map, Option, Some, None, true}
+use Rattle.std.specs.Prelude.{slice_index}
 use Rattle.wkb_geom.specs.declared.common.Dimension.{Dimension}
 use Rattle.wkb_geom.specs.Codes.{dimension_of_thousands}
 use Rattle.wkb_geom.specs.Dimensions.{width, as_dimensions}
@@ -131,8 +131,9 @@ ThereAndBack =
     → AreGivenOn c dimension asked statuses rows l
     → (i : ℕ) → i < rows → (s : Spelling) (t : Value) → IsLevelled c asked statuses i s t → HasEmptyWords s t
     → (o : Options) → NeedsNoSrid o s → (encoding : List ℕ) → RowHas (HasEncoding o) c i encoding
-    → (told ends out : List ℕ) → EncodeLevels (kind t) dimension o l told ends out → i < level_rows l told ends
-    → IsWrittenBack encoding i (slice_index told i) (start_at 0 ends i) (slice_index ends i) out
+    → (back_statuses ends out : List ℕ) → EncodeLevels (kind t) dimension o l back_statuses ends out
+    → i < level_rows l back_statuses ends
+    → IsWrittenBack encoding i (slice_index back_statuses i) (start_at 0 ends i) (slice_index ends i) out
 
 -- row i is null, or comes back as one of this kind under these options
 pub data ComesBack (c : Column) (asked : Dimension) (statuses : List ℕ) (o : Options) (k i : ℕ) : Type 0 where
@@ -145,10 +146,10 @@ abbrev pub AllHadRoom : ℕ → List ℕ → Type 0
 AllHadRoom rows statuses = (i : ℕ) → i < rows → slice_index statuses i ≡ NO_ROOM → ⊥
 
 -- the rows below this number have the same statuses, the same ends and the same bytes
-pub record AreTheSame (rows : ℕ) (told ends out other_told other_ends other_out : List ℕ) : Type 0 where
-  pub statuses : (i : ℕ) → i < rows → slice_index told i ≡ slice_index other_told i
-  pub ends_are : (i : ℕ) → i < rows → slice_index ends i ≡ slice_index other_ends i
-  pub bytes : take (start_at 0 ends rows) out ≡ take (start_at 0 other_ends rows) other_out
+pub record AreTheSame (rows : ℕ) (row_statuses ends out back_statuses back_ends back : List ℕ) : Type 0 where
+  pub statuses : (i : ℕ) → i < rows → slice_index row_statuses i ≡ slice_index back_statuses i
+  pub ends_are : (i : ℕ) → i < rows → slice_index ends i ≡ slice_index back_ends i
+  pub bytes : take (start_at 0 ends rows) out ≡ take (start_at 0 back_ends rows) back
 
 -- If each row of a column is null or comes back, and no row lacks room, the encodings of the column and those of its
 -- levels have the same statuses, ends and bytes.
@@ -158,7 +159,8 @@ ColumnsComeBack =
     → AreGivenOn c dimension asked statuses rows l
     → (k : ℕ) (o : Options) (request : Request) → request_of o ≡ Some request
     → ((i : ℕ) → i < rows → ComesBack c asked statuses o k i)
-    → (told ends out : List ℕ) → AreEncodings o c told ends out → rows ≤ rows_of told ends → AllHadRoom rows told
-    → (back_told back_ends back : List ℕ) → EncodeLevels k dimension o l back_told back_ends back
-    → rows ≤ level_rows l back_told back_ends → AllHadRoom rows back_told
-    → AreTheSame rows told ends out back_told back_ends back
+    → (row_statuses ends out : List ℕ) → AreEncodings o c row_statuses ends out → rows ≤ rows_of row_statuses ends
+    → AllHadRoom rows row_statuses
+    → (back_statuses back_ends back : List ℕ) → EncodeLevels k dimension o l back_statuses back_ends back
+    → rows ≤ level_rows l back_statuses back_ends → AllHadRoom rows back_statuses
+    → AreTheSame rows row_statuses ends out back_statuses back_ends back

@@ -1,13 +1,11 @@
 use Rattle.std.specs.Prelude.{◌≡◌}
 use Rattle.wkb_check.specs.Pieces.{bytes_left}
-use Rattle.wkb_abi.specs.LevelLists.{AreSameSlices}
 use Rattle.wkb_abi.proofs.Levels.{Walks}
 use Rattle.wkb_abi.proofs.level_slices.lay_rings.Given as goal
 
 abbrev pub invariant-loop-ring : goal.invariant-loop-ring
 invariant-loop-ring l = record {
-  left : Walks l.asked l.row l.fn.from l.fn.out l.pieces l.at l.out;
-  same_slices : AreSameSlices l.fn.out l.out;
+  walk : Walks l.asked l.row l.fn.from l.fn.out l.pieces l.at l.out;
   alone : l.pieces.geometries ≡ 0;
 }
 

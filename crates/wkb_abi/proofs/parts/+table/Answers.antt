@@ -1,15 +1,10 @@
-use Rattle.std.proofs.Common.{◌+◌, List, length, refl, sym, ap, ◌∙◌, arith}
-use lib.Seq.{sets}
+use Rattle.std.proofs.Common.{length, refl, sym, ◌∙◌, arith}
 use Rattle.wkb_geom.specs.declared.common.Dimension.TheVariants.{Xy}
 use Rattle.wkb_geom.specs.declared.common.Endianness.TheVariants.{BigEndian}
-use Rattle.wkb_check.specs.Pieces.{last_end}
-use Rattle.wkb_check.specs.Subjects.{Subject, subjects_of_each}
-use Rattle.wkb_abi.specs.Tables.{entries_from}
-use Rattle.wkb_abi.specs.declared.parts.Part.{Part}
-use Rattle.wkb_abi.specs.declared.parts.PartPlace.{PartPlace}
 use Rattle.wkb_check.proofs.Placing.{geometry_inside, onward, leaf_inside, rings_inside, members_inside, rings_alone}
-use Rattle.wkb_check.proofs.Placing.{none_of, inside_many, inner_end}
-use Rattle.wkb_abi.proofs.Entries.{item_laid, left_first, left_next, here}
+use Rattle.wkb_check.proofs.Placing.{none_of, inside_many, inner}
+use Rattle.wkb_check.specs.Subjects.{subjects}
+use Rattle.wkb_abi.proofs.Entries.{LaysInside, item_laid, left_first, left_next, here}
 use Rattle.wkb_abi.proofs.parts.+table.Goals as goal
 use Rattle.wkb_abi.proofs.parts.+table.Goals.{then-has_coordinates, else-has_coordinates+then-piece-eq-POLYGON}
 use Rattle.wkb_abi.proofs.parts.+table.Goals.{else-has_coordinates+else-piece-eq-POLYGON}
@@ -83,47 +78,29 @@ loop-preserved t c = λ more all.
     (λ g.
     let buf = c.args.buf.now in
     let at = c.loop.at in
-    let p = c.of_geometry-piece.result in
     let is = c.of_geometry-piece.ensures g in
-    let laid : List Subject → List Part =
-    λ xs. sets c.loop.parts (at.index + 1) (entries_from (at.index + 1) c.end.result xs) in
-    let ends = inner_end buf at.byte g p is c.end.result c.end.ensures in
-    elim c.if-has_coordinates.branch [
+    let inside : LaysInside c.loop.parts c.if-has_coordinates.parts at.index c.end.result c.if-has_coordinates.next
+    (inner g.spelled g.value) (length (subjects g.spelled g.value)) = elim c.if-has_coordinates.branch [
       | then-has_coordinates w ↦
-          let r = rings_alone (leaf_inside buf at.byte g p is c.end.result c.end.ensures
+          let r = rings_alone (leaf_inside buf at.byte g _ is c.end.result c.end.ensures
           (sym c.has_coordinates.ensures ∙ w.if-has_coordinates.true) BigEndian Xy) in
-          item_laid at.index at.byte _ _ p is c.loop.parts _ c.end.result _ _ c.of.result c.end.ensures
-          (w.parts-is ∙ ap laid r.0)
-          (omega (arith, ap (λ (p : PartPlace). p.index) w.next-is, r.1))
-          (ap (λ (p : PartPlace). p.byte) w.next-is ∙ ap (last_end c.end.result) r.0 ∙ ends) c.of.ensures
+          rw (w.parts-is, w.next-is, ← r.0) (record { laid = refl; index_is = omega (arith, r.1); byte_is = refl })
       | else-has_coordinates+then-piece-eq-POLYGON w ↦
-          let r = rings_alone (rings_inside buf at.byte g p is _ c.end.ensures w.if-piece-eq-POLYGON.true) in
+          let r = rings_alone (rings_inside buf at.byte g _ is _ c.end.ensures w.if-piece-eq-POLYGON.true) in
           let lays = w.lay_rings.ensures in
-          item_laid at.index at.byte _ _ p is c.loop.parts _ c.end.result _ _ c.of.result c.end.ensures
-          (w.parts-is ∙ lays.laid ∙ ap laid r.0)
-          (omega (arith, ap (λ (p : PartPlace). p.index) w.next-is, lays.index, r.1))
-          (ap (λ (p : PartPlace). p.byte) w.next-is ∙ lays.byte ∙ ap (last_end c.end.result) r.0 ∙ ends) c.of.ensures
+          rw (w.parts-is, w.next-is, ← r.0)
+          (record { laid = lays.laid; index_is = omega (arith, lays.index, r.1); byte_is = lays.byte })
       | else-has_coordinates+else-piece-eq-POLYGON w ↦
-          let i = members_inside buf at.byte g p is _ c.end.ensures
+          let i = members_inside buf at.byte g _ is _ c.end.ensures
           (sym c.has_coordinates.ensures ∙ w.if-has_coordinates.false) w.if-piece-eq-POLYGON.false BigEndian Xy in
           let lays = w.lay_geometries.ensures g.rest i.all in
-          item_laid at.index at.byte _ _ p is c.loop.parts _ c.end.result _ _ c.of.result c.end.ensures
-          (w.parts-is ∙ lays.laid ∙ ap laid (sym i.are))
-          (omega (arith, ap (λ (p : PartPlace). p.index) w.next-is, lays.index, inside_many i))
-          (ap (λ (p : PartPlace). p.byte) w.next-is ∙ lays.byte ∙ ap (last_end c.end.result) (sym i.are) ∙ ends)
-          c.of.ensures
-    ])
+          rw (w.parts-is, w.next-is, i.are)
+          (record { laid = lays.laid; index_is = omega (arith, lays.index, inside_many i); byte_is = lays.byte })
+    ] in
+    item_laid buf at.byte g _ is c.end.ensures inside c.of.result c.of.ensures)
 
 pub returns : goal.returns
 returns t c = λ more all.
     let l = c.loop.invariant more all in
-    let left = l.to_come.spelled in
     let none = none_of l.to_come.values (omega (arith, l.to_come.counted, c.loop-test.false)) in
-    record {
-      laid =
-          ap (λ ts. sets c.loop.parts c.loop.at.index
-          (entries_from c.loop.at.index c.loop.at.byte (subjects_of_each left ts)))
-          (sym none) ∙ l.laid;
-      index = omega (arith, l.indices, ap (λ ts. length (subjects_of_each left ts)) none);
-      byte = ap (λ ts. last_end c.loop.at.byte (subjects_of_each left ts)) (sym none) ∙ l.bytes;
-    }
+    record { laid = rw none at l.left.laid; index = omega (arith, rw none at l.indices); byte = rw none at l.left.bytes }

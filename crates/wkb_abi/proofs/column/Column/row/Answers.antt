@@ -1,6 +1,6 @@
 use Rattle.wkb_abi.proofs.Common.{sym, refl, arith}
 use Rattle.wkb_abi.specs.Columns.{bad_offsets, null_row}
-use Rattle.wkb_abi.proofs.Spans.{reached, reach_same, no_span}
+use Rattle.wkb_abi.proofs.Spans.{reached, reach_same}
 use Rattle.wkb_abi.proofs.column.Column.row.Goals.{then-null, else-null}
 use Rattle.wkb_abi.proofs.column.Column.row.Goals as goal
 
@@ -12,7 +12,7 @@ returns-in_default-clause-none c =
     elim c.if-null.branch [
       | then-null w ↦ null_row (sym w.if-null.ensures) w.result-is
       | else-null w ↦
-          bad_offsets (sym w.if-null.ensures) (no_span c.args.self.now c.in_default.ensures.none) w.result-is
+          bad_offsets (sym w.if-null.ensures) (λ row is. c.in_default.ensures.none is.start is.end is.span) w.result-is
     ]
 
 pub returns-then-null-2-clause-reach : goal.returns-then-null-2-clause-reach

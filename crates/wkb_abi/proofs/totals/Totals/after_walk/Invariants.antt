@@ -1,5 +1,4 @@
-use Rattle.wkb_abi.proofs.Common.{HasGeometry, subjects}
-use Rattle.std.specs.Prelude.{◌≡◌}
+use Rattle.wkb_abi.proofs.Common.{HasGeometry, subjects, ◌≡◌}
 use Rattle.wkb_check.specs.Pieces.{bytes_left}
 use Rattle.wkb_abi.specs.Coordinates.{totals_after}
 use Rattle.wkb_abi.proofs.Levels.{Coming, totals_behind}
