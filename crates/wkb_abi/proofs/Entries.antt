@@ -1,7 +1,7 @@
 -- The entries of a table: of rings one after another, and of geometries and what is inside each.
 use Rattle.wkb_abi.proofs.Common.{◌≡◌, ℕ, suc, ◌+◌, ◌-◌, ◌<◌, ◌≤◌, ◌^◌, List, [], ◌∷◌, ◌++◌, length, drop, set, refl}
 use Rattle.wkb_abi.proofs.Common.{sym, ap, ◌∙◌, arith, length-append, sets, length-sets, width, number, Piece}
-use Rattle.wkb_abi.proofs.Common.{Dimension, Endianness, Spelling, node, Value, Subject, subjects, subjects_of_each}
+use Rattle.wkb_abi.proofs.Common.{Dimension, Endianness, Spelling, Value, Subject, subjects, subjects_of_each}
 use Rattle.std.proofs.Common.{add-one}
 use Rattle.std.proofs.lemmas.List.{set_comm}
 use Rattle.wkb_geom.specs.declared.common.Dimension.TheVariants.{Xy}
@@ -140,9 +140,6 @@ pub record Left (buf : List ℕ) (total start : ℕ) (more : List ℕ) (all : Ha
       at first start parts before
   pub onward : start ≤ at
 
-some_entries : (s : Spelling) (t : Value) → 1 ≤ length (subjects s t)
-some_entries (node h words ss) t = omega arith
-
 -- a geometry that is there, and its entries fit the table
 pub record Here (buf : List ℕ) (at index : ℕ) (parts : List Part) : Type 0 where
   pub geometry : HasGeometry (drop at buf)
@@ -186,5 +183,5 @@ module _ {buf more : List ℕ} {total start : ℕ} {all : HasGeometries total (d
         record {
           geometry = f.geometry;
           room = omega (arith, fit, l.indices, ap length f.are, length-append own others, l.left.long);
-          some = some_entries f.geometry.spelled f.geometry.value;
+          some = omega (arith, ap length (itself_first f.geometry.spelled f.geometry.value));
         }

@@ -7,7 +7,7 @@ use Rattle.wkb_abi.proofs.Common.{Endianness, HasGeometry, DescribesFront, Summa
 use Rattle.wkb_abi.proofs.Common.{subjects_of_each}
 use Rattle.std.specs.Prelude.{sum, sum_by}
 use Rattle.std.proofs.lemmas.Grind.{flat_map-append}
-use Rattle.std.proofs.lemmas.List.Sums.{sum_by-cons}
+use Rattle.std.proofs.lemmas.List.Sums.{sum_by-cons, sum_by-append}
 use Rattle.wkb_geom.specs.Values.{each}
 use Rattle.wkb_laws.proofs.OneFront.{one_spelling}
 use Rattle.wkb_geom.specs.Counted.{coordinate_count}
@@ -15,7 +15,6 @@ use Rattle.wkb_check.specs.Pieces.{piece_of, IsPieceAt}
 use Rattle.wkb_abi.specs.Coordinates.{ring_counts, single_counts, AreTotals}
 use Rattle.wkb_abi.specs.PieceLevels.{ring_number, single_number}
 use Rattle.wkb_check.specs.Subjects.{ring, subjects_of_rings}
-use Rattle.wkb_abi.proofs.Levels.{sum_append}
 
 -- these subjects have so many coordinates, rings and singles
 abbrev Count : List Subject → ℕ → ℕ → ℕ → Type 0
@@ -31,7 +30,7 @@ both : {xs ys : List Subject} {c d cd r q rq s t st : ℕ} → Count xs c r s �
 both {xs} {ys} a b c_is r_is s_is =
     let rings = flat_map-append ring_counts xs ys in
     let singles = flat_map-append single_counts xs ys in record {
-      coordinates_are = omega (arith, ap sum rings, sum_append);
+      coordinates_are = omega (arith, ap sum rings, sum_by-append (λ (n : ℕ). n));
       rings_are = omega (arith, ap length rings, length-append {A = ℕ});
       singles_are = omega (arith, ap length singles, length-append {A = ℕ});
     }
@@ -40,7 +39,7 @@ both {xs} {ys} a b c_is r_is s_is =
 more : {xs : List Subject} {c cd r rq s st : ℕ} (x : Subject) → Count xs c r s → cd ≡ sum (ring_counts x) + c
     → rq ≡ length (ring_counts x) + r → st ≡ length (single_counts x) + s → Count (x ∷ xs) cd rq st
 more x are c_is r_is s_is = record {
-  coordinates_are = omega (arith, sum_append);
+  coordinates_are = omega (arith, sum_by-append (λ (n : ℕ). n));
   rings_are = omega (arith, length-append {A = ℕ});
   singles_are = omega (arith, length-append {A = ℕ});
 }

@@ -6,7 +6,7 @@ use Rattle.wkb_abi.proofs.Common.{no_spellings, spelling, Value, Values, point, 
 use Rattle.wkb_abi.proofs.Common.{sets, length-sets, Endianness, HasGeometry, Piece, levels_of, Totals, Subject}
 use Rattle.wkb_abi.proofs.Common.{subjects, subjects_of_each}
 use Rattle.std.specs.Prelude.{sum, flat_map, nat_lt, Bool, true, false, cond}
-use Rattle.std.proofs.lemmas.Grind.{common_steps}
+use Rattle.std.proofs.lemmas.List.Sums.{sum_by-cons, sum_by-append}
 use Rattle.std.proofs.lemmas.Option.{slice_get-get_or}
 use Rattle.wkb_geom.specs.declared.common.Dimension.TheVariants.{Xy}
 use Rattle.wkb_geom.specs.Items.{length-items}
@@ -67,17 +67,11 @@ pub ends_length : (start : ℕ) (ns : List ℕ) → length (ends start ns) ≡ l
 ends_length start [] = refl
 ends_length start (n ∷ ns) = ap suc (ends_length (start + n) ns)
 
-pub sum-first : (n : ℕ) (ns : List ℕ) → sum (n ∷ ns) ≡ n + sum ns
-sum-first n ns = grind (arith, common_steps)
-
 ends_append : (start to : ℕ) (ns ms : List ℕ) → to ≡ start + sum ns
     → ends start (ns ++ ms) ≡ ends start ns ++ ends to ms
 ends_append start to [] ms is = ap (λ k. ends k ms) (omega (arith, is))
 ends_append start to (n ∷ ns) ms is =
-    ap (λ z. (start + n) ∷ z) (ends_append (start + n) to ns ms (omega (arith, is, sum-first n ns)))
-
-pub sum_append : (ns ms : List ℕ) → sum (ns ++ ms) ≡ sum ns + sum ms
-sum_append ns ms = grind (arith, common_steps)
+    ap (λ z. (start + n) ∷ z) (ends_append (start + n) to ns ms (omega (arith, is, sum_by-cons (λ n. n) n ns)))
 
 -- ---- pieces
 
@@ -119,8 +113,8 @@ totals_reached begin (x ∷ xs) at small =
     let own = own_sizes begin x in
     totals_reached (own_end (piece_at begin x)) xs (totals_with at (piece_at begin x))
     (record { coordinates = omega arith; rings = omega arith; singles = omega arith })
-    ∙ same_totals (omega (arith, ap sum own.0, sum_append)) (omega (arith, ap length own.0, length-append {A = ℕ}))
-    (omega (arith, ap length own.1, length-append {A = ℕ}))
+    ∙ same_totals (omega (arith, ap sum own.0, sum_by-append (λ (n : ℕ). n)))
+    (omega (arith, ap length own.0, length-append {A = ℕ})) (omega (arith, ap length own.1, length-append {A = ℕ}))
 
 pub totals_next : {now : Pieces} {ps : List Piece} {p : Piece} {to all : Totals} (at : Totals) → IsTaken now ps p
     → to ≡ totals_with at p → totals_behind at ps ≡ all → Coming now (λ ps. totals_behind to ps ≡ all)
@@ -212,7 +206,7 @@ pub subjects_words : (asked : Dimension) (xs : List Subject)
     → length (flat_map (asked_subject_words asked) xs) ≡ width asked * sum (flat_map ring_counts xs)
 subjects_words asked [] = omega arith
 subjects_words asked (x ∷ xs) =
-    let sums = ap (λ n. width asked * n) (sum_append (ring_counts x) (flat_map ring_counts xs)) in
+    let sums = ap (λ n. width asked * n) (sum_by-append (λ n. n) (ring_counts x) (flat_map ring_counts xs)) in
     omega (arith, length-append {A = ℕ}, subject_words asked x, subjects_words asked xs, sums)
 
 words_if : (asked own : Dimension) (has : Bool) (cs : List Coordinate)

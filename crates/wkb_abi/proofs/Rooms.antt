@@ -43,7 +43,8 @@ module _ {A : Type 0} where
   pub front_laid : (xs items : List A) (at : ℕ) → at + length items ≤ length xs
       → take at (sets xs at items) ≡ take at xs
   front_laid xs items at there =
-      rw (sets-eq items xs at there, append_assoc) (take_at (take at xs) _ at (length-take-le at xs (omega (arith, there))))
+      rw (sets-eq items xs at there, append_assoc)
+      (take_at (take at xs) _ at (length-take-le at xs (omega (arith, there))))
 
   pub behind_laid : (xs items : List A) (at n : ℕ) → at + length items ≤ length xs → at + length items ≤ n
       → KeepsFrom n xs (sets xs at items)
@@ -128,8 +129,7 @@ module _ {asked : Dimension} {row : List ℕ} {found : Summary} {from to : Total
 
       now : (k : Level) → list_of k (levels_of after) ≡ sets (old k) (many_in k asked from) (items k)
       now of_words = ap (λ out. out.words) laid
-      now of_rings = ap (λ out. out.ring_ends) laid
-      now of_singles = ap (λ out. out.single_ends) laid
+      now k = ap (list_of k) laid
 
       fits : (k : Level) → many_in k asked (totals_after from (subjects d.spelled d.value)) ≤ length (old k)
       fits k = rw to_is at (room_at room k)

@@ -1,11 +1,10 @@
 -- What the C library reports of a result of the check.
-use Rattle.wkb_abi.proofs.Common.{◌≡◌, ◌≢◌, ℕ, List, refl, arith, sym, subst, kind, dimension, Value, header, Spelling}
+use Rattle.wkb_abi.proofs.Common.{◌≡◌, ◌≢◌, ℕ, List, refl, arith, sym, subst, Value, header, Spelling}
 use Rattle.wkb_abi.proofs.Common.{node, Spells, Piece, HasGeometry, DescribesFront, Summary, IsAccepted, IsRefusedWith}
 use Rattle.std.proofs.Common.{rules}
 use Rattle.wkb_geom.specs.Fronts.{Front}
 use Rattle.wkb_geom.specs.Grammar.{Begins}
 use Rattle.wkb_geom.specs.declared.error.Cause.TheVariants.{General as general}
-use Rattle.wkb_geom.specs.declared.error.General.{General as Bad}
 use Rattle.wkb_geom.specs.declared.error.General.TheVariants.{InvalidByteOrder, CodeOutOfRange, UnsupportedDimensions}
 use Rattle.wkb_check.specs.Pieces.{leading, count_of, piece_of, HeaderIs}
 use Rattle.wkb_check.specs.Public.{IsRefusedFor}
@@ -13,30 +12,21 @@ use Rattle.wkb_check.specs.declared.answer.Refused.{Refused}
 use Rattle.wkb_check.specs.Inputs.{HaveOneValue, HaveTwoValues}
 use Rattle.wkb_abi.specs.Checks.{IsFound}
 use Rattle.wkb_abi.specs.declared.found.Found.{Found}
-use Rattle.wkb_abi.specs.Classes.{IsRefusalStatus, IsShortStatus}
 use Rattle.wkb_abi.specs.EnumNumbers.{AreRefusals, OthersTellNoEnd}
-use Rattle.wkb_abi.specs.Statuses.{general_status, general_fault, cause_status, cause_fault}
-
-general_is_refusal : (g : Bad) → IsRefusalStatus (general_status g)
-general_is_refusal InvalidByteOrder = omega arith
-general_is_refusal _ = omega arith
+use Rattle.wkb_abi.specs.Statuses.{cause_status, cause_fault}
 
 -- each cause has a status of the class of refusals
 pub refusals : AreRefusals
-refusals (general g) = general_is_refusal g
+refusals (general InvalidByteOrder) = omega arith
+refusals (general _) = omega arith
 refusals _ = omega arith
 
 -- and only those of the last part tell where the input ends too early
-general_tells_end : (g : Bad) (part offset : ℕ) → (IsShortStatus (general_status g) → ⊥)
-    → ((general_fault (general_status g) part offset g).end ≡ 0)
-    × ((general_fault (general_status g) part offset g).len ≡ 0)
-general_tells_end InvalidByteOrder part offset long = (refl, refl)
-general_tells_end (CodeOutOfRange code) part offset long = (refl, refl)
-general_tells_end (UnsupportedDimensions n) part offset long = (refl, refl)
-general_tells_end _ part offset long = absurd (long (omega arith))
-
 pub others_tell_no_end : OthersTellNoEnd
-others_tell_no_end (general g) part offset long = general_tells_end g part offset long
+others_tell_no_end (general InvalidByteOrder) part offset long = (refl, refl)
+others_tell_no_end (general (CodeOutOfRange code)) part offset long = (refl, refl)
+others_tell_no_end (general (UnsupportedDimensions n)) part offset long = (refl, refl)
+others_tell_no_end (general _) part offset long = absurd (long (omega arith))
 others_tell_no_end _ part offset long = (refl, refl)
 
 -- the status of its cause says why the bytes are rejected

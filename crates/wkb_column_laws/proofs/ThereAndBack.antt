@@ -145,7 +145,7 @@ module _ {c : Column} {dimension : ℕ} {asked : Dimension} {statuses : List ℕ
     has_encoding o request asked_so =
         let options = options_for request None in
         let r = lv.is_row.slice in
-        let are = front_bytes lv.row s t lv.rest (rw r.row_is (range_bytes c.bytes.now r.start r.end g.bytes)) lv.front in
+        let bytes : AreBytes lv.row = rw r.row_is (range_bytes c.bytes.now r.start r.end g.bytes) in
         let long = length-range c.bytes.now r.start r.end r.span.inside in
         let small : length lv.front.front < 2 ^ 63 =
         omega (arith, g.small, ap length lv.front.whole, length-append lv.front.front lv.rest, ap length r.row_is, r) in
@@ -158,7 +158,8 @@ module _ {c : Column} {dimension : ℕ} {asked : Dimension} {statuses : List ℕ
             geometry = as_spelled s t;
             row = record { levels = levels_are holds; clear = clear; meant = row_meant };
             writable =
-                spelled_writable options.endianness options.form s t lv.front.front are small lv.front.spelled;
+                spelled_writable options.endianness options.form s t lv.front.front
+                (front_bytes lv.row s t lv.rest bytes lv.front) small lv.front.spelled;
             is = refl;
           };
         }
@@ -203,7 +204,8 @@ answered {l} {i = i} {encoding = encoding} has (failed (unfit present t is_asked
 
 -- both together
 pub there_and_back : ThereAndBack
-there_and_back c dimension asked statuses rows l g i below s t lv empty o none encoding has statuses' ends out each inside =
+there_and_back c dimension asked statuses rows l g i below s t lv empty o none encoding has statuses' ends out each
+    inside =
     let request = has.has.request in
     let front : Front has.row s t lv.rest = subst (λ z. Front z s t lv.rest) (one_row lv.is_row has.is) lv.front in
     let is = requested front empty request

@@ -126,8 +126,8 @@ columns_come_back c dimension asked statuses rows l g k o request asked_so come 
     same i below (is_levelled s t lv kind_is empty srid) =
         let first = tells_ok (never_fails lv.is_row lv.front asked_so) (room i below)
         (each i (omega (arith, below, there))) in
-        let each_back = subst (λ n. EncodeLevels n dimension o l back_statuses back_ends back) (sym kind_is) each_back in
+        let own = subst (λ n. EncodeLevels n dimension o l back_statuses back_ends back) (sym kind_is) each_back in
         let second = tells_ok (λ why. why) (room' i below)
         (there_and_back c dimension asked statuses rows l g i below s t lv empty o srid first.0 first.1.0 back_statuses
-        back_ends back each_back (omega (arith, below, there'))) in
+        back_ends back own (omega (arith, below, there'))) in
         record { status = OK; bytes = first.0; first = first.1.1; second = rw second.1.0 at second.1.1 }

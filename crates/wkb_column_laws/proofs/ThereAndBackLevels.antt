@@ -17,7 +17,7 @@ use Rattle.wkb_levels.specs.EndLists.{start_of, ends_of}
 use Rattle.wkb_levels.proofs.Pieces.{length-pieces, start_behind, slice_range-pieces, coordinates_between}
 use Rattle.wkb_abi.specs.Coordinates.{ends}
 use Rattle.wkb_abi.specs.RowItems.{HoldsItems}
-use Rattle.wkb_abi.proofs.Levels.{sum-first}
+use Rattle.std.proofs.lemmas.List.Sums.{sum_by-cons}
 
 -- ---- lists one behind another, cut where they end
 
@@ -33,7 +33,8 @@ module _ {A : Type 0} where
   -- together they are as long
   pub sizes_sum : (xss : List (List A)) → sum (sizes_of xss) ≡ length (joined xss)
   sizes_sum [] = refl
-  sizes_sum (x ∷ xss) = omega (arith, sum-first (length x) (sizes_of xss), sizes_sum xss, length-append x (joined xss))
+  sizes_sum (x ∷ xss) =
+      omega (arith, sum_by-cons (λ n. n) (length x) (sizes_of xss), sizes_sum xss, length-append x (joined xss))
 
   -- what is held in two parts
   held_parts : {xs : List A} {from to : ℕ} (x y : List A) → HoldsItems xs from to (x ++ y)
@@ -120,7 +121,8 @@ module _ {l : Levels} {d : Dimensions} {i : ℕ} {singles : List (List (List (Li
   coordinates_are =
       let cs = joined (joined singles) in
       let held : coordinates_in d (joined cs) ≡ cs =
-      rw (joined_length (size d) cs h.wide, mul-div_cancel_left (length cs) h.some_words) (runs_held (size d) cs h.wide) in
+      rw (joined_length (size d) cs h.wide, mul-div_cancel_left (length cs) h.some_words)
+      (runs_held (size d) cs h.wide) in
       record {
         many = h.coordinates;
         within = omega (arith, within, length-runs (size d) (length l.words.now / size d) l.words.now);

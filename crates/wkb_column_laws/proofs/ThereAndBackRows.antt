@@ -6,6 +6,7 @@ use Rattle.std.specs.Borrow.{Bor}
 use Rattle.std.proofs.Common.{eqb-true, mul-add}
 use Rattle.std.proofs.lemmas.Bool.{cond_both}
 use Rattle.std.proofs.lemmas.List.{take-take, nil_from_length}
+use Rattle.std.proofs.lemmas.List.Sums.{sum_by-cons}
 use Rattle.wkb_geom.specs.Codes.{dimension_of_thousands}
 use Rattle.wkb_geom.specs.declared.common.Dimension.TheVariants.{Xy}
 use Rattle.wkb_geom.specs.Fronts.{Front}
@@ -25,7 +26,7 @@ use Rattle.wkb_abi.specs.RowItems.{HoldsItems}
 use Rattle.wkb_abi.specs.declared.totals.Totals.{Totals}
 use Rattle.wkb_abi.specs.declared.level_column.LevelColumn.{LevelColumn}
 use Rattle.wkb_abi.proofs.OneRow.{one_row, never_lacks, never_refused}
-use Rattle.wkb_abi.proofs.Levels.{ends_length, sum-first, subjects_words}
+use Rattle.wkb_abi.proofs.Levels.{ends_length, subjects_words}
 use Rattle.wkb_abi.proofs.Rooms.{one_dimension, row_lacks, room_of, held_on, rise_at, end_at}
 use Rattle.wkb_column_laws.specs.ThereAndBack.{AreGivenOn}
 use Rattle.wkb_column_laws.proofs.ThereAndBackKinds.{counted}
@@ -82,7 +83,7 @@ ends_last start [] = omega arith
 ends_last start (n ∷ ns) =
     let others = ends (start + n) ns in
     sym (start_behind start (start + n) others (length others)) ∙ ends_last (start + n) ns
-    ∙ omega (arith, sum-first n ns)
+    ∙ omega (arith, sum_by-cons (λ n. n) n ns)
 
 -- what comes behind ends that a list holds begins where the last of them ends
 held_ends : {xs : List ℕ} {from to : ℕ} (start : ℕ) (ns : List ℕ) → HoldsItems xs from to (ends start ns)

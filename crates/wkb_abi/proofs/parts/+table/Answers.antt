@@ -103,4 +103,5 @@ pub returns : goal.returns
 returns t c = λ more all.
     let l = c.loop.invariant more all in
     let none = none_of l.to_come.values (omega (arith, l.to_come.counted, c.loop-test.false)) in
-    record { laid = rw none at l.left.laid; index = omega (arith, rw none at l.indices); byte = rw none at l.left.bytes }
+    let left = rw none at l.left in
+    record { laid = left.laid; index = omega (arith, rw none at l.indices); byte = left.bytes }
