@@ -1,7 +1,7 @@
 -- The table of the parts of what was found.
-use Rattle.wkb_abi.proofs.Common.{◌≡◌, ℕ, ◌+◌, ◌≤◌, ◌<◌, List, [], ◌∷◌, ◌++◌, length, drop, refl, sym, ap, ◌∙◌, arith}
-use Rattle.wkb_abi.proofs.Common.{append-nil, Spelling, node, Value, sets, sets-eq, set, DescribesFront, Summary, Piece}
-use Rattle.wkb_abi.proofs.Common.{subjects, subjects_of_each}
+use Rattle.wkb_abi.proofs.Common.{◌≡◌, ℕ, ◌+◌, ◌≤◌, ◌<◌, List, [], ◌∷◌, length, refl, sym, ap, ◌∙◌, arith, append-nil}
+use Rattle.wkb_abi.proofs.Common.{Spelling, node, Value, sets, set, DescribesFront, Summary, Piece, subjects}
+use Rattle.wkb_abi.proofs.Common.{subjects_of_each}
 use Rattle.std.proofs.lemmas.List.{nil_from_length}
 use Rattle.wkb_check.specs.Known.{HasGeometries}
 use Rattle.wkb_check.specs.Pieces.{last_end, IsPieceAt}
@@ -13,6 +13,7 @@ use Rattle.wkb_check.proofs.Joining.{geometry_of_front}
 use Rattle.wkb_abi.specs.Room.{IsWritten, FindsNoRoom}
 use Rattle.wkb_abi.specs.Subjects.{HasTable}
 use Rattle.wkb_abi.proofs.Telling.{begins}
+use Rattle.wkb_c.proofs.RowItems.{first_held}
 use Rattle.wkb_c.proofs.Words.{holds, counted, entries_many}
 
 -- a table has an entry
@@ -61,18 +62,9 @@ module _ {input : List ℕ} {f : Summary} (d : DescribesFront input f) where
   lacks_table short =
       record { items = entries; is = table; lacks = record { count_is = long; short = omega (arith, short, long) } }
 
-  pub table_laid : (parts new : List Part) → f.parts ≤ length parts → new ≡ sets parts 0 entries
+  pub table_laid : {parts new : List Part} → f.parts ≤ length parts → new ≡ sets parts 0 entries
       → IsWritten (HasTable input) parts new f.parts
-  table_laid parts new fit laid = record {
-    items = entries;
-    is = table;
-    held = record {
-      count_is = long;
-      whole =
-          laid ∙ sets-eq entries parts 0 (omega (arith, fit, long))
-          ∙ ap (λ n. entries ++ drop n parts) (omega arith);
-    };
-  }
+  table_laid fit laid = record { items = entries; is = table; held = first_held long fit laid }
 
   pub whole_laid : {parts new : List Part} (p : Piece) → IsPieceAt input 0 p → f.parts ≡ 1 → f.parts ≤ length parts
       → new ≡ set parts 0 (entry_of p f.bytes 1) → IsWritten (HasTable input) parts new f.parts
@@ -83,6 +75,6 @@ module _ {input : List ℕ} {f : Summary} (d : DescribesFront input f) where
       let end : f.bytes ≡ last_end 0 (subjects d.spelled d.value) = omega (arith, d.described.bytes_are, far) in
       let next : 1 ≡ 0 + length (subjects d.spelled d.value) =
       omega (arith, one, d.described.parts, counted d.spelled d.value front.front front.spelled) in
-      table_laid parts new fit
+      table_laid fit
       (laid ∙ (λ i. set parts 0 (entry_of (is (geometry_of_front front) i) (end i) (next i)))
       ∙ ap (sets parts 0) (sym only))

@@ -2,13 +2,11 @@
 use Rattle.wkb_abi.proofs.Common.{◌≡◌, ℕ, suc, ◌+◌, ◌<◌, ◌≤◌, List, [], ◌∷◌, ◌++◌, None, refl, sym, ap, subst, ◌∙◌}
 use Rattle.wkb_abi.proofs.Common.{arith, append-nil, Value, Values, member, no_members, kind, dimension, members, point}
 use Rattle.wkb_abi.proofs.Common.{line_string, polygon, multi_point, multi_line_string, multi_polygon, collection}
-use Rattle.wkb_abi.proofs.Common.{Dimension, false}
-use Rattle.wkb_geom.specs.Encodings.{encodings, inner}
-unfoldable use Rattle.wkb_geom.specs.Encodings.{words_encoding}
-use Rattle.wkb_geom.specs.Geometries.{geometries_of}
-use Rattle.wkb_geom.specs.Reading.{type_of}
-use Rattle.wkb_geom.specs.Spellings.{IsPart, member_part, Wanted}
-use Rattle.wkb_geom.specs.Values.{count, each, nest, nest_each}
+use Rattle.wkb_abi.proofs.Common.{Dimension, false, Wanted}
+use Rattle.wkb_laws.specs.Prelude.{encodings, inner, geometries_of, type_of, IsPart, member_part, count, each, nest}
+use Rattle.wkb_laws.specs.Prelude.{nest_each}
+use Rattle.wkb_abi.specs.declared.{column.Column.Column, options.Options.Options}
+unfoldable use Rattle.wkb_laws.specs.Prelude.{words_encoding}
 use Rattle.wkb_laws.proofs.Lists.{by_list_kind, count-each}
 use Rattle.wkb_check.specs.Public.{member_room}
 use Rattle.wkb_rewrite.proofs.Encodings.{encoded_apart}
@@ -16,8 +14,6 @@ use Rattle.wkb_rewrite.specs.Targets.{encoding_for}
 use Rattle.wkb_sink.specs.Options.{counted_header}
 use Rattle.wkb_sink.specs.declared.options.WriteOptions.{WriteOptions}
 use Rattle.wkb_abi.specs.Requests.{options_for}
-use Rattle.wkb_abi.specs.declared.column.Column.{Column}
-use Rattle.wkb_abi.specs.declared.options.Options.{Options}
 use Rattle.wkb_c.specs.Collections.{AreRowMembers, IsCollected, IsAsked, IsWhole}
 use Rattle.wkb_c.specs.declared.collect.CollectTarget.{CollectTarget}
 use Rattle.wkb_c.proofs.RowItems.{written_as, no_room_as}

@@ -2,18 +2,15 @@
 use Rattle.wkb_abi.proofs.Common.{◌≡◌, ℕ, suc, ◌+◌, ◌≤◌, ◌<◌, List, ◌++◌, length, drop, ◌⊎◌, inl, inr, refl, sym, ap}
 use Rattle.wkb_abi.proofs.Common.{subst, ◌∙◌, arith, length-append, Spelling, Value, Values, member, no_members, kind}
 use Rattle.wkb_abi.proofs.Common.{collection, Some, None, srid_size, ◌-◌, sets, sets-eq, Summary, false, IsAccepted}
-use Rattle.wkb_abi.proofs.Common.{RowHas, IsRow, Reach}
+use Rattle.wkb_abi.proofs.Common.{RowHas, IsRow, Reach, Wanted}
+use Rattle.wkb_laws.specs.Prelude.{inner, IsRewriting, FrontWithin, AreBytes, type_kind, type_dimension, IsPart, any}
+use Rattle.wkb_laws.specs.Prelude.{count, nest}
 use Rattle.std.specs.Prelude.{Result, Ok, Err, IfErr}
 use Rattle.std.proofs.lemmas.Bool.{cases_eq}
-use Rattle.std.proofs.lemmas.List.{length-take}
-use Rattle.wkb_geom.specs.declared.error.Cause.{Cause}
-use Rattle.wkb_geom.specs.Encodings.{inner, IsRewriting}
-use Rattle.wkb_geom.specs.Fronts.{FrontWithin}
-use Rattle.wkb_geom.specs.Numbers.{AreBytes}
-use Rattle.wkb_geom.specs.Reading.{type_kind, type_dimension, cause_of}
-use Rattle.wkb_geom.specs.Refusals.{Refuses}
-use Rattle.wkb_geom.specs.Spellings.{Wanted, IsPart, any}
-use Rattle.wkb_geom.specs.Values.{count, nest}
+use Rattle.std.proofs.Common.{length-drop}
+use Rattle.std.proofs.lemmas.List.{length-take, take_at}
+use Rattle.std.proofs.lemmas.Slice.{drop-append-drop}
+use Rattle.wkb_geom.specs.Reading.{cause_of}
 use Rattle.wkb_laws.proofs.Complete.{front_read, refusal_read}
 use Rattle.wkb_laws.proofs.EncodingSpells.{inner_fits}
 use Rattle.wkb_laws.proofs.OneFront.{one_front_lem}
@@ -25,14 +22,13 @@ use Rattle.wkb_rewrite.proofs.Measured.{measured}
 use Rattle.wkb_sink.specs.declared.options.WriteOptions.{WriteOptions}
 use Rattle.wkb_abi.proofs.OneRow.{one_row, never_lacks}
 use Rattle.wkb_abi.proofs.Telling.{accepted_there}
+use Rattle.wkb_abi.specs.Room.{IsHeld}
 use Rattle.wkb_abi.specs.Writings.{WritesRequested}
-use Rattle.wkb_abi.specs.declared.column.Column.{Column}
-use Rattle.wkb_abi.specs.declared.fault.WkbFault.{WkbFault}
-use Rattle.wkb_abi.specs.declared.options.Request.TheVariants.{Encoding}
-use Rattle.wkb_abi.specs.declared.status.TheConstants.{OK, NO_ROOM}
+use Rattle.wkb_abi.specs.declared.{column.Column.Column, fault.WkbFault.WkbFault, options.Request.TheVariants.Encoding}
+use Rattle.wkb_abi.specs.declared.{status.TheConstants.NO_ROOM, status.TheConstants.OK}
 use Rattle.wkb_c.specs.Collections.{BeginsWithMember, AreRowMembers, HaveMembers, part_of, inner_of, inside_of}
 use Rattle.wkb_c.specs.Collections.{LaysIfFits, WritesMember, WritesMembers, IsUnwanted, IsUnfit, no_row, refused}
-use Rattle.wkb_c.specs.Collections.{no_member, IsFirstUnfit}
+use Rattle.wkb_c.specs.Collections.{no_member}
 use Rattle.wkb_c.specs.declared.collect.CollectTarget.{CollectTarget}
 use Rattle.wkb_c.proofs.RowItems.{IsLent, lent_laid}
 
@@ -94,36 +90,26 @@ pub one_list : {c : Column} {v w : Wanted} {rows : ℕ} (h : HaveMembers c v row
     → h.values ≡ k.values
 one_list {c} {v} {w} h k = same_members c v w 0 h.values k.values h.are k.are (h.many ∙ sym k.many)
 
--- the rows begin with them
-member_of : {c : Column} {w : Wanted} (n i : ℕ) (ts : Values) → AreRowMembers c w i ts → i ≤ n → n < i + count ts
-    → (t : Value) × RowHas (BeginsWithMember w) c n t
-member_of n i no_members are from below = absurd (omega (arith, from, below))
-member_of {c} {w} n i (member t ts) are from below = elim (cases_eq n i) [
-  | inl same ↦ (t, subst (λ k. RowHas (BeginsWithMember w) c k t) (sym same) are.0)
-  | inr other ↦ member_of n (suc i) ts are.1 (omega (arith, from, other)) (omega (arith, below))
-]
-
--- what is rejected begins with no geometry
-never_within : {room : ℕ} {row : List ℕ} {s : Spelling} {t : Value} {rest : List ℕ} {cause : Cause} {turns slots : ℕ}
-    → FrontWithin room row s t rest → Refuses room any row cause turns slots → ⊥
-never_within {room} {row} {s} {t} {rest} {cause} f r =
-    let both = sym (front_read room any tt row s t rest f tt) ∙ refusal_read r tt in
-    let causes : None ≡ Some cause = ap (λ z. cause_of z.1) both in
-    absurd cc
-
-never_unfit_row : {c : Column} {w : Wanted} {i status : ℕ} {fault : WkbFault} {t : Value}
+-- a row that begins with a member is not unfit where any are wanted
+member_fits : {c : Column} {w : Wanted} {i status : ℕ} {fault : WkbFault} {t : Value}
     → RowHas (BeginsWithMember w) c i t → IsUnfit c any i status fault → ⊥
-never_unfit_row has (no_row none) = never_lacks has.is none
-never_unfit_row {t = t} has (refused row is why) =
+member_fits has (no_row none) = never_lacks has.is none
+member_fits {t = t} has (refused row is why) =
     let b = has.has in
-    never_within (subst (λ z. FrontWithin member_room z b.s t b.rest) (one_row has.is is) b.front) why.refuses
-never_unfit_row has (no_member row is why) = why.unwanted tt
+    let front = subst (λ row. FrontWithin member_room row b.s t b.rest) (one_row has.is is) b.front in
+    let both = sym (front_read member_room any tt row b.s t b.rest front tt) ∙ refusal_read why.refuses tt in
+    let causes : None ≡ Some why.cause = ap (λ z. cause_of z.1) both in
+    absurd cc
+member_fits has (no_member row is why) = why.unwanted tt
 
--- so that where any are wanted none of them is unfit
-pub never_unfit : {c : Column} {w : Wanted} {rows i status : ℕ} {fault : WkbFault} → HaveMembers c w rows
-    → IsFirstUnfit c any rows i status fault → ⊥
-never_unfit h f =
-    never_unfit_row (member_of _ 0 h.values h.are (omega arith) (omega (arith, h.many, f.below))).1 f.unfit
+-- nor is any of some rows
+pub never_unfit : {c : Column} {n status : ℕ} {fault : WkbFault} (w : Wanted) (i : ℕ) (ts : Values)
+    → AreRowMembers c w i ts → i ≤ n → n < i + count ts → IsUnfit c any n status fault → ⊥
+never_unfit w i no_members are from below unfit = absurd (omega (arith, from, below))
+never_unfit {c} {n} {status} {fault} w i (member t ts) are from below unfit = elim (cases_eq n i) [
+  | inl same ↦ member_fits are.0 (subst (λ i. IsUnfit c any i status fault) same unfit)
+  | inr other ↦ never_unfit w (suc i) ts are.1 (omega (arith, from, other)) (omega (arith, below)) unfit
+]
 
 -- ---- how a member is written
 
@@ -134,13 +120,13 @@ module _ {o : WriteOptions} {row before after : List ℕ} {status size : ℕ}
   requested_is bytes h =
       h.written ∙ ap (encoding_for o) (one_front_lem row h.s a.s h.t a.t h.rest a.rest h.front a.front).2
 
-  told : (status ≡ OK) ⊎ (status ≡ NO_ROOM)
+  size_and_bytes : (status ≡ OK) ⊎ (status ≡ NO_ROOM)
       → (size ≡ length (encoding_for o a.t)) × LaysIfFits before after (encoding_for o a.t)
-  told (inl ok) =
+  size_and_bytes (inl ok) =
       let h = w.written ok in
       let is = requested_is h.items h.is in
       (h.held.count_is ∙ ap length is, λ room. h.held.whole ∙ ap (λ z. z ++ drop (length z) before) is)
-  told (inr none) =
+  size_and_bytes (inr none) =
       let h = w.no_room none in
       let is = requested_is h.items h.is in
       (h.lacks.count_is ∙ ap length is, λ room. absurd (omega (arith, room, h.lacks.short, ap length is)))
@@ -158,7 +144,7 @@ found_written {target} {row} {size = size} b d wanted w =
       front = d.front;
       wanted = rw (d.described.wkb_type, type_kind_is d.value, type_dimension_is d.value) at wanted;
     } in
-    let both = told w (there begins) w.known in
+    let both = size_and_bytes w (there begins) w.known in
     let o = target.options in
     let long = measured o.endianness (inner o.form) row (accepted_there row (there begins)) b refl in
     let none = ap srid_size (inner_fits o.form).1 in
@@ -241,15 +227,21 @@ all_written {c} {target} {at = at} {before} {out} r m all =
     }
 
 -- the front of the whole, and its members behind it
-pub whole_laid : (out copied new front inside : List ℕ) (start : ℕ) → start ≡ length front
-    → start + length inside ≤ length out → copied ≡ front → new ≡ sets (copied ++ drop start out) start inside
-    → new ≡ (front ++ inside) ++ drop (length (front ++ inside)) out
-whole_laid out copied new front inside start start_is room copied_is laid =
-    let long : 0 + length front ≤ length out = omega (arith, room, start_is) in
-    let begun : copied ++ drop start out ≡ sets out 0 front =
-    (λ i. copied_is i ++ drop (start_is i) out) ∙ ap (λ n. front ++ drop n out) (omega arith)
-    ∙ sym (sets-eq front out 0 long) in
-    laid ∙ ap (λ z. sets z start inside) begun
-    ∙ sets_after out 0 start front inside (omega (arith, start_is))
-    ∙ sets-eq (front ++ inside) out 0 (omega (arith, room, start_is, length-append front inside))
-    ∙ ap (λ n. (front ++ inside) ++ drop n out) (omega arith)
+pub whole_laid : {out copied lent sub new : List ℕ} (front inside : List ℕ) {start size : ℕ} → start ≡ length front
+    → size ≡ start + length inside → size ≤ length out → copied ≡ front
+    → (length copied ≡ start → IsLent start (copied ++ drop start out) lent sub new) → LaysIfFits lent sub inside
+    → IsHeld (front ++ inside) out new size
+whole_laid {out} {copied} front inside {start} start_is size_is room copied_is lends lays =
+    let base = copied ++ drop start out in
+    let long : length copied ≡ start = ap length copied_is ∙ sym start_is in
+    let many : start + length inside ≡ length (front ++ inside) = omega (arith, start_is, length-append front inside) in
+    let enough : start + length inside ≤ length base =
+    omega (arith, size_is, room, long, length-append copied (drop start out), length-drop start out) in
+    record {
+      count_is = size_is ∙ many;
+      whole =
+          lent_laid (lends long) inside enough lays ∙ sets-eq inside base start enough
+          ∙ (λ i. (take_at copied (drop start out) start long i ++ inside)
+          ++ drop-append-drop start out copied (start + length inside) (omega arith) long i)
+          ∙ (λ i. (copied_is i ++ inside) ++ drop (many i) out);
+    }

@@ -2,78 +2,81 @@
 use Rattle.wkb_abi.proofs.Common.{◌≡◌, ◌≢◌, ℕ, zero, suc, ◌+◌, ◌≤◌, ◌<◌, ◌^◌, ◌⊎◌, inl, inr, List, [], ◌++◌, length}
 use Rattle.wkb_abi.proofs.Common.{drop, slice_index, refl, ap, sym, subst, ◌∙◌, arith, append-nil, append_assoc}
 use Rattle.wkb_abi.proofs.Common.{length-append, drop-drop, ◌-◌, set, sets, sets-eq, length-sets, IsRow, IsRowStep}
-use Rattle.wkb_abi.proofs.Common.{RowFails, RowHas}
+use Rattle.wkb_abi.proofs.Common.{RowFails, RowHas, Reach}
 use Rattle.std.specs.Prelude.{take, min}
 use Rattle.std.proofs.Common.{length-drop}
-use Rattle.std.proofs.lemmas.List.{take-append-drop, drop-set-lt, nil_from_length}
-use Rattle.std.proofs.lemmas.Slice.{between_to_end}
+use Rattle.wkb_abi.specs.declared.{column.Column.Column, status.TheConstants.NO_ROOM, status.TheConstants.OK}
+use Rattle.std.proofs.lemmas.List.{take-append-drop, drop-set-lt, drop_all, take_rest}
 use lib.ListN.{length-set}
 use lib.Seq.{get_or-set_same, get_or-set_other}
 use Rattle.wkb_abi.specs.Room.{IsHeld, Exceeds, IsWritten, FindsNoRoom}
 use Rattle.wkb_levels.specs.Cuts.{start_at}
 use Rattle.wkb_abi.specs.RowItems.{rows_of, end_of, IsRowAnswer, handed, no_room, failed, AreRowAnswers, KeepsAfter}
-use Rattle.wkb_abi.specs.RowItems.{AreSet, laid, lacks, nothing, NoneLacksRoom, LastEndSuffices}
-use Rattle.wkb_abi.specs.Columns.{Reach, RowShows, RowsShow}
+use Rattle.wkb_abi.specs.RowItems.{AreSet, laid, lacks, nothing, LastEndSuffices}
+use Rattle.wkb_abi.specs.Columns.{RowShows, RowsShow}
 use Rattle.wkb_abi.proofs.Reasons.{TellsOther}
-use borrow.Author.Count.{below_more, below_none}
+use borrow.Author.Count.{below_more}
 use Rattle.wkb_abi.proofs.Rooms.{held_laid, front_laid, behind_laid, fewer, held_on}
-use Rattle.wkb_abi.proofs.Rows.{statuses_more, shown_more}
-use Rattle.wkb_abi.specs.declared.status.TheConstants.{OK, NO_ROOM}
-use Rattle.wkb_abi.specs.declared.column.Column.{Column}
+use Rattle.wkb_abi.proofs.Rows.{shown_more}
 
 -- ---- a step of one row
 
 -- what a step says of the list that it changes, and of its row
-record StepSays {A : Type 0} (Has : ℕ → List A → Type 0) (Fails : ℕ → ℕ → Type 0) (i status count start : ℕ)
+record StepSays {A : Type 0} (Has : ℕ → List A → Type 0) (Fails : ℕ → ℕ → Type 0) (i status start end : ℕ)
     (before after : List A) : Type 0 where
   pub long : length after ≡ length before
   pub front : take start after ≡ take start before
-  pub behind : (k : ℕ) → (status ≡ OK → end_of start count ≤ k) → drop k after ≡ drop k before
-  pub answer : IsRowAnswer Has Fails i status start (end_of start count) after
-  pub room : end_of start count ≤ length before → status ≡ NO_ROOM → ⊥
+  pub behind : (k : ℕ) → (status ≡ OK → end ≤ k) → drop k after ≡ drop k before
+  pub answer : IsRowAnswer Has Fails i status start end after
 
-module _ {A : Type 0} {Has : ℕ → List A → Type 0} {Fails : ℕ → ℕ → Type 0}
+module _ {A : Type 0} {Has : ℕ → List A → Type 0} {Fails : ℕ → ℕ → Type 0} {i status start : ℕ}
   where
-    step_says : {i status count start : ℕ} {before after : List A}
-        → IsRowStep Has Fails i status count start before after → TellsOther Fails → length before < 2 ^ 63
-        → start < 2 ^ 64 → StepSays Has Fails i status count start before after
-    step_says {count = count} {start = start} {before = before} {after = after}
-        (laid items has ok many there laid_is) other small fits =
-        let laid_there : start + length items ≤ length before = rw many at there in
-        let end : end_of start count ≡ start + length items = omega (arith, there, small, many) in record {
-          long = ap length laid_is ∙ length-sets before start items;
-          front = ap (take start) laid_is ∙ front_laid before items start laid_there;
-          behind = λ k far.
-              ap (drop k) laid_is ∙ behind_laid before items start k laid_there (omega (arith, far ok, end));
-          answer =
-              handed items has ok (rw laid_is (held_laid before items start _ end (omega (arith, end, laid_there))));
-          room = λ room told. omega (arith, ok, told);
-        }
-    step_says {start = start} (lacks items has is many short same) other small fits = record {
-      long = ap length same;
-      front = ap (take start) same;
-      behind = λ k far. ap (drop k) same;
-      answer = no_room items has is (ap (end_of start) many) (omega (arith, ap length same, many, short));
-      room = λ room told. omega (arith, short, small, room);
-    }
-    step_says {i = i} {start = start} (nothing why none same) other small fits = record {
-      long = ap length same;
-      front = ap (take start) same;
-      behind = λ k far. ap (drop k) same;
-      answer = failed why (omega (arith, none, fits));
-      room = λ room told. other i (subst (Fails i) told why);
-    }
+    step_says : {count : ℕ} {before after : List A} → IsRowStep Has Fails i status count start before after
+        → length before < 2 ^ 63 → start < 2 ^ 64
+        → StepSays Has Fails i status start (end_of start count) before after
+    step_says {count} {before} (laid items has ok many there laid_is) small fits =
+        let room : start + length items ≤ length before = rw many at there in
+        let end : end_of start count ≡ start + length items = omega (arith, there, small, many) in
+        rw (laid_is, end)
+        (record {
+          long = length-sets before start items;
+          front = front_laid before items start room;
+          behind = λ k far. behind_laid before items start k room (far ok);
+          answer = handed items has ok (held_laid before items start _ refl room);
+        })
+    step_says (lacks items has is many short same) small fits =
+        rw same
+        (record {
+          long = refl;
+          front = refl;
+          behind = λ k far. refl;
+          answer = no_room items has is (ap (end_of start) many) (omega (arith, many, short));
+        })
+    step_says (nothing why none same) small fits =
+        rw same
+        (record {
+          long = refl;
+          front = refl;
+          behind = λ k far. refl;
+          answer = failed why (omega (arith, none, fits));
+        })
 
     -- what is laid after a row doesn't change its answer
-    kept_answer : {i status start end : ℕ} {out new : List A} (at : ℕ)
-        → IsRowAnswer Has Fails i status start end out
-        → (status ≡ OK → end ≤ at) → length new ≡ length out → take at new ≡ take at out
+    kept_answer : {end : ℕ} {out new : List A} (at : ℕ) → IsRowAnswer Has Fails i status start end out
+        → end ≤ at → length new ≡ length out → take at new ≡ take at out
         → IsRowAnswer Has Fails i status start end new
     kept_answer {out = out} {new} at (handed items has ok held) below same front =
-        handed items has ok (held_on held (fewer _ at new out (below ok) front))
+        handed items has ok (held_on held (fewer _ at new out below front))
     kept_answer at (no_room items has ok end_is short) below same front =
         no_room items has ok end_is (omega (arith, short, same))
     kept_answer at (failed why end_is) below same front = failed why end_is
+
+    -- with room up to its end a row doesn't lack room
+    never_lacks : {end : ℕ} {out : List A} → IsRowAnswer Has Fails i status start end out → TellsOther Fails
+        → length out < 2 ^ 63 → end ≤ length out → status ≡ NO_ROOM → ⊥
+    never_lacks (handed items has ok held) other small room none = omega (arith, ok, none)
+    never_lacks (no_room items has is end_is short) other small room none = omega (arith, end_is, short, small, room)
+    never_lacks (failed why end_is) other small room none = other i (subst (Fails i) none why)
 
 -- ---- all rows
 
@@ -119,22 +122,8 @@ pub record RowsDone {A : Type 0} (Has : ℕ → List A → Type 0) (Fails : ℕ 
   pub fits : at < 2 ^ 64
   pub long : length out ≡ length before
   pub each : AreRowAnswers Has Fails i statuses ends out
-  pub below : (j : ℕ) → j < i → slice_index statuses j ≡ OK → slice_index ends j ≤ at
+  pub below : (j : ℕ) → j < i → slice_index ends j ≤ at
   pub kept : KeepsAfter i statuses ends before out
-  pub room : NoneLacksRoom (at ≤ length before) i statuses
-
-pub rows_first : {A : Type 0} {Has : ℕ → List A → Type 0} {Fails : ℕ → ℕ → Type 0} {rows : ℕ} {statuses ends : List ℕ}
-    {out : List A} → RowsDone Has Fails rows 0 0 statuses statuses ends ends out out
-rows_first = record {
-  lists = set_first;
-  at_is = refl;
-  fits = omega arith;
-  long = refl;
-  each = below_none _;
-  below = below_none _;
-  kept = λ k far. refl;
-  room = λ fit. below_none _;
-}
 
 start_kept : (ends : List ℕ) (i e j : ℕ) → j ≤ i → start_at 0 (set ends i e) j ≡ start_at 0 ends j
 start_kept ends i e zero h = refl
@@ -144,10 +133,10 @@ module _ {A : Type 0} {Has : ℕ → List A → Type 0} {Fails : ℕ → ℕ →
     {before out new : List A} {status count end rows : ℕ} {before_statuses before_ends : List ℕ}
     (done : RowsDone Has Fails rows i at before_statuses statuses before_ends ends before out)
     (step : IsRowStep Has Fails i status count at out new)
-    (end_is : end ≡ end_of at count) (other : TellsOther Fails) (small : length before < 2 ^ 63) (below : i < rows)
+    (end_is : end ≡ end_of at count) (small : length before < 2 ^ 63) (below : i < rows)
     (few : rows ≤ rows_of before_statuses before_ends) where
-  says : StepSays Has Fails i status count at out new
-  says = step_says step other (omega (arith, done.long)) done.fits
+  says : StepSays Has Fails i status at (end_of at count) out new
+  says = step_says step (omega (arith, done.long)) done.fits
 
   status_here : slice_index (set statuses i status) i ≡ status
   status_here = get_or-set_same statuses i status 0 (omega (arith, below, few, done.lists.as_many))
@@ -159,10 +148,10 @@ module _ {A : Type 0} {Has : ℕ → List A → Type 0} {Fails : ℕ → ℕ →
   status_above j above = get_or-set_other statuses i j status 0 (λ same. omega (arith, same, above))
 
   end_above : (j : ℕ) → j < i → slice_index (set ends i end) j ≡ slice_index ends j
-  end_above j above = get_or-set_other ends i j end 0 (λ same. omega (arith, same, above))
+  end_above j above = start_kept ends i end (suc j) (omega (arith, above))
 
-  pub row_done : RowsDone Has Fails rows (i + 1) end before_statuses (set statuses i status) before_ends (set ends i end)
-      before new
+  pub row_done : RowsDone Has Fails rows (i + 1) end before_statuses (set statuses i status) before_ends
+      (set ends i end) before new
   row_done = record {
     lists = set_more done.lists i status end below;
     at_is =
@@ -177,26 +166,24 @@ module _ {A : Type 0} {Has : ℕ → List A → Type 0} {Fails : ℕ → ℕ →
         (rw (status_here, end_here, start_kept ends i end i (omega arith), sym done.at_is)
         says.answer);
     below =
-        below_more (λ j. slice_index (set statuses i status) j ≡ OK → slice_index (set ends i end) j ≤ end) i
-        (λ j above ok. omega (arith, end_above j above, done.below j above (sym (status_above j above) ∙ ok)))
-        (λ ok. omega (arith, end_here, end_is));
+        below_more (λ j. slice_index (set ends i end) j ≤ end) i
+        (λ j above. omega (arith, end_is, done.fits, end_above j above, done.below j above))
+        (omega (arith, end_here, end_is));
     kept = λ k far.
         says.behind k (λ ok. omega (arith, far i (omega arith) (status_here ∙ ok), end_here))
         ∙ done.kept k
         (λ j above ok. omega (arith, far j (omega (arith, above)) (status_above j above ∙ ok), end_above j above));
-    room = λ fit.
-        statuses_more (λ j told. told ≡ NO_ROOM → ⊥) statuses i status (omega (arith, below, few, done.lists.as_many))
-        (done.room (omega (arith, fit, end_is, done.fits)))
-        (says.room (omega (arith, fit, end_is, done.long)));
   }
 
 -- with room up to the last end no row lacks room
 pub last_end_suffices : {A : Type 0} {Has : ℕ → List A → Type 0} {Fails : ℕ → ℕ → Type 0} {end i at rows : ℕ}
     {statuses' statuses ends' ends : List ℕ} {before out : List A}
-    → RowsDone Has Fails end i at statuses' statuses ends' ends before out → i ≡ rows
-    → LastEndSuffices rows statuses ends before
-last_end_suffices {statuses = statuses} {ends = ends} {before = before} done all =
-    subst (λ n. LastEndSuffices n statuses ends before) all (λ room. done.room (omega (arith, room, done.at_is)))
+    → RowsDone Has Fails end i at statuses' statuses ends' ends before out → TellsOther Fails
+    → length before < 2 ^ 63 → i ≡ rows → LastEndSuffices rows statuses ends before
+last_end_suffices {ends = ends} done other small all = λ room j below.
+    let last = ap (start_at 0 ends) all in
+    never_lacks (done.each j (omega (arith, below, all))) other (omega (arith, small, done.long))
+    (omega (arith, done.below j (omega (arith, below, all)), done.at_is, last, room, done.long))
 
 -- ---- a call for one row
 
@@ -208,6 +195,14 @@ written_as also w = record { items = w.items; is = also w.items w.is; held = w.h
 pub no_room_as : {A : Type 0} {Is Other : List A → Type 0} {before : List A} {count : ℕ}
     → ((items : List A) → Is items → Other items) → FindsNoRoom Is before count → FindsNoRoom Other before count
 no_room_as also w = record { items = w.items; is = also w.items w.is; lacks = w.lacks }
+
+-- what is laid at the start of a list
+pub first_held : {A : Type 0} {items before after : List A} {count : ℕ} → count ≡ length items → count ≤ length before
+    → after ≡ sets before 0 items → IsHeld items before after count
+first_held {items = items} {before} many room is = record {
+  count_is = many;
+  whole = is ∙ sets-eq items before 0 (omega (arith, many, room)) ∙ ap (λ n. items ++ drop n before) (omega arith);
+}
 
 -- a call is lent what is at `start` or after it, and makes `sub` of it
 pub record IsLent {A : Type 0} (start : ℕ) (before lent sub after : List A) : Type 0 where
@@ -224,14 +219,12 @@ abbrev pub lent_rest : {A : Type 0} {start : ℕ} (xs sub : List A) (at : ℕ) �
     (take at xs ++ (sub ++ drop (length xs - at) (drop at xs)))
 lent_rest xs sub at at_is long =
     let k = length xs - at in
-    let none : drop k (drop at xs) ≡ [] =
-    nil_from_length (drop k (drop at xs)) (omega (arith, length-drop k (drop at xs), length-drop at xs)) in
+    let none : drop k (drop at xs) ≡ [] = drop_all k (drop at xs) (omega (arith, length-drop at xs)) in
     record {
       at = at;
       at_is = at_is;
-      lent_is = between_to_end xs at (length xs) (omega arith);
-      after_is =
-          ap (λ z. take at xs ++ (sub ++ z)) none ∙ ap (λ z. take at xs ++ z) (append-nil sub);
+      lent_is = take_rest xs at;
+      after_is = rw (none, append-nil sub);
       long = long;
     }
 
@@ -269,34 +262,20 @@ module _ {A : Type 0} {Has : ℕ → List A → Type 0} {Fails : ℕ → ℕ →
   -- they have no room
   pub lacks_step : (items : List A) → Has i items → status ≡ NO_ROOM → Exceeds items lent count → sub ≡ lent
       → IsRowStep Has Fails i status count start before after
-  lacks_step items has told short same =
-      lacks items has told short.count_is
+  lacks_step items has is short same =
+      lacks items has is short.count_is
       (omega (arith, short.count_is, short.short, l.at_is, many_lent l)) (unchanged l same)
 
-  -- it has none
-  pub no_step : Fails i status → count ≡ 0 → sub ≡ lent → IsRowStep Has Fails i status count start before after
-  no_step why none same = nothing why none (unchanged l same)
-
-  -- its items were laid, or they have no room, as the status says
-  called_step : ((items : List A) → Has i items → 0 < length items)
-      → (status ≡ OK → IsWritten (Has i) lent sub count) → (status ≡ NO_ROOM → FindsNoRoom (Has i) lent count)
-      → (status ≢ OK → sub ≡ lent) → (status ≡ OK) ⊎ (status ≡ NO_ROOM)
-      → IsRowStep Has Fails i status count start before after
-  called_step some lays short kept (inl ok) = let h = lays ok in laid_step h.items h.is ok (some h.items h.is) h.held
-  called_step some lays short kept (inr told) =
-      let h = short told in lacks_step h.items h.is told h.lacks (kept (λ ok. omega (arith, ok, told)))
-
 -- what was written for the bytes of a row is the step of that row
-in_row : {A : Type 0} {Has : List ℕ → List A → Type 0} {c : Column} {i : ℕ} {row : List ℕ} → IsRow c i row
-    → (items : List A) → Has row items → RowHas Has c i items
-in_row is items has = record { row = _; is = is; has = has }
-
 pub row_step : {A : Type 0} {Has : List ℕ → List A → Type 0} {Fails : List ℕ → ℕ → Type 0} {c : Column}
     {i status count start : ℕ} {before lent sub after : List A} {row : List ℕ} → IsRow c i row
     → ((row : List ℕ) (items : List A) → Has row items → 0 < length items) → IsLent start before lent sub after
     → (status ≡ OK → IsWritten (Has row) lent sub count) → (status ≡ NO_ROOM → FindsNoRoom (Has row) lent count)
     → (status ≢ OK → sub ≡ lent) → (status ≡ OK) ⊎ (status ≡ NO_ROOM)
     → IsRowStep (RowHas Has c) (RowFails Fails c) i status count start before after
-row_step {Has = Has} is some l lays short =
-    called_step l (λ items h. some h.row items h.has) (λ ok. written_as (in_row {Has = Has} is) (lays ok))
-    (λ told. no_room_as (in_row {Has = Has} is) (short told))
+row_step {row = row} is some l lays short kept (inl ok) =
+    let h = lays ok in
+    laid_step l h.items (record { row = row; is = is; has = h.is }) ok (some row h.items h.is) h.held
+row_step {row = row} is some l lays short kept (inr none) =
+    let h = short none in
+    lacks_step l h.items (record { row = row; is = is; has = h.is }) none h.lacks (kept (λ ok. omega (arith, ok, none)))

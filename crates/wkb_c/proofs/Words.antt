@@ -1,69 +1,63 @@
 -- Where the parts of a geometry are in its bytes, and what is there.
 use Rattle.wkb_abi.proofs.Common.{◌≡◌, ℕ, suc, ◌+◌, ◌*◌, List, [], ◌∷◌, length, drop, Some, refl, sym, ap, ◌∙◌, arith}
-use Rattle.wkb_abi.proofs.Common.{drop-drop, slice_get, is_some, Dimension, width, number, srid_size, Spelling, node}
-use Rattle.wkb_abi.proofs.Common.{Spellings, no_spellings, spelling, Spells, Wanted, SpellsEach, Coordinate, Value}
-use Rattle.wkb_abi.proofs.Common.{Values, point, line_string, polygon, no_members, member, members, member_count}
-use Rattle.wkb_abi.proofs.Common.{member_count_each, length-append, dimension, Endianness, Subject, subjects}
-use Rattle.wkb_abi.proofs.Common.{subjects_of_each}
-use Rattle.wkb_geom.specs.Grammar.{Begins}
-use Rattle.wkb_geom.specs.Reading.{coordinate, coordinates}
+use Rattle.wkb_abi.proofs.Common.{drop-drop, slice_get, width, number, Spelling, node, Spellings, no_spellings}
+use Rattle.wkb_abi.proofs.Common.{spelling, Spells, Wanted, SpellsEach, Coordinate, Value, Values, polygon, no_members}
+use Rattle.wkb_abi.proofs.Common.{member, members, member_count, member_count_each, length-append, dimension, Subject}
+use Rattle.wkb_abi.proofs.Common.{subjects, subjects_of_each, Piece, false}
+use Rattle.wkb_laws.specs.Prelude.{Begins, coordinate, coordinates}
 use Rattle.wkb_laws.proofs.Bounds.{ring_count, member_count-members}
 use Rattle.wkb_laws.proofs.Lengths.{coordinates_length}
 use Rattle.wkb_laws.proofs.Parts.{item_at}
 use Rattle.wkb_check.specs.Pieces.{own_end, piece_at}
-use Rattle.wkb_check.specs.Subjects.{whole, ring, order_in, subject_coordinates, SpellsSubject, rings_of}
-use Rattle.wkb_abi.specs.Tables.{entry_at, entries_from, geometry_entries}
+use Rattle.wkb_check.specs.Subjects.{whole, ring, order_in, SpellsSubject, rings_of}
+use Rattle.std.specs.Prelude.{Bool, true, nat_lt, if◌then◌else◌}
+use Rattle.wkb_abi.specs.Tables.{entry_of, entry_at, entries_from, geometry_entries}
 use Rattle.wkb_check.proofs.Placing.{spelled_end, rings_many}
 use Rattle.wkb_abi.proofs.Entries.{as_many_entries}
 use Rattle.wkb_check.proofs.Subjects.{Stands, ArePlaced, all_placed, IsPieceOf, says}
-use Rattle.wkb_abi.specs.Subjects.{HoldsWords, HoldsSubject, HoldEach}
+use Rattle.wkb_abi.specs.Subjects.{HoldsSubject, HoldEach}
 
 -- ---- words
 
-word_read : (input : List ℕ) (order : Endianness) (d : Dimension) (offset m i n w : ℕ) (cs : List Coordinate)
-    (c : Coordinate)
-    → coordinates order d m (drop offset input) ≡ cs → slice_get cs i ≡ Some c → slice_get c n ≡ Some w
-    → number order 8 (drop (offset + 8 * (width d * i + n)) input) ≡ w
-word_read input order d offset m i n w cs c read this that =
-    let size = 8 * width d in
-    let x = drop offset input in
-    let found = item_at size (coordinate order d) m i x c (ap (λ z. slice_get z i) read ∙ this) in
-    let word_is = item_at 8 (number order 8) (width d) n (drop (size * i) x) w (ap (λ z. slice_get z n) found ∙ that) in
-    let at : offset + 8 * (width d * i + n) ≡ offset + (size * i + 8 * n) = omega arith in
-    ap (λ k. number order 8 (drop k input)) at
-    ∙ ap (number order 8) (sym (drop-drop (size * i + 8 * n) offset input) ∙ sym (drop-drop (8 * n) (size * i) x))
+-- word n of coordinate i of a piece is where the piece says
+word_read : (input : List ℕ) (p : Piece) (has : Bool) (i n w : ℕ) (c : Coordinate)
+    → slice_get (if has then coordinates p.order p.dimension p.count (drop p.offset input) else []) i ≡ Some c
+    → slice_get c n ≡ Some w → number p.order 8 (drop (p.offset + 8 * (width p.dimension * i + n)) input) ≡ w
+word_read input p true i n w c this that =
+    let size = 8 * width p.dimension in
+    let x = drop p.offset input in
+    let found = item_at size (coordinate p.order p.dimension) p.count i x c this in
+    let word_is =
+    item_at 8 (number p.order 8) (width p.dimension) n (drop (size * i) x) w (ap (λ z. slice_get z n) found ∙ that) in
+    let at : p.offset + 8 * (width p.dimension * i + n) ≡ p.offset + (size * i + 8 * n) = omega arith in
+    ap (λ k. number p.order 8 (drop k input)) at
+    ∙ ap (number p.order 8) (sym (drop-drop (size * i + 8 * n) p.offset input) ∙ sym (drop-drop (8 * n) (size * i) x))
     ∙ word_is
+word_read input p false i n w c this that = absurd (cc)
 
--- the words of a subject are where its entry says
-entry_words : (input : List ℕ) (index at : ℕ) (x : Subject) → IsPieceOf input (piece_at at x) x
-    → HoldsWords input (entry_at index at x) (order_in x) (subject_coordinates x)
-entry_words input index at (ring order d cs) is i n w c this that =
-    word_read input order d (at + 4) (length cs) i n w cs c is.coordinates_are this that
-entry_words input index at (whole (node h words ss) (point d p)) is i n w c this that =
-    word_read input h.order d (at + (5 + srid_size (is_some h.srid))) 1 i n w _ c is.coordinates_are this that
-entry_words input index at (whole (node h words ss) (line_string d cs)) is i n w c this that =
-    word_read input h.order d (at + (9 + srid_size (is_some h.srid))) (length cs) i n w cs c is.coordinates_are this
-    that
-entry_words input index at (whole (node h words ss) _) is i n w c this that = absurd (cc)
+-- the entry of a piece holds its subject
+piece_holds : {input : List ℕ} {p : Piece} {x : Subject} {bytes rest : List ℕ} (end next : ℕ) → IsPieceOf input p x
+    → p.order ≡ order_in x → Stands input p.begin bytes rest → SpellsSubject x bytes → end ≡ p.begin + length bytes
+    → HoldsSubject input (entry_of p end next) x
+piece_holds {input} {p} {bytes = bytes} {rest} end next is order_is stands spell end_is = record {
+  bytes = bytes;
+  rest = rest;
+  stand = stands.is;
+  end_is = end_is;
+  spell = spell;
+  words = λ i n w c this that.
+      rw (← order_is)
+      (word_read input p (nat_lt p.kind 3) i n w c (ap (λ z. slice_get z i) is.coordinates_are ∙ this) that);
+}
 
 placed_holds : {input : List ℕ} {at : ℕ} {bytes rest : List ℕ} (index : ℕ) (x : Subject)
     → Stands input at bytes rest → SpellsSubject x bytes → HoldsSubject input (entry_at index at x) x
-placed_holds {input} {at} {bytes} {rest} index (whole (node h words ss) t) stands sp = record {
-  bytes = bytes;
-  rest = rest;
-  stand = stands.is;
-  end_is = spelled_end at (node h words ss) t bytes sp;
-  spell = sp;
-  words = entry_words input index at (whole (node h words ss) t) (says (whole (node h words ss) t) stands sp);
-}
-placed_holds {input} {at} {bytes} {rest} index (ring order d cs) stands sp = record {
-  bytes = bytes;
-  rest = rest;
-  stand = stands.is;
-  end_is = omega (arith, coordinates_length order d cs bytes sp);
-  spell = sp;
-  words = entry_words input index at (ring order d cs) (says (ring order d cs) stands sp);
-}
+placed_holds {at = at} {bytes} index (whole (node h words ss) t) stands sp =
+    piece_holds _ _ (says (whole (node h words ss) t) stands sp) refl stands sp
+    (spelled_end at (node h words ss) t bytes sp)
+placed_holds {bytes = bytes} index (ring order d cs) stands sp =
+    piece_holds _ _ (says (ring order d cs) stands sp) refl stands sp
+    (omega (arith, coordinates_length order d cs bytes sp))
 
 each_holds : (input : List ℕ) (index at : ℕ) (xs : List Subject) → ArePlaced input at xs
     → HoldEach input (entries_from index at xs) xs
@@ -93,11 +87,10 @@ mutual
   members_counted : (w : Wanted) (ss : Spellings) (ts : Values) (bytes : List ℕ) → SpellsEach w ss ts bytes
       → length (subjects_of_each ss ts) ≡ member_count_each ts
   members_counted w no_spellings no_members bytes sp = refl
-  members_counted w no_spellings (member t ts) bytes sp = absurd sp
-  members_counted w (spelling s ss) no_members bytes sp = absurd sp
   members_counted w (spelling s ss) (member t ts) bytes sp =
       let first = counted s t sp.front sp.first.0 in
       omega (arith, length-append {A = Subject}, members_counted w ss ts sp.rest sp.second)
+  members_counted w _ _ bytes sp = absurd sp
 
 pub entries_many : (s : Spelling) (t : Value) (bytes : List ℕ) → Spells s t bytes
     → length (geometry_entries 0 0 s t) ≡ suc (member_count t)

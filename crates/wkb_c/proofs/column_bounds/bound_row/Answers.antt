@@ -14,4 +14,5 @@ returns-in-Ok-bounds_or_status-clause-row c =
 pub returns-in-Err-bounds_or_status-clause-row : goal.returns-in-Err-bounds_or_status-clause-row
 returns-in-Err-bounds_or_status-clause-row c =
     refused c.in-Ok.row.now c.in-Ok.ensures.row c.in-Err-bounds_or_status.ensures.refused
-    (c.in-Err-bounds_or_status.ensures.kept ∙ c.plain_bounds_into.ensures.kept c.if-plain_bounds_into.false ∙ c.empty.ensures)
+    (c.in-Err-bounds_or_status.ensures.kept ∙ c.plain_bounds_into.ensures.kept c.if-plain_bounds_into.false
+    ∙ c.empty.ensures)

@@ -24,4 +24,5 @@ returns-clause-each g c = λ i below. c.loop-i.invariant.done i (omega (arith, b
 pub returns-clause-steps : goal.returns-clause-steps
 returns-clause-steps g c =
     let l = c.loop-i in
-    omega (arith, l.invariant.stepped, c.loop-i-test.false, reach_inside c.args.column.now l.i l.reach l.invariant.reaches)
+    let inside = reach_inside c.args.column.now l.i l.reach l.invariant.reaches in
+    omega (arith, l.invariant.stepped, c.loop-i-test.false, inside)

@@ -1,5 +1,5 @@
-use Rattle.wkb_abi.proofs.Common.{◌≡◌, ◌+◌, ◌*◌, ◌≤◌, length}
-use Rattle.wkb_abi.specs.Columns.{AreStatuses, Reach}
+use Rattle.wkb_abi.proofs.Common.{◌≡◌, ◌+◌, ◌*◌, ◌≤◌, length, Reach}
+use Rattle.wkb_abi.specs.Columns.{AreStatuses}
 use Rattle.wkb_c.proofs.column_check.check_rows.Given as goal
 
 abbrev pub invariant-loop-i : goal.invariant-loop-i

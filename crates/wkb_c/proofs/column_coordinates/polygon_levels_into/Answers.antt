@@ -1,7 +1,6 @@
-use Rattle.wkb_abi.proofs.Common.{refl, ◌∙◌, arith}
+use Rattle.wkb_abi.proofs.Common.{refl, ◌∙◌, arith, here}
 use Rattle.wkb_abi.proofs.Rooms.{lacks_row, laid_row}
 use Rattle.wkb_rewrite.proofs.Measured.{kind_of}
-use Rattle.wkb_check.proofs.Ahead.{here}
 use Rattle.wkb_c.proofs.column_coordinates.polygon_levels_into.Goals as goal
 
 pub returns-then-not-has_room-clause-laid : goal.returns-then-not-has_room-clause-laid

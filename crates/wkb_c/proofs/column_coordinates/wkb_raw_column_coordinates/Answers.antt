@@ -1,5 +1,5 @@
-use Rattle.std.proofs.Common.{rules}
 use Rattle.wkb_abi.proofs.Common.{arith, ◌≡◌}
+use Rattle.std.proofs.Common.{rules}
 use Rattle.wkb_abi.specs.RowItems.{rows_of}
 use Rattle.wkb_abi.proofs.Rooms.{no_rows, row_more, levels_suffice}
 use Rattle.wkb_abi.proofs.Levels.{stay_same}

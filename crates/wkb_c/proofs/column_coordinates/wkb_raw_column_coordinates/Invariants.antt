@@ -1,6 +1,6 @@
-use Rattle.wkb_abi.specs.Columns.{Reach}
+use Rattle.wkb_abi.proofs.Common.{Reach, levels_of}
 use Rattle.wkb_abi.specs.Coordinates.{AreColumnCoordinates}
-use Rattle.wkb_abi.specs.LevelLists.{levels_of, AreSameSlices}
+use Rattle.wkb_abi.specs.LevelLists.{AreSameSlices}
 use Rattle.wkb_abi.specs.RowItems.{AreSet}
 use Rattle.wkb_c.proofs.column_coordinates.wkb_raw_column_coordinates.Given as goal
 

@@ -8,8 +8,7 @@ loop-i-preserved c =
     let row = c.write_wkb_row-status.ensures in record {
       reaches = row.reach;
       done =
-          row_done c.loop-i.invariant.done row.step c.saturating_add-at.ensures
-          (encodings_tell_other c.args.options.now c.args.column.now) (omega arith) c.loop-i-test.true
+          row_done c.loop-i.invariant.done row.step c.saturating_add-at.ensures (omega arith) c.loop-i-test.true
           (omega (arith, c.min-i-end.ensures));
     }
 
@@ -20,5 +19,5 @@ returns-clause-each c =
 
 pub returns-clause-room : goal.returns-clause-room
 returns-clause-room c =
-    last_end_suffices c.loop-i.invariant.done
+    last_end_suffices c.loop-i.invariant.done (encodings_tell_other c.args.options.now c.args.column.now) (omega arith)
     (omega (arith, c.loop-i-test.false, c.loop-i.auto.i-end, c.min-i-end.ensures))

@@ -1,8 +1,9 @@
 use Rattle.wkb_abi.proofs.Common.{arith, ◌∙◌, ◌≡◌, ap, length}
+use Rattle.std.proofs.Common.{rules}
 use Rattle.wkb_levels.specs.EndLists.{ends_of}
 use Rattle.wkb_c.proofs.LevelRows.{ready_first}
 use Rattle.wkb_abi.proofs.Reasons.{levels_tell_other}
-use Rattle.wkb_c.proofs.RowItems.{rows_first, row_done, last_end_suffices}
+use Rattle.wkb_c.proofs.RowItems.{row_done, last_end_suffices}
 use Rattle.wkb_c.proofs.from_coordinates.wkb_raw_column_from_coordinates.Goals as goal
 use Rattle.wkb_c.proofs.from_coordinates.wkb_raw_column_from_coordinates.Goals.{After-len-rows}
 use Rattle.wkb_abi.specs.LevelTargets.{levels_in}
@@ -10,7 +11,7 @@ use Rattle.wkb_abi.specs.LevelTargets.{levels_in}
 pub loop-i-init : goal.loop-i-init
 loop-i-init c = record {
   ready = ready_first c.args.column.now c.target_of_numbers-target.result c.front-floor.result c.front-floor.ensures;
-  done = rows_first;
+  done = search rules;
 }
 
 pub loop-i-preserved : goal.loop-i-preserved
@@ -18,9 +19,8 @@ loop-i-preserved c =
     let row = c.write_level_row-status.ensures in record {
       ready = row.ready;
       done =
-          row_done c.loop-i.invariant.done row.step c.saturating_add-at.ensures
-          (levels_tell_other c.args.column.now c.target_of_numbers-target.result) (omega arith)
-          c.loop-i-test.true (omega (arith, c.min.ensures, c.min-i-end.ensures));
+          row_done c.loop-i.invariant.done row.step c.saturating_add-at.ensures (omega arith) c.loop-i-test.true
+          (omega (arith, c.min.ensures, c.min-i-end.ensures));
     }
 
 -- as many rows as are counted
@@ -37,5 +37,6 @@ returns-clause-each c =
 pub returns-clause-room : goal.returns-clause-room
 returns-clause-room c =
     let rows = rows_are (goal.at.returns-clause-room c).After-len-rows in
-    last_end_suffices c.loop-i.invariant.done
+    last_end_suffices c.loop-i.invariant.done (levels_tell_other c.args.column.now c.target_of_numbers-target.result)
+    (omega arith)
     (omega (arith, c.loop-i-test.false, c.loop-i.auto.i-end, c.min.ensures, c.min-i-end.ensures))

@@ -15,6 +15,6 @@ returns-then-found-eq1-clause-listed c = λ ok.
 pub returns-clause-listed : goal.returns-clause-listed
 returns-clause-listed c = λ ok.
     let d = c.requires.accepted in
-    table_laid d c.args.parts.now c.lay_geometries.new.parts (omega (arith, c.if-parts-found.false))
+    table_laid d (omega (arith, c.if-parts-found.false))
     ((c.lay_geometries.ensures d.rest (one_geometry d)).laid
     ∙ ap (λ xs. sets c.args.parts.now 0 (entries_from 0 0 xs)) (append-nil (subjects d.spelled d.value)))

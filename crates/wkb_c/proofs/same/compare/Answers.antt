@@ -5,16 +5,12 @@ use Rattle.wkb_c.proofs.same.compare.Goals as goal
 
 pub returns-then-have_one_value : goal.returns-then-have_one_value
 returns-then-have_one_value c =
-    let a = c.requires.first in
-    let b = c.requires.second in
-    let told = c.have_one_value.ensures (accepted_there c.args.a.now a) (accepted_there c.args.b.now b) in
-    one_value refl (same_values c.args.a.now c.args.b.now a b (told.0 c.if-have_one_value.true))
+    let have = c.have_one_value.ensures (accepted_there _ c.requires.first) (accepted_there _ c.requires.second) in
+    one_value refl (same_values _ _ c.requires.first c.requires.second (have.0 c.if-have_one_value.true))
 
 pub returns-else-have_one_value : goal.returns-else-have_one_value
 returns-else-have_one_value c =
-    let a = c.requires.first in
-    let b = c.requires.second in
-    let told = c.have_one_value.ensures (accepted_there c.args.a.now a) (accepted_there c.args.b.now b) in
+    let have = c.have_one_value.ensures (accepted_there _ c.requires.first) (accepted_there _ c.requires.second) in
     two_values refl
-    (other_values c.args.a.now c.args.b.now a b
-    (λ same. let never = sym c.if-have_one_value.false ∙ told.1 same in absurd (cc)))
+    (other_values _ _ c.requires.first c.requires.second
+    (λ same. let never = sym c.if-have_one_value.false ∙ have.1 same in absurd (cc)))

@@ -7,7 +7,7 @@ use Rattle.wkb_c.proofs.write.write_requested.Goals.{Joined-out-buf, then-out-bu
 pub returns-then-out-wanted : goal.returns-then-out-wanted
 returns-then-out-wanted c =
     lacks_room c.args.request c.requires c.options_for-options.ensures (λ i. (c.type_inv.buf i).fits)
-    (c.encoded_size-wanted.ensures.size _ (here c.requires)) (omega (arith, c.if-out-wanted.true))
+    (c.encoded_size-wanted.ensures.size _) (omega (arith, c.if-out-wanted.true))
 
 -- there is room for the encoding where it is laid
 fits : (c : Joined-out-buf) → (g : HasGeometry c.args.buf.now)
@@ -29,7 +29,7 @@ lay_encoding-requires-clause-room c = fits (goal.at.lay_encoding-requires-clause
 
 pub returns : goal.returns
 returns c =
-    let there = here c.requires in
-    let size_is = c.lay_encoding.ensures.size there in
+    let size_is = c.lay_encoding.ensures.size in
     writes c.args.request c.requires c.options_for-options.ensures (λ i. (c.type_inv.buf i).fits) size_is
-    (omega (arith, size_is, fits (goal.at.returns c).Joined-out-buf there)) (c.lay_encoding.ensures.laid there)
+    (omega (arith, size_is (here c.requires), fits (goal.at.returns c).Joined-out-buf (here c.requires)))
+    c.lay_encoding.ensures.laid
