@@ -31,6 +31,10 @@ record StepSays {A : Type 0} (Has : ℕ → List A → Type 0) (Fails : ℕ → 
 
 module _ {A : Type 0} {Has : ℕ → List A → Type 0} {Fails : ℕ → ℕ → Type 0} {i status start : ℕ}
   where
+    stays : {end : ℕ} {before after : List A} → after ≡ before → IsRowAnswer Has Fails i status start end before
+        → StepSays Has Fails i status start end before after
+    stays same answer = rw same (record { long = refl; front = refl; behind = λ k far. refl; answer = answer })
+
     step_says : {count : ℕ} {before after : List A} → IsRowStep Has Fails i status count start before after
         → length before < 2 ^ 63 → start < 2 ^ 64
         → StepSays Has Fails i status start (end_of start count) before after
@@ -45,21 +49,8 @@ module _ {A : Type 0} {Has : ℕ → List A → Type 0} {Fails : ℕ → ℕ →
           answer = handed items has ok (held_laid before items start _ refl room);
         })
     step_says (lacks items has is many short same) small fits =
-        rw same
-        (record {
-          long = refl;
-          front = refl;
-          behind = λ k far. refl;
-          answer = no_room items has is (ap (end_of start) many) (omega (arith, many, short));
-        })
-    step_says (nothing why none same) small fits =
-        rw same
-        (record {
-          long = refl;
-          front = refl;
-          behind = λ k far. refl;
-          answer = failed why (omega (arith, none, fits));
-        })
+        stays same (no_room items has is (ap (end_of start) many) (omega (arith, many, short)))
+    step_says (nothing why none same) small fits = stays same (failed why (omega (arith, none, fits)))
 
     -- what is laid after a row doesn't change its answer
     kept_answer : {end : ℕ} {out new : List A} (at : ℕ) → IsRowAnswer Has Fails i status start end out
@@ -79,10 +70,6 @@ module _ {A : Type 0} {Has : ℕ → List A → Type 0} {Fails : ℕ → ℕ →
     never_lacks (failed why end_is) other small room none = other i (subst (Fails i) none why)
 
 -- ---- all rows
-
-pub set_first : {A : Type 0} {rows : ℕ} {statuses : List ℕ} {others : List A}
-    → AreSet rows statuses statuses others others
-set_first = record { as_many = refl; as_many_others = refl; statuses_kept = refl; others_kept = refl }
 
 pub set_more : {A : Type 0} {rows : ℕ} {before statuses : List ℕ} {before' others : List A}
     → AreSet rows before statuses before' others → (i status : ℕ) (x : A) → i < rows

@@ -10,13 +10,3 @@ pub returns-in_default-clause-laid : goal.returns-in_default-clause-laid
 returns-in_default-clause-laid c =
     unchanged (failed (unknown c.in-Ok.row.now c.in-Ok.ensures.row (sym c.of_thousands.ensures ∙ c.in_default.is) refl)
     refl)
-
-pub returns-in-Some-check_plain-clause-laid : goal.returns-in-Some-check_plain-clause-laid
-returns-in-Some-check_plain-clause-laid c =
-    c.levels_by_kind_into.ensures.laid c.args.column.now c.args.dimension c.args.i c.in-Ok.ensures.row
-    (sym c.in-Some.ensures)
-
-pub returns-in-None-clause-laid : goal.returns-in-None-clause-laid
-returns-in-None-clause-laid c =
-    c.any_levels_into.ensures.laid c.args.column.now c.args.dimension c.args.i c.in-Ok.ensures.row
-    (sym c.in-Some.ensures)

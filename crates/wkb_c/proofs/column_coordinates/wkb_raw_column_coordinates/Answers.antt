@@ -3,12 +3,12 @@ use Rattle.std.proofs.Common.{rules}
 use Rattle.wkb_abi.specs.RowItems.{rows_of}
 use Rattle.wkb_abi.proofs.Rooms.{no_rows, row_more, levels_suffice}
 use Rattle.wkb_abi.proofs.Levels.{stay_same}
-use Rattle.wkb_c.proofs.RowItems.{set_first, set_more}
+use Rattle.wkb_c.proofs.RowItems.{set_more}
 use Rattle.wkb_c.proofs.column_coordinates.wkb_raw_column_coordinates.Goals as goal
 
 pub loop-i-init : goal.loop-i-init
 loop-i-init c =
-    record { reaches = search rules; lists = set_first; done = no_rows (search rules); same_slices = search rules }
+    record { reaches = search rules; lists = search rules; done = no_rows (search rules); same_slices = search rules }
 
 pub loop-i-preserved : goal.loop-i-preserved
 loop-i-preserved c =
