@@ -29,45 +29,45 @@ record StepSays {A : Type 0} (Has : ℕ → List A → Type 0) (Fails : ℕ → 
   pub behind : (k : ℕ) → (status ≡ OK → end ≤ k) → drop k after ≡ drop k before
   pub answer : IsRowAnswer Has Fails i status start end after
 
-module _ {A : Type 0} {Has : ℕ → List A → Type 0} {Fails : ℕ → ℕ → Type 0} {i status start : ℕ}
-  where
-    stays : {end : ℕ} {before after : List A} → after ≡ before → IsRowAnswer Has Fails i status start end before
-        → StepSays Has Fails i status start end before after
-    stays same answer = rw same (record { long = refl; front = refl; behind = λ k far. refl; answer = answer })
+module _ {A : Type 0} {Has : ℕ → List A → Type 0} {Fails : ℕ → ℕ → Type 0} {i status start : ℕ} where
+  -- one that lays nothing
+  stays : {end : ℕ} {before after : List A} → after ≡ before → IsRowAnswer Has Fails i status start end before
+      → StepSays Has Fails i status start end before after
+  stays same answer = rw same (record { long = refl; front = refl; behind = λ k far. refl; answer = answer })
 
-    step_says : {count : ℕ} {before after : List A} → IsRowStep Has Fails i status count start before after
-        → length before < 2 ^ 63 → start < 2 ^ 64
-        → StepSays Has Fails i status start (end_of start count) before after
-    step_says {count} {before} (laid items has ok many there laid_is) small fits =
-        let room : start + length items ≤ length before = rw many at there in
-        let end : end_of start count ≡ start + length items = omega (arith, there, small, many) in
-        rw (laid_is, end)
-        (record {
-          long = length-sets before start items;
-          front = front_laid before items start room;
-          behind = λ k far. behind_laid before items start k room (far ok);
-          answer = handed items has ok (held_laid before items start _ refl room);
-        })
-    step_says (lacks items has is many short same) small fits =
-        stays same (no_room items has is (ap (end_of start) many) (omega (arith, many, short)))
-    step_says (nothing why none same) small fits = stays same (failed why (omega (arith, none, fits)))
+  step_says : {count : ℕ} {before after : List A} → IsRowStep Has Fails i status count start before after
+      → length before < 2 ^ 63 → start < 2 ^ 64
+      → StepSays Has Fails i status start (end_of start count) before after
+  step_says {count} {before} (laid items has ok many there laid_is) small fits =
+      let room : start + length items ≤ length before = rw many at there in
+      let end : end_of start count ≡ start + length items = omega (arith, there, small, many) in
+      rw (laid_is, end)
+      (record {
+        long = length-sets before start items;
+        front = front_laid before items start room;
+        behind = λ k far. behind_laid before items start k room (far ok);
+        answer = handed items has ok (held_laid before items start _ refl room);
+      })
+  step_says (lacks items has is many short same) small fits =
+      stays same (no_room items has is (ap (end_of start) many) (omega (arith, many, short)))
+  step_says (nothing why none same) small fits = stays same (failed why (omega (arith, none, fits)))
 
-    -- what is laid after a row doesn't change its answer
-    kept_answer : {end : ℕ} {out new : List A} (at : ℕ) → IsRowAnswer Has Fails i status start end out
-        → end ≤ at → length new ≡ length out → take at new ≡ take at out
-        → IsRowAnswer Has Fails i status start end new
-    kept_answer {out = out} {new} at (handed items has ok held) below same front =
-        handed items has ok (held_on held (fewer _ at new out below front))
-    kept_answer at (no_room items has ok end_is short) below same front =
-        no_room items has ok end_is (omega (arith, short, same))
-    kept_answer at (failed why end_is) below same front = failed why end_is
+  -- what is laid after a row doesn't change its answer
+  kept_answer : {end : ℕ} {out new : List A} (at : ℕ) → IsRowAnswer Has Fails i status start end out
+      → end ≤ at → length new ≡ length out → take at new ≡ take at out
+      → IsRowAnswer Has Fails i status start end new
+  kept_answer {out = out} {new} at (handed items has ok held) below same front =
+      handed items has ok (held_on held (fewer _ at new out below front))
+  kept_answer at (no_room items has ok end_is short) below same front =
+      no_room items has ok end_is (omega (arith, short, same))
+  kept_answer at (failed why end_is) below same front = failed why end_is
 
-    -- with room up to its end a row doesn't lack room
-    never_lacks : {end : ℕ} {out : List A} → IsRowAnswer Has Fails i status start end out → TellsOther Fails
-        → length out < 2 ^ 63 → end ≤ length out → status ≡ NO_ROOM → ⊥
-    never_lacks (handed items has ok held) other small room none = omega (arith, ok, none)
-    never_lacks (no_room items has is end_is short) other small room none = omega (arith, end_is, short, small, room)
-    never_lacks (failed why end_is) other small room none = other i (subst (Fails i) none why)
+  -- with room up to its end a row doesn't lack room
+  never_lacks : {end : ℕ} {out : List A} → IsRowAnswer Has Fails i status start end out → TellsOther Fails
+      → length out < 2 ^ 63 → end ≤ length out → status ≡ NO_ROOM → ⊥
+  never_lacks (handed items has ok held) other small room none = omega (arith, ok, none)
+  never_lacks (no_room items has is end_is short) other small room none = omega (arith, end_is, short, small, room)
+  never_lacks (failed why end_is) other small room none = other i (subst (Fails i) none why)
 
 -- ---- all rows
 
