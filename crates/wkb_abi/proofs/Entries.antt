@@ -23,7 +23,7 @@ pub as_many_entries : (index at : ℕ) (xs : List Subject) → length (entries_f
 as_many_entries index at [] = refl
 as_many_entries index at (x ∷ xs) = omega (arith, as_many_entries (index + 1) (own_end (piece_at at x)) xs)
 
-pub entries_append : (index at next to : ℕ) (xs ys : List Subject) → next ≡ index + length xs → to ≡ last_end at xs
+entries_append : (index at next to : ℕ) (xs ys : List Subject) → next ≡ index + length xs → to ≡ last_end at xs
     → entries_from index at xs ++ entries_from next to ys ≡ entries_from index at (xs ++ ys)
 entries_append index at next to [] ys n e =
     let here : next ≡ index = omega (arith, n) in
@@ -82,14 +82,14 @@ ring_laid {buf} {order} {d} {n} {m} {index} {at} {parts} l e p next ends is =
 -- ---- stores
 
 module _ {A : Type 0} where
-  pub set_first : (l : List A) (i j : ℕ) (a : A) (vs : List A) → i < j → set (sets l j vs) i a ≡ sets (set l i a) j vs
+  set_first : (l : List A) (i j : ℕ) (a : A) (vs : List A) → i < j → set (sets l j vs) i a ≡ sets (set l i a) j vs
   set_first l i j a [] h = refl
   set_first l i j a (v ∷ vs) h =
       set_first (set l j v) i (suc j) a vs (omega (arith, h))
       ∙ ap (λ r. sets r (suc j) vs) (set_comm l j i v a (λ e. omega (arith, e, h)))
 
   -- an item that is laid last, before others
-  pub laid_first : (l r : List A) (i : ℕ) (a : A) (vs : List A) → r ≡ sets l (i + 1) vs → set r i a ≡ sets l i (a ∷ vs)
+  laid_first : (l r : List A) (i : ℕ) (a : A) (vs : List A) → r ≡ sets l (i + 1) vs → set r i a ≡ sets l i (a ∷ vs)
   laid_first l r i a vs e = rw (e, ← add-one i) (set_first l i (i + 1) a vs (omega arith))
 
 -- ---- a geometry

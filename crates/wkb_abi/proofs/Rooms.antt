@@ -77,7 +77,7 @@ pub one_dimension : (P : Dimension → Type 0) (n : ℕ) (a b : Dimension) → d
 one_dimension P n a b f g = let same : Some a ≡ Some b = sym f ∙ g in let one : a ≡ b = cc in subst P one
 
 -- there is room in each list
-pub room_at : {asked : Dimension} {out : LevelLists} {to : Totals} → HasRoomUpTo asked out to → (k : Level)
+room_at : {asked : Dimension} {out : LevelLists} {to : Totals} → HasRoomUpTo asked out to → (k : Level)
     → many_in k asked to ≤ length (list_of k out)
 room_at room of_words = room.words_fit
 room_at room of_rings = room.rings_fit
