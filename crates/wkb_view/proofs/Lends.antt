@@ -1,5 +1,6 @@
 -- The bytes of a geometry begin with it, so its value is lawful and can be written, and the traits show it.
-use Rattle.std.proofs.Common.{◌≡◌, ◌<◌, ◌≤◌, ◌^◌, ℕ, List, [], Bool, true, false, length, refl, subst, sym, ◌∙◌, append-nil, arith, ap}
+use Rattle.std.proofs.Common.{◌≡◌, ◌<◌, ◌≤◌, ◌^◌, ℕ, List, [], Bool, true, false, length, refl, subst, sym, ◌∙◌, ap}
+use Rattle.std.proofs.Common.{append-nil, arith}
 use Rattle.wkb_geom.specs.Encodings.{IsWritable}
 use Rattle.wkb_geom.specs.Fronts.{max_nesting}
 use Rattle.wkb_geom.specs.Geometries.{geometry_of, IsGeometry, normal}

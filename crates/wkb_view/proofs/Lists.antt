@@ -7,7 +7,7 @@ use Rattle.wkb_view.specs.Prelude.{refused, end_of_input, Cause, ReadError, Cost
 use Rattle.wkb_view.specs.Prelude.read_errors
 use Rattle.wkb_view.specs.Prelude.{Reading, costs, done, count_in, and_then, repeated, Layout, Item, number}
 use Rattle.wkb_view.specs.Prelude.{multi_point_end, slots_asked, slots_of, consumed, body_start, parts_start, list_at}
-use Rattle.wkb_view.specs.Prelude.{list_item, member_at, parts_body, multi_point_with, multi_polygon_with}
+use Rattle.wkb_view.specs.Prelude.{list_item, member_at, parts_body, multi_point_with}
 use Rattle.wkb_view.specs.declared.counts.Counts.{Counts}
 use Rattle.wkb_view.specs.Outcome.{Spent, next_turn, cost_of, CanCount, Stops}
 use Rattle.wkb_view.specs.Members.{parts_behind}
@@ -129,11 +129,6 @@ module _ (l : Layout) (bytes : List ℕ) (n : ℕ) (old mid : Counts) (whole : b
       is_list k l part end bytes n old mid _ (rw (long, ← counted) refl) turns
       (rw (counted, parts_length l.has_srid bytes) slots)
 
-  pub polygons_here : Asked 6
-      → IsList l (member_at 3 l.dimension) (list_item l multi_polygon_with) bytes n old mid (multi_polygon_at l bytes)
-  unfolding multi_polygon_at
-  polygons_here = list_here 6 (member_at 3 l.dimension) (list_item l multi_polygon_with)
-
 -- A list whose count is cut short, or for whose entries an allocation fails: its reading, if the count is there, costs
 -- the entries that were asked for.
 module _ (least : ℕ) (l : Layout) (bytes : List ℕ) where
@@ -155,15 +150,9 @@ module _ (least : ℕ) (l : Layout) (bytes : List ℕ) where
     list_refused read_errors.Memory old new none turns slots =
         record { turns = omega arith; slots = omega (arith, entries_within) }
 
-module _ (l : Layout) (bytes : List ℕ) where
-  pub polygons_within : entries_asked 9 l bytes ≤ (multi_polygon_at l bytes).0.slots
-  unfolding multi_polygon_at
-  polygons_within = entries_within 9 l bytes _ (omega (arith, parts_length l.has_srid bytes))
-
-  pub polygons_refused : (error : ReadError) (old new : Counts) → HasNoList l bytes error → new.turns ≡ old.turns
-      → new.slots ≡ old.slots + entries_asked 9 l bytes → Stops error (multi_polygon_at l bytes) old new
-  unfolding multi_polygon_at
-  polygons_refused = list_refused 9 l bytes _ (omega (arith, parts_length l.has_srid bytes))
+pub polygons_within : (l : Layout) (bytes : List ℕ) → entries_asked 9 l bytes ≤ (multi_polygon_at l bytes).0.slots
+unfolding multi_polygon_at
+polygons_within l bytes = entries_within 9 l bytes _ (omega (arith, parts_length l.has_srid bytes))
 
 -- where its bytes are there, a multi point is a list that asks for no entry
 pub points_here : (l : Layout) (bytes : List ℕ) (n : ℕ) (old : Counts)

@@ -2,7 +2,7 @@
 use Rattle.std.proofs.Common.{◌≡◌, ℕ, zero, suc, List, [], ◌∷◌, ◌++◌, map, Option, Some, None, refl, sym, ap, ◌∙◌}
 use Rattle.std.proofs.Common.{subst, ◌+◌, ◌-◌, ◌*◌, ◌≤◌, ◌<◌, length, Bor}
 use Rattle.std.proofs.Common.{take, drop, Bool, false, Result, Ok, length-drop, length-take, arith}
-use Rattle.std.specs.Prelude.{slice_get, option_map, IsOk}
+use Rattle.std.specs.Prelude.{slice_get, option_map, IsOk, IfSome}
 use Rattle.std.specs.List.{AllByRecursion}
 use Rattle.std.proofs.lemmas.Option.{slice_get-map}
 use Rattle.std.proofs.lemmas.List.{length-map}
@@ -36,13 +36,8 @@ module _ (k : ℕ) (l : Layout) (ends encoding : List ℕ) (i : ℕ) where
       → member_layout k l.dimension t ≡ Ok m → IsEncoding k m t
   member_encoding t m are e is =
       let member = piece_form (IsMemberOfKind k l.dimension) (body_start l.has_srid + 4) ends encoding i t are e in
-      subst (λ n. IsEncoding k n t) (same member.layout m (sym member.layout_is ∙ is)) member.encoding_is
-    where
-      good : Layout → Result Layout Cause
-      good n = Ok n
-
-      same : (m n : Layout) → good m ≡ good n → m ≡ n
-      same m n e = cc
+      let same : member.layout ≡ m = cc in
+      subst (λ n. IsEncoding k n t) same member.encoding_is
 
   -- and has a layout
   pub member_there : (t : List ℕ) → AreMembersOfKind k l ends encoding
@@ -74,26 +69,23 @@ each_at P [] i x all e = absurd cc
 each_at P (y ∷ xs) zero x all e = let same : y ≡ x = cc in subst P same all.0
 each_at P (y ∷ xs) (suc i) x all e = each_at P xs i x all.1 e
 
-items_at : {B : Type 0} (f : Item → B) (ps : List (Listed (List (List Coordinate)))) (i : ℕ)
-    (o : Option (Listed (List (List Coordinate)))) → slice_get ps i ≡ o
-    → option_map f (option_map (λ p. whole_of polygon p) o) ≡ slice_get (map f (polygon_items ps)) i
-items_at f ps i o e = grind (arith, slice_get-map)
-
 seen_at : {B : Type 0} (f : Item → B) (ps : List (Listed (List (List Coordinate)))) (i : ℕ)
     (o : Option (Bor (Listed (List (List Coordinate))))) → IsAnswered ps i o
     → option_map (λ p. f (whole_of polygon p.now)) o ≡ slice_get (map f (polygon_items ps)) i
-seen_at f ps i None got = items_at f ps i None (sym (copied_is ps i None got))
-seen_at f ps i (Some p) got = items_at f ps i (Some p.now) (sym (copied_is ps i (Some p) got))
+seen_at f ps i o got = grind (arith, slice_get-map, copied_is ps i o got)
 
-fitted_at : (d : Dimension) (ps : List (Listed (List (List Coordinate)))) (i : ℕ)
+dimension_at : (d : Dimension) (ps : List (Listed (List (List Coordinate)))) (i : ℕ)
     (o : Option (Bor (Listed (List (List Coordinate))))) → IsAnswered ps i o
-    → AllByRecursion (λ p. p.dimension ≡ d) ps
+    → AllByRecursion (λ p. p.dimension ≡ d) ps → IfSome o (λ p. p.now.dimension ≡ d)
+dimension_at d ps i None got all = tt
+dimension_at d ps i (Some p) got all =
+    each_at (λ q. q.dimension ≡ d) ps i p.now all (sym (copied_is ps i (Some p) got))
+
+fitted_at : (d : Dimension) (o : Option (Bor (Listed (List (List Coordinate)))))
+    → IfSome o (λ p. p.now.dimension ≡ d)
     → option_map (λ p. fitted_parts p.now) o
     ≡ option_map (fitted_line_strings (as_dimensions d)) (option_map (λ p. p.now.parts) o)
-fitted_at d ps i None got all = refl
-fitted_at d ps i (Some p) got all =
-    ap (λ (f : Dimension). Some (fitted_line_strings (as_dimensions f) p.now.parts))
-    (each_at (λ q. q.dimension ≡ d) ps i p.now all (sym (copied_is ps i (Some p) got)))
+fitted_at d o same = grind arith
 
 -- the member of a multi polygon at an index, if there is one
 pub record PolygonAt (d : Dimension) (ps : List (Listed (List (List Coordinate)))) (i : ℕ)
@@ -101,6 +93,7 @@ pub record PolygonAt (d : Dimension) (ps : List (Listed (List (List Coordinate))
   pub part : option_map (λ p. p.now.parts) o ≡ slice_get (map (λ m. polygon_of m.value) (polygon_items ps)) i
   pub value : option_map (λ p. fitted_parts p.now) o
       ≡ slice_get (fitted_polygons (as_dimensions d) (map (λ m. polygon_of m.value) (polygon_items ps))) i
+  pub dimension : IfSome o (λ p. p.now.dimension ≡ d)
   pub spelled : option_map (λ p. p.now.spelled) o ≡ slice_get (list_of_spellings (spellings (polygon_items ps))) i
 
 pub polygon_there : (d : Dimension) (ps : List (Listed (List (List Coordinate)))) (i : ℕ)
@@ -108,11 +101,13 @@ pub polygon_there : (d : Dimension) (ps : List (Listed (List (List Coordinate)))
     → AllByRecursion (λ p. p.dimension ≡ d) ps → PolygonAt d ps i o
 polygon_there d ps i o got all =
     let part = seen_at (λ m. polygon_of m.value) ps i o got in
+    let same = dimension_at d ps i o got all in
     let fitted =
     slice_get-map (fitted_line_strings (as_dimensions d)) (map (λ m. polygon_of m.value) (polygon_items ps)) i in
     record {
       part = part;
-      value = fitted_at d ps i o got all ∙ ap (option_map (fitted_line_strings (as_dimensions d))) part ∙ sym fitted;
+      dimension = same;
+      value = fitted_at d o same ∙ ap (option_map (fitted_line_strings (as_dimensions d))) part ∙ sym fitted;
       spelled =
           seen_at (λ m. m.spelled) ps i o got
           ∙ sym (ap (λ (ss : List Spelling). slice_get ss i) (spelled_each (polygon_items ps)));

@@ -28,7 +28,8 @@ abbrev pub CanBeWritten : Value → Type 0
 CanBeWritten t = (order : Endianness) → IsWritable order Iso (geometry_of t)
 
 -- What every geometry is that was read, wherever it is handed on, and every part of it: its bytes are those of a
--- slice and begin with it, and its value is lawful, can be written, is its own normal value, and is what the traits show.
+-- slice and begin with it, and its value is lawful, can be written, is its own normal value, and is what the traits
+-- show.
 pub record IsRead (w : Item) : Type 0 where
   pub front : IsFront w.encoding w
   pub bytes : AreBytes w.encoding

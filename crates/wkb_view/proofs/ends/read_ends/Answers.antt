@@ -1,11 +1,13 @@
-use Rattle.std.proofs.Common.{ℕ, List, ◌-◌, ◌+◌, ◌≤◌, ◌∙◌, ap, length, sym, arith}
+use Rattle.std.proofs.Common.{◌≡◌, ℕ, List, ◌-◌, ◌+◌, ◌≤◌, ◌∙◌, ap, length, sym, arith}
 use Rattle.std.proofs.lemmas.Result.{err_from_is_err_and}
-use Rattle.wkb_view.specs.Prelude.{Layout, body_start, count_in, slots_asked}
+use Rattle.wkb_view.specs.Prelude.{Layout, ReadError, body_start, parts_start, count_in, slots_asked}
 use Rattle.wkb_view.specs.Prelude.read_errors
+use Rattle.wkb_view.specs.declared.counts.Counts.{Counts}
 use Rattle.wkb_view.specs.Ends.{PartsOf, whole_at}
-use Rattle.wkb_view.specs.Entries.{entries_asked}
+use Rattle.wkb_view.specs.Entries.{entries_asked, HasNoList}
+use Rattle.wkb_view.specs.Outcome.{Stops}
 use Rattle.wkb_view.proofs.Lists.{IsList, list_here, list_fits, list_reads, list_stops, entries_within}
-use Rattle.wkb_view.proofs.Lists.{parts_length}
+use Rattle.wkb_view.proofs.Lists.{list_refused, parts_length}
 use Rattle.wkb_view.proofs.ends.read_ends.Given.{Over}
 use Rattle.wkb_view.proofs.ends.read_ends.Goals as goal
 use Rattle.wkb_view.proofs.ends.read_ends.Goals.{In_ok-count}
@@ -25,15 +27,34 @@ here g c =
     ∙ ap (λ (n : ℕ). c.args.counts.now.slots + n)
     (sym (parts.slots (count_in l bytes) (length bytes - (body_start l.has_srid + 4)))))
 
--- its entries are among those of the whole
-within : {least : ℕ} (parts : Layout → PartsOf least) (l : Layout) (bytes : List ℕ)
-    → entries_asked least l bytes ≤ (whole_at parts l bytes).0.slots
-within parts l bytes =
-    let n = count_in l bytes in
-    entries_within _ l bytes _ (omega (
-      arith,
-      sym ((parts l).slots n _) ∙ ap (slots_asked (parts l).kind n) (sym (parts_length l.has_srid bytes)),
-    ))
+-- the entries that are asked for are counted in the whole, also where the list isn't there
+module _ {least : ℕ} (parts : Layout → PartsOf least) (l : Layout) (bytes : List ℕ) where
+  asked : entries_asked least l bytes
+      ≤ slots_asked (parts l).kind (count_in l bytes) (length (parts_start l.has_srid bytes))
+  asked =
+      let n = count_in l bytes in
+      omega (
+        arith,
+        sym ((parts l).slots n _) ∙ ap (slots_asked (parts l).kind n) (sym (parts_length l.has_srid bytes)),
+      )
+
+  within : entries_asked least l bytes ≤ (whole_at parts l bytes).0.slots
+  within = entries_within least l bytes _ (omega (arith, asked))
+
+  refused : (error : ReadError) (old new : Counts) → HasNoList l bytes error → new.turns ≡ old.turns
+      → new.slots ≡ old.slots + entries_asked least l bytes → Stops error (whole_at parts l bytes) old new
+  refused = list_refused least l bytes _ (omega (arith, asked))
+
+pub counted_list-requires-clause-fits : goal.counted_list-requires-clause-fits
+counted_list-requires-clause-fits g c =
+    rw c.MIN_SIZE.ensures (omega (arith, within g.P.Parts.parts c.args.layout c.args.bytes.now))
+
+pub returns-in_err-count-clause-answer : goal.returns-in_err-count-clause-answer
+returns-in_err-count-clause-answer g c =
+    let stopped = err_from_is_err_and c.from_residual.result c.from_residual.ensures.1 in
+    rw (stopped.1, stopped.2)
+    (refused g.P.Parts.parts c.args.layout c.args.bytes.now c.in_err-count.field-0.0 _ _ c.in_err-count.ensures.no_list
+    c.counted_list.ensures.turns (rw c.MIN_SIZE.ensures at c.counted_list.ensures.slots))
 
 pub returns-in_err-count-clause-no_memory : goal.returns-in_err-count-clause-no_memory
 returns-in_err-count-clause-no_memory g c = λ none.

@@ -4,17 +4,16 @@ use Rattle.wkb_view.proofs.Members.{point_laid}
 use Rattle.wkb_view.proofs.Leaves.{found, member_gives, member_passed}
 use Rattle.wkb_view.proofs.multi_point.pass_point.Goals as goal
 
-pub returns-clause-answer : goal.returns-clause-answer
-returns-clause-answer c =
+pub returns : goal.returns
+returns c =
     let bytes = c.args.bytes.now in
     let laid = point_laid _ _ _ c.in_ok-member.ensures in
     let read = c.in_ok-rest.ensures in
     let passed = member_passed 1 c.args.dimension bytes _ _ _ laid read.passed read.item in
-    member_gives 1 c.args.dimension bytes _ _ laid
-    (ap (λ (p : Outcome Item). at_no_cost p) (read.answer ∙ ap (λ (i : Item). found i c.in_ok-rest.rest.now) passed.0))
-
-pub returns-clause-passed : goal.returns-clause-passed
-returns-clause-passed c =
-    let laid = point_laid _ _ _ c.in_ok-member.ensures in
-    (member_passed 1 c.args.dimension c.args.bytes.now _ _ _ laid c.in_ok-rest.ensures.passed
-    c.in_ok-rest.ensures.item).1
+    record {
+      answer =
+          member_gives 1 c.args.dimension bytes _ _ laid
+          (ap (λ (p : Outcome Item). at_no_cost p)
+          (read.answer ∙ ap (λ (i : Item). found i c.in_ok-rest.rest.now) passed.0));
+      passed = passed.1;
+    }

@@ -29,19 +29,11 @@ loop-preserved c =
           (pieces_next _ _ (omega arith) c.loop-test.true so_far gives.0 gives.1 passed);
     }
 
-pub returns-clause-points : goal.returns-clause-points
-returns-clause-points c =
-    let all : c.loop.counter ≡ c.args.count = omega arith in
-    let r = pieces_read c.loop-test.false c.loop.invariant.so_far in
-    (rw all at r.0, r.1)
-
-pub returns-clause-each : goal.returns-clause-each
-returns-clause-each c =
-    let all : c.loop.counter ≡ c.args.count = omega arith in
-    rw all at (pieces_read c.loop-test.false c.loop.invariant.so_far).2
-
-pub returns-clause-end : goal.returns-clause-end
-returns-clause-end c =
+pub returns : goal.returns
+returns c =
     let all : c.loop.counter ≡ c.args.count = omega arith in
     let so_far = c.loop.invariant.so_far in
-    rw all at (points_end c.args.layout c.loop.counter c.args.bytes.now c.loop.rest.now so_far.rest_is so_far.within)
+    let r = pieces_read c.loop-test.false so_far in
+    let end =
+    points_end c.args.layout c.loop.counter c.args.bytes.now c.loop.rest.now so_far.rest_is so_far.within in
+    record { points = (rw all at r.0, r.1); each = rw all at r.2; end = rw all at end }

@@ -6,16 +6,20 @@ use Rattle.wkb_laws.proofs.GeometryAt.{line_string_free}
 use Rattle.wkb_view.proofs.Leaves.{found, member_gives, member_passed}
 use Rattle.wkb_view.proofs.multi_line_string.LineStringsParts.pass.Goals as goal
 
-pub returns-clause-answer : goal.returns-clause-answer
-returns-clause-answer c =
+pub returns : goal.returns
+returns c =
     let bytes = c.args.bytes.now in
     let laid = member_laid 2 _ _ _ c.in_ok-member.ensures in
     let read = c.in_ok-rest.ensures in
     let passed = member_passed 2 c.args.layout.dimension bytes _ _ _ laid read.passed read.item in
-    member_gives 2 c.args.layout.dimension bytes _ _ laid
-    (line_string_free _ bytes
-    ∙ ap (λ (p : Outcome Item). at_no_cost p)
-    (read.answer ∙ ap (λ (i : Item). found i c.in_ok-rest.rest.now) passed.0))
+    record {
+      answer =
+          member_gives 2 c.args.layout.dimension bytes _ _ laid
+          (line_string_free _ bytes
+          ∙ ap (λ (p : Outcome Item). at_no_cost p)
+          (read.answer ∙ ap (λ (i : Item). found i c.in_ok-rest.rest.now) passed.0));
+      passed = passed.1;
+    }
 
 pub returns-in_err-rest-clause-answer : goal.returns-in_err-rest-clause-answer
 returns-in_err-rest-clause-answer c =
@@ -25,9 +29,3 @@ returns-in_err-rest-clause-answer c =
     rw (p.1, p.2)
     (member_gives 2 c.args.layout.dimension bytes _ _ laid
     (line_string_free _ bytes ∙ ap (λ (r : Outcome Item). at_no_cost r) c.in_err-rest.ensures.answer))
-
-pub returns-clause-passed : goal.returns-clause-passed
-returns-clause-passed c =
-    let laid = member_laid 2 _ _ _ c.in_ok-member.ensures in
-    (member_passed 2 c.args.layout.dimension c.args.bytes.now _ _ _ laid c.in_ok-rest.ensures.passed
-    c.in_ok-rest.ensures.item).1

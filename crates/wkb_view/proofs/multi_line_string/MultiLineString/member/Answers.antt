@@ -25,42 +25,28 @@ of_encoding-requires c =
     member_encoding 2 p.layout p.ends.items p.buf.now c.args.i _ _ c.self.invariant.1
     (rw (c.header_length.ensures, c.deref.ensures.value) at c.in_ok-buf.ensures.part) c.of_known_member-layout.ensures
 
-pub returns-in_err-buf-clause-spelled : goal.returns-in_err-buf-clause-spelled
-returns-in_err-buf-clause-spelled c =
-    let p = c.self.inside in
-    rw (c.from_residual.ensures, ← c.self.view_is) (spelling_seen 2 p.layout p.ends.items p.buf.now c.args.i _
-    (rw (c.header_length.ensures, c.deref.ensures.value) at c.in_err-buf.ensures.part))
-
-pub returns-clause-value : goal.returns-clause-value
-returns-clause-value c =
+pub returns : goal.returns
+returns c =
     let p = c.self.inside in
     let known = c.of_known_member-layout.ensures in
-    rw (← c.self.view_is)
-    (ap (λ (m : Item). Some (line_string_of m.value))
-    (c.of_encoding.ensures.item ∙ member_seen 2 p.layout.dimension _ _ known)
-    ∙ members_seen 2 p.layout p.ends.items p.buf.now c.args.i (λ m. line_string_of m.value) _
-    (rw (c.header_length.ensures, c.deref.ensures.value) at c.in_ok-buf.ensures.part))
+    let part = rw (c.header_length.ensures, c.deref.ensures.value) at c.in_ok-buf.ensures.part in
+    let item = c.of_encoding.ensures.item ∙ member_seen 2 p.layout.dimension _ _ known in
+    rw (← c.self.view_is) (record {
+      value = ap (λ (m : Item). Some (line_string_of m.value)) item
+          ∙ members_seen 2 p.layout p.ends.items p.buf.now c.args.i (λ m. line_string_of m.value) _ part;
+      dimension =
+          ap (λ (l : Layout). l.dimension) c.of_encoding.ensures.layout
+          ∙ member_dimension 2 p.layout.dimension _ _ known;
+      spelled = ap (λ (m : Item). Some m.spelled) item
+          ∙ spelling_seen 2 p.layout p.ends.items p.buf.now c.args.i _ part;
+    })
 
-pub returns-clause-spelled : goal.returns-clause-spelled
-returns-clause-spelled c =
+pub returns-in_err-buf : goal.returns-in_err-buf
+returns-in_err-buf c =
     let p = c.self.inside in
-    let known = c.of_known_member-layout.ensures in
-    rw (← c.self.view_is)
-    (ap (λ (m : Item). Some m.spelled) (c.of_encoding.ensures.item ∙ member_seen 2 p.layout.dimension _ _ known)
-    ∙ spelling_seen 2 p.layout p.ends.items p.buf.now c.args.i _
-    (rw (c.header_length.ensures, c.deref.ensures.value) at c.in_ok-buf.ensures.part))
-
-pub returns-clause-dimension : goal.returns-clause-dimension
-returns-clause-dimension c =
-    let p = c.self.inside in
-    let known = c.of_known_member-layout.ensures in
-    rw (← c.self.view_is)
-    (ap (λ (l : Layout). l.dimension) c.of_encoding.ensures.layout
-    ∙ member_dimension 2 p.layout.dimension _ _ known)
-
-pub returns-in_err-buf-clause-value : goal.returns-in_err-buf-clause-value
-returns-in_err-buf-clause-value c =
-    let p = c.self.inside in
-    rw (c.from_residual.ensures, ← c.self.view_is)
-    (members_seen 2 p.layout p.ends.items p.buf.now c.args.i (λ m. line_string_of m.value) _
-    (rw (c.header_length.ensures, c.deref.ensures.value) at c.in_err-buf.ensures.part))
+    let past = rw (c.header_length.ensures, c.deref.ensures.value) at c.in_err-buf.ensures.part in
+    rw (c.from_residual.ensures, ← c.self.view_is) (record {
+      value = members_seen 2 p.layout p.ends.items p.buf.now c.args.i (λ m. line_string_of m.value) _ past;
+      dimension = tt;
+      spelled = spelling_seen 2 p.layout p.ends.items p.buf.now c.args.i _ past;
+    })

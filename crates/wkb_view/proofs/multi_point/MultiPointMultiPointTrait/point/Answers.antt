@@ -10,17 +10,17 @@ use Rattle.wkb_view.proofs.Members.{member_encoding, member_there, members_seen,
 use Rattle.wkb_view.proofs.Members.{point_past}
 use Rattle.wkb_view.proofs.multi_point.MultiPointMultiPointTrait.point.Goals as goal
 
-pub returns-then-i-self-clause-value : goal.returns-then-i-self-clause-value
-returns-then-i-self-clause-value c =
+pub returns-then-i-self : goal.returns-then-i-self
+returns-then-i-self c =
     let m = c.args.self.now in
-    members_seen 1 m.layout (point_ends m.layout m.count) m.buf.now c.args.i (λ p. point_of p.value) None
-    (point_past m.layout m.count c.args.i m.buf.now c.if-i-self.true)
-
-pub returns-then-i-self-clause-spelled : goal.returns-then-i-self-clause-spelled
-returns-then-i-self-clause-spelled c =
-    let m = c.args.self.now in
-    spelling_seen 1 m.layout (point_ends m.layout m.count) m.buf.now c.args.i None
-    (point_past m.layout m.count c.args.i m.buf.now c.if-i-self.true)
+    let ends = point_ends m.layout m.count in
+    let past = point_past m.layout m.count c.args.i m.buf.now c.if-i-self.true in
+    record {
+      value = members_seen 1 m.layout ends m.buf.now c.args.i (λ p. point_of p.value) None past;
+      dimension = tt;
+      spelled = spelling_seen 1 m.layout ends m.buf.now c.args.i None past;
+      bytes = tt;
+    }
 
 pub of_known_member-layout-requires : goal.of_known_member-layout-requires
 of_known_member-layout-requires c =
@@ -41,38 +41,26 @@ of_encoding-requires c =
     ∥∥₁_elim m.each (hlevel props)
     (λ each. member_encoding 1 m.layout (point_ends m.layout m.count) m.buf.now c.args.i _ _ each encoding known)
 
-pub returns-clause-value : goal.returns-clause-value
-returns-clause-value c =
+pub returns : goal.returns
+returns c =
     let m = c.args.self.now in
+    let ends = point_ends m.layout m.count in
     let known = c.of_known_member-layout.ensures in
+    let bytes = rw c.coordinate_size-member.ensures at c.subslice-buf.ensures in
     let encoding =
-    point_encoding m.layout m.count c.args.i m.buf.now _ _ c.if-i-self.false c.point_offset-start.ensures
-    (rw c.coordinate_size-member.ensures at c.subslice-buf.ensures) in
-    ap (λ (p : Item). Some (point_of p.value)) (c.of_encoding.ensures.item ∙ member_seen 1 m.layout.dimension _ _ known)
-    ∙ members_seen 1 m.layout (point_ends m.layout m.count) m.buf.now c.args.i (λ p. point_of p.value) _ encoding
-
-pub returns-clause-spelled : goal.returns-clause-spelled
-returns-clause-spelled c =
-    let m = c.args.self.now in
-    let known = c.of_known_member-layout.ensures in
-    let encoding =
-    point_encoding m.layout m.count c.args.i m.buf.now _ _ c.if-i-self.false c.point_offset-start.ensures
-    (rw c.coordinate_size-member.ensures at c.subslice-buf.ensures) in
-    ap (λ (p : Item). Some p.spelled) (c.of_encoding.ensures.item ∙ member_seen 1 m.layout.dimension _ _ known)
-    ∙ spelling_seen 1 m.layout (point_ends m.layout m.count) m.buf.now c.args.i _ encoding
-
-pub returns-clause-dimension : goal.returns-clause-dimension
-returns-clause-dimension c =
-    let m = c.args.self.now in
-    let known = c.of_known_member-layout.ensures in
-    ap (λ (l : Layout). l.dimension) c.of_encoding.ensures.layout ∙ member_dimension 1 m.layout.dimension _ _ known
-
-pub returns-clause-bytes : goal.returns-clause-bytes
-returns-clause-bytes c =
-    let m = c.args.self.now in
-    ap (λ (p : Item). p.encoding) c.of_encoding.ensures.item ∙ point_encoding_is _ _
-    ∙ (rw c.coordinate_size-member.ensures at c.subslice-buf.ensures)
-    ∙ ap (λ n. take (stride m.layout.dimension) (drop n m.buf.now)) c.point_offset-start.ensures
+    point_encoding m.layout m.count c.args.i m.buf.now _ _ c.if-i-self.false c.point_offset-start.ensures bytes in
+    let item = c.of_encoding.ensures.item ∙ member_seen 1 m.layout.dimension _ _ known in
+    record {
+      value = ap (λ (p : Item). Some (point_of p.value)) item
+          ∙ members_seen 1 m.layout ends m.buf.now c.args.i (λ p. point_of p.value) _ encoding;
+      dimension =
+          ap (λ (l : Layout). l.dimension) c.of_encoding.ensures.layout
+          ∙ member_dimension 1 m.layout.dimension _ _ known;
+      spelled = ap (λ (p : Item). Some p.spelled) item
+          ∙ spelling_seen 1 m.layout ends m.buf.now c.args.i _ encoding;
+      bytes = ap (λ (p : Item). p.encoding) c.of_encoding.ensures.item ∙ point_encoding_is _ _ ∙ bytes
+          ∙ ap (λ n. take (stride m.layout.dimension) (drop n m.buf.now)) c.point_offset-start.ensures;
+    }
 
 pub subslice-buf-requires : goal.subslice-buf-requires
 subslice-buf-requires c =

@@ -1,21 +1,24 @@
 use Rattle.std.proofs.Common.{subst, sym, ◌-◌, length, length-take, arith}
 use Rattle.std.proofs.lemmas.Result.{err_from_is_err_and}
-use Rattle.wkb_view.specs.Prelude.{member_at, list_item, multi_polygon_with, multi_polygon_at}
+use Rattle.wkb_view.specs.Prelude.{member_at, list_item, multi_polygon_with}
 use Rattle.wkb_view.specs.Members.{AreOfDimension}
-use Rattle.wkb_view.proofs.Lists.{IsList, parts_length, polygons_here, list_fits, list_costs, list_reads, list_stops}
-use Rattle.wkb_view.proofs.Lists.{polygons_within, polygons_refused}
+use Rattle.wkb_view.proofs.Lists.{IsList, parts_length, list_here, list_fits, list_costs, list_reads, list_stops}
+use Rattle.wkb_view.proofs.Lists.{polygons_within, list_refused}
 use Rattle.wkb_view.proofs.Spells.{body_spelled}
 use Rattle.wkb_view.proofs.multi_polygon.MultiPolygon.read.Goals as goal
 use Rattle.wkb_view.proofs.multi_polygon.MultiPolygon.read.Goals.{In_ok-count}
+unfoldable use Rattle.wkb_geom.specs.Reading.{multi_polygon_at}
 
 -- the list that was asked for
 here : (c : In_ok-count)
     → IsList c.args.layout (member_at 3 c.args.layout.dimension) (list_item c.args.layout multi_polygon_with)
     c.args.bytes.now c.in_ok-count.count c.args.counts.now c.counted_list.new.counts
     (multi_polygon_at c.args.layout c.args.bytes.now)
+unfolding multi_polygon_at
 here c =
-    polygons_here c.args.layout c.args.bytes.now c.in_ok-count.count c.args.counts.now c.counted_list.new.counts
-    c.in_ok-count.ensures.whole c.in_ok-count.ensures.count c.counted_list.ensures.turns c.counted_list.ensures.slots
+    list_here c.args.layout c.args.bytes.now c.in_ok-count.count c.args.counts.now c.counted_list.new.counts
+    c.in_ok-count.ensures.whole c.in_ok-count.ensures.count c.counted_list.ensures.turns 6 _ _
+    c.counted_list.ensures.slots
 
 pub returns-clause-answer : goal.returns-clause-answer
 returns-clause-answer c =
@@ -43,36 +46,37 @@ pub read_members-requires-clause-fits : goal.read_members-requires-clause-fits
 read_members-requires-clause-fits c =
     list_fits (here (goal.at.read_members-requires-clause-fits c).In_ok-count) c.requires.fits
 
-pub returns-in_err-members-clause-answer : goal.returns-in_err-members-clause-answer
-returns-in_err-members-clause-answer c =
+pub returns-in_err-members : goal.returns-in_err-members
+returns-in_err-members c =
     let p = err_from_is_err_and c.from_residual-in_err-members.result c.from_residual-in_err-members.ensures.1 in
-    rw (p.1, p.2) (list_stops (here (goal.at.returns-in_err-members-clause-answer c).In_ok-count)
-    c.in_err-members.field-0.0 _ c.in_err-members.ensures.polygons)
+    let list = here (goal.at.returns-in_err-members c).In_ok-count in
+    let stops = c.in_err-members.ensures in
+    let costs = list_costs list in
+    rw (p.1, p.2) (record {
+      answer = list_stops list c.in_err-members.field-0.0 _ stops.polygons;
+      shorter = tt;
+      no_memory = λ none. stops.no_memory (omega arith);
+    })
 
 pub counted_list-requires-clause-fits : goal.counted_list-requires-clause-fits
 counted_list-requires-clause-fits c =
     omega (arith, polygons_within c.args.layout c.args.bytes.now)
 
-pub returns-in_err-count-clause-answer : goal.returns-in_err-count-clause-answer
-returns-in_err-count-clause-answer c =
+pub returns-in_err-count : goal.returns-in_err-count
+unfolding multi_polygon_at
+returns-in_err-count c =
     let stopped = err_from_is_err_and c.from_residual.result c.from_residual.ensures.1 in
-    rw (stopped.1, stopped.2)
-    (polygons_refused c.args.layout c.args.bytes.now c.in_err-count.field-0.0 c.args.counts.now
-    c.counted_list.new.counts
-    c.in_err-count.ensures.no_list c.counted_list.ensures.turns c.counted_list.ensures.slots)
-
-pub returns-in_err-count-clause-no_memory : goal.returns-in_err-count-clause-no_memory
-returns-in_err-count-clause-no_memory c = λ none.
-    let stopped = err_from_is_err_and c.from_residual.result c.from_residual.ensures.1 in
-    rw (stopped.1, stopped.2)
-    (c.in_err-count.ensures.no_memory (omega (arith, polygons_within c.args.layout c.args.bytes.now)))
+    let list = c.counted_list.ensures in
+    let none = c.in_err-count.ensures in
+    rw (stopped.1, stopped.2) (record {
+      answer =
+          list_refused 9 c.args.layout c.args.bytes.now _
+          (omega (arith, parts_length c.args.layout.has_srid c.args.bytes.now))
+          c.in_err-count.field-0.0 _ _ none.no_list list.turns list.slots;
+      shorter = tt;
+      no_memory = λ no_slots. none.no_memory (omega (arith, polygons_within c.args.layout c.args.bytes.now));
+    })
 
 pub slice_bounds-multi_polygon-length : goal.slice_bounds-multi_polygon-length
 slice_bounds-multi_polygon-length c =
     omega (arith, length-take (length c.args.bytes.now - length c.in_ok-members.rest.now) c.args.bytes.now)
-
-pub returns-in_err-members-clause-no_memory : goal.returns-in_err-members-clause-no_memory
-returns-in_err-members-clause-no_memory c = λ none.
-    let p = err_from_is_err_and c.from_residual-in_err-members.result c.from_residual-in_err-members.ensures.1 in
-    let costs = list_costs (here (goal.at.returns-in_err-members-clause-no_memory c).In_ok-count) in
-    rw (p.1, p.2) (c.in_err-members.ensures.no_memory (omega arith))
