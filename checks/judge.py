@@ -9,9 +9,7 @@ sys.path.insert(0, str(pathlib.Path(__file__).resolve().parents[1] / "tools"))
 import library
 import pages
 
-from checks import kept
-
-# How the reason begins of a test that the machine has no program for.
+# How the reason begins of a test that the machine has no program for; a script prints `left out: PART, since WHY`.
 LACKING = "there is no "
 
 
@@ -48,36 +46,6 @@ def need_program():
 def on_each(paths, new, said):
     """Controls: in each file `new` is planted at its start, and what is wrong then begins with its path and `said`."""
     return [(path, "", new, f"{path}{said}") for path in paths]
-
-
-class Kept(unittest.TestCase):
-    """Tests that read these files alone: one that passed isn't run again before one of them changes."""
-
-    reads = []
-
-    def key(self):
-        """The sum of all that the verdict depends on."""
-        own = [__file__, kept.__file__, sys.modules[type(self).__module__].__file__]
-        read = [*map(pathlib.Path, own), *(pages.ROOT / it for it in self.reads)]
-        return kept.key_of(self.id(), kept.output_of(kept.MACHINE), [*map(kept.sum_of.__wrapped__, read)])
-
-    def run(self, result=None):
-        key = self.key() if self.reads else None
-        if key and kept.read(key):
-            print(f"kept: {self.id()}", file=sys.stderr)
-            result.startTest(self)
-            result.addSuccess(self)
-            return result.stopTest(self)
-        before = complaints(result)
-        super().run(result)
-        if key and complaints(result) == before and self.key() == key:
-            kept.write(key, "ok")
-        return result
-
-
-def complaints(result):
-    """How many tests weren't passed."""
-    return len(result.failures + result.errors + result.skipped)
 
 
 class Judge(unittest.TestCase):

@@ -3,6 +3,7 @@ import pathlib
 import re
 import subprocess
 import tempfile
+import unittest
 
 from checks import judge
 from pages import ROOT, files
@@ -24,10 +25,8 @@ def sources_in(*languages):
             yield str(path.relative_to(ROOT))
 
 
-class Linters(judge.Kept):
+class Linters(unittest.TestCase):
     """A linter over the scripts of a language, and over one that is wrong."""
-
-    reads = [path for _, languages, *_ in LINTERS for path in sources_in(*languages)]
 
     def checked(self, command, *paths):
         ran = subprocess.run([*command, *paths], cwd=ROOT, capture_output=True, text=True)
