@@ -10,7 +10,6 @@ import json
 import os
 import pathlib
 import re
-import signal
 import subprocess
 import sys
 import tempfile
@@ -33,7 +32,6 @@ READS = {
     "docs/START_C.md": f"{C} LICENSE-*",
     "checks/library/try checks/library/lasting": f"{C} checks/library/* bench/peers_src/*",
     "checks/hosts/fuzz": f"{C} checks/hosts/fuzz_src/* bench/c/*",
-    "checks/faults/weaken": f"{C} checks/library/* checks/hosts/fuzz_src/* checks/faults/weaken_* bench/c/*",
     "checks/hosts/cost": f"{C} checks/hosts/* sqlite/* {PYTHON} {RUST}",
     " ".join(f"checks/systems/{it}_test" for it in "windows install cmake unrun pads cross".split()): SYSTEMS,
     "checks/systems/wheels_test": f"{SYSTEMS} {PYTHON}",
@@ -47,12 +45,12 @@ READS = {
     "postgres/run": f"{C} postgres/* tools/version",
     "page magnitudes": "README.md docs/RECIPES.md docs/START_SQL.md",
     "python rows": f"{PYTHON} checks/hosts/hostile.py",
-    "c/proved/prove checks/faults/proved_test": f"{SOURCES} c/proved/* c/wkb_proved.S c/wkb.h",
+    "c/proved/prove checks/systems/proved_test": f"{SOURCES} c/proved/* c/wkb_proved.S c/wkb.h",
     "checks/systems/second_compiler": f"{C} {SOURCES}",
 }
 # What they copy beside this: a page for its links, and a crate for tools/sums, so that nothing else of it counts.
 CARRIED = {
-    "README.md c/proved/prove checks/faults/proved_test checks/systems/second_compiler": "crates/*",
+    "README.md c/proved/prove checks/systems/proved_test checks/systems/second_compiler": "crates/*",
     "checks/systems/dist_test c/package/package.md": "crates/* SECURITY.md CHANGELOG.md docs/SYSTEMS.md docs/FORMAT.md "
     "docs/RECIPES.md docs/START_[CSP]*.md",
 }
@@ -158,16 +156,8 @@ def copy(command, to):
     run("make -s -C c", to)
 
 
-def run(command, top, most=None):
-    """What a command printed that uses the copy, whether it ended well, and in how many seconds."""
-    own = {"PYTHONDONTWRITEBYTECODE": "1"}
-    how = {"stdin": subprocess.DEVNULL, "stdout": subprocess.PIPE, "stderr": subprocess.STDOUT}
-    how.update(cwd=top, env={**os.environ, **own}, start_new_session=True)
-    start = time.monotonic()
-    child = subprocess.Popen(["bash", "-c", command], **how)
-    try:
-        printed = child.communicate(timeout=most)[0]
-    except subprocess.TimeoutExpired:
-        os.killpg(child.pid, signal.SIGKILL)
-        printed = child.communicate()[0] + b"\nit does not end"
-    return printed.decode(errors="replace"), child.returncode == 0, time.monotonic() - start
+def run(command, top):
+    """What a command printed that uses the copy, and whether it ended well."""
+    how = {"stdin": subprocess.DEVNULL, "stdout": subprocess.PIPE, "stderr": subprocess.STDOUT, "cwd": top}
+    ran = subprocess.run(["bash", "-c", command], env={**os.environ, "PYTHONDONTWRITEBYTECODE": "1"}, **how)
+    return ran.stdout.decode(errors="replace"), ran.returncode == 0

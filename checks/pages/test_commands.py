@@ -8,7 +8,7 @@ use `wkb_dump` are skipped if that can't be built.
 
 A command without `$ ` isn't run, unless it runs the program: the page then has its output in backticks. The files that
 such a command names have to exist. Code between lines ```rust, ```antt, ```c, ```cpp, ```python or ```sql and ``` has
-to be, piece by piece, in the SOURCES below, which are compiled and run elsewhere. An edit or a fault that a page shows
+to be, piece by piece, in the SOURCES below, which are compiled and run elsewhere. An edit that a page shows
 has to be one of the repository. Text that a page says is printed is in some source. tools/api finds
 a comment on each public call. The sizes in docs/TRUST.md are those of tools/sizes.
 """
@@ -61,7 +61,7 @@ CROSS = "checks/systems/cross_test"
 PLANTS = [
     ("    $ echo one; exit 1\n    one\n\n", "and 1"),
     ("```perl\nlost\n```\n\n", "nothing is known of perl"),
-    ("    shows: a lost edit\n    old: lost\n\n", "no edit and no fault is"),
+    ("    shows: a lost edit\n    old: lost\n\n", "no edit is"),
     ("    c/lost\n\n", "no file c/lost"),
     ("    make -C c sqlite3\n\n", "no Makefile has sqlite3"),
     ("    make -C c check LOST=1\n\n", "no Makefile has LOST"),
@@ -159,8 +159,8 @@ def lost_pieces(page):
             if piece not in code_of(language):
                 yield f"{page}: no source has\n{piece}\n  as one of {', '.join(SOURCES[language])} must"
     for block in re.findall(r"(?m)^    shows: .*\n(?:    .*\n)+", text_of(page)):
-        if re.sub(r"(?m)^    ", "", block) not in texts("checks/edits/*/*.edit", "checks/faults/*.fault").values():
-            yield f"{page}: no edit and no fault is\n{block}"
+        if re.sub(r"(?m)^    ", "", block) not in texts("checks/edits/*/*.edit").values():
+            yield f"{page}: no edit is\n{block}"
 
 
 def lost_examples():
