@@ -20,14 +20,6 @@ def need(*programs):
             raise unittest.SkipTest(f"{LACKING}{it}")
 
 
-def need_library():
-    """Build the C library and the Python package over it; skip the test if the machine lacks a program for it."""
-    try:
-        library.wkb()
-    except library.Absent as why:
-        raise unittest.SkipTest(str(why))
-
-
 def need_built(goal):
     """Make a goal of c/Makefile; skip the test if the machine lacks a program for it."""
     try:
@@ -59,14 +51,6 @@ class Judge(unittest.TestCase):
 
     controls = []
     is_apart = False
-    # Functions as `need_library`.
-    needs = []
-
-    @classmethod
-    def setUpClass(cls):
-        for it in cls.needs:
-            it()
-
     def wrong(self):
         """The errors."""
         raise NotImplementedError

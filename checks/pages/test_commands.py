@@ -9,8 +9,8 @@ use `wkb_dump` are skipped if that can't be built.
 A command without `$ ` isn't run, unless it runs the program: the page then has its output in backticks. The files that
 such a command names have to exist. Code between lines ```rust, ```antt, ```c, ```cpp, ```python or ```sql and ``` has
 to be, piece by piece, in the SOURCES below, which are compiled and run elsewhere. An edit that a page shows
-has to be one of the repository. Text that a page says is printed is in some source. tools/api finds
-a comment on each public call. The sizes in docs/TRUST.md are those of tools/sizes.
+has to be one of the repository. tools/api finds a comment on each public call. The sizes in docs/TRUST.md are those of
+tools/sizes.
 """
 import functools
 import os
@@ -47,8 +47,6 @@ SKETCHED = ["crates/wkb/src/check.rt", "crates/wkb/src/lib.rt"]
 LINE = "010200000002000000" + 2 * POINT[10:]
 # The program as such commands run it: in its folder, or at the top.
 RUNS = re.compile(r"\(cd crates/wkb_hex && rt try -- (\S+) < \.\./\.\./(\S+)\)|\./wkb_hex (\S+) < (\S+)$")
-# Lines that pages say the kit prints, and that of a run of `rows` without proof.
-OF_THE_KIT = {"no holes", "1 rows, 0 differ", "failed to fill whole buffer", "unexpected end of file"}
 # The folders of our scripts.
 OURS = r"(?:\.ci|bench|c|checks|crates|docs|edits|examples|postgres|python|rust|sqlite|tools)"
 # The page with the table of tools/sizes.
@@ -69,7 +67,6 @@ PLANTS = [
     ("1. It is\n\n       python3 examples/dask_column.py --lost\n\n", "dask_column.py has no --lost"),
     ("It is `checks/runs -k it`.\n\n", "no file checks/runs"),
     ("It is `tools/sums lost`.\n\n", "tools/sums has no lost"),
-    ("It prints `what is lost`.\n\n", "no source prints `what is lost`"),
 ]
 
 
@@ -226,21 +223,6 @@ def lost_words(page):
 
 
 @functools.lru_cache(maxsize=None)
-def printing():
-    """The text of the sources that print something."""
-    endings = (".py", ".c", ".cpp", ".out", ".rt", ".hex", "")
-    sources = [it for it in files() if it.suffix in endings and "pages" not in it.relative_to(ROOT).parts]
-    return "\n".join(it.read_text(encoding="utf-8", errors="replace") for it in sources)
-
-
-def lost_lines(page):
-    """The lines that a page says in a sentence to be printed, and that no source has."""
-    for line in re.findall(r"\bprints?\s+`([^`]+)`", text_of(page)):
-        if line not in printing() and line not in OF_THE_KIT and not re.fullmatch("[0-9a-f]{20,}", line):
-            yield f"{page}: no source prints `{line}`"
-
-
-@functools.lru_cache(maxsize=None)
 def made(tool):
     """A tool's output for a page."""
     return subprocess.run([ROOT / tool], stdout=subprocess.PIPE)
@@ -276,8 +258,7 @@ class Shown(judge.Judge):
     def wrong(self):
         yield from differing_commands(self.folder, lambda it: "wkb_hex" not in it and "wkb_dump" not in it)
         for page in PAGES:
-            yield from (*lost_pieces(page), *lost_commands(page), *lost_lines(page))
-            yield from lost_words(page)
+            yield from (*lost_pieces(page), *lost_commands(page), *lost_words(page))
         yield from lost_tables()
         yield from lost_examples()
 
