@@ -30,19 +30,12 @@ def paths(*patterns):
 
 
 PAGES = paths("*.md", "docs/*.md", "c/package/package.md")
-# The texts that files have in a control, in place of their own.
-PLANTED = {}
 
 
 @functools.lru_cache(maxsize=None)
-def original_of(path):
+def text_of(path):
     """The text of a file, by its path in the repository."""
     return (ROOT / path).read_text(encoding="utf-8")
-
-
-def text_of(path):
-    """The text of a file, by its path in the repository; in a control the text that is planted there."""
-    return PLANTED[str(path)] if str(path) in PLANTED else original_of(path)
 
 
 def texts(*patterns):

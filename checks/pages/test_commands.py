@@ -51,23 +51,8 @@ RUNS = re.compile(r"\(cd crates/wkb_hex && rt try -- (\S+) < \.\./\.\./(\S+)\)|\
 OURS = r"(?:\.ci|bench|c|checks|crates|docs|edits|examples|postgres|python|rust|sqlite|tools)"
 # The page with the table of tools/sizes.
 SIZES = "docs/TRUST.md"
-# A page for controls.
-PAGE = "docs/COST.md"
 # What runs the line that a page has for another processor.
 CROSS = "checks/systems/cross_test"
-# What is planted on one page each, and what is said of it.
-PLANTS = [
-    ("    $ echo one; exit 1\n    one\n\n", "and 1"),
-    ("```perl\nlost\n```\n\n", "nothing is known of perl"),
-    ("    shows: a lost edit\n    old: lost\n\n", "no edit is"),
-    ("    c/lost\n\n", "no file c/lost"),
-    ("    make -C c sqlite3\n\n", "no Makefile has sqlite3"),
-    ("    make -C c check LOST=1\n\n", "no Makefile has LOST"),
-    ("It is `checks/edits/run --write`.\n\n", "checks/edits/run has no --write"),
-    ("1. It is\n\n       python3 examples/dask_column.py --lost\n\n", "dask_column.py has no --lost"),
-    ("It is `checks/runs -k it`.\n\n", "no file checks/runs"),
-    ("It is `tools/sums lost`.\n\n", "tools/sums has no lost"),
-]
 
 
 def make_files(cls):
@@ -241,16 +226,6 @@ def lost_tables():
 class Shown(judge.Judge):
     """Code on the pages is in the sources, or prints the output on the page."""
 
-    controls = [
-        *judge.on_each(PAGES, "    $ echo one\n    two\n\n", ":1: echo one"),
-        *judge.on_each(PAGES, "```c\nint lost;\n```\n\n", ": no source has\nint lost;"),
-        *((page, "", *it) for page, it in zip(PAGES, PLANTS)),
-        ("docs/RECIPES.md", "CXX=aarch64", "CXX=arm64", "runs another command"),
-        (SIZES, "| proofs |", "| lost |", "puts another table there"),
-        (BARS, " OGR</text>", " ORG</text>", "speed.svg: `tools/bars --write` makes another"),
-        ("crates/wkb_cases/src/columns.rt", "let mut written", "let mut put", "no proved code has"),
-    ]
-
     @classmethod
     def setUpClass(cls):
         make_files(cls)
@@ -266,8 +241,6 @@ class Shown(judge.Judge):
 class Dump(judge.Judge):
     """The dump prints the output on the pages."""
 
-    controls = [(PAGE, "", "    $ c/out/wkb_dump examples/point.hex\n    lost\n\n", "expected 'lost")]
-
     @classmethod
     def setUpClass(cls):
         judge.need_built("dump")
@@ -279,11 +252,6 @@ class Dump(judge.Judge):
 
 class Program(judge.Judge):
     """The program prints the output on the pages, and passes the other tries."""
-
-    controls = [
-        (PAGE, "", "    $ ./wkb_hex be < examples/point.hex\n    lost\n\n", "expected 'lost"),
-        (PAGE, "", "    ./wkb_hex be < examples/point.hex\n\n", "which the page doesn't have"),
-    ]
 
     @classmethod
     def setUpClass(cls):

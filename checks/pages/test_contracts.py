@@ -22,8 +22,6 @@ README = "README.md"
 # What stands in the place of a clause's name where a function has one clause, without a name.
 UNNAMED = "its only clause"
 NAMED = r"`[\w:<>]+`"
-# How a table begins, for controls.
-TABLE = "## Lost (`wkb_sink`)\n\n| what | clause |\n|---|---|\n"
 # A law of std, which PROMISES names beside our clauses.
 STD = {"respects_eq"}
 
@@ -192,24 +190,6 @@ def untold(clauses):
 
 class Contracts(judge.Judge):
     """The clauses on the pages are those of the contracts."""
-
-    controls = [
-        (PROMISES, "", f"{TABLE}| `to_vec` | `refused` |\n\n", "no clause `refused`"),
-        (PROMISES, "", f"{TABLE}| a sink | the trait `Sink`: `lost` |\n\n", "no clause `lost`"),
-        (PROMISES, "## Only tested\n", f"{TABLE}| `to_vec` | `none` |\n\n## Only tested\n", "no clause `none`"),
-        (PROMISES, "| `front`; ", "| `lost`; ", "of `Reads` the table"),
-        (PROMISES, "", "(`wkb_write_cases`: `each_call`)\n\n", "wkb_write_cases has no test `each_call`"),
-        (PROMISES, "", "test `each_kind` of `wkb_read_cases`\n\n", "wkb_read_cases has no test `each_kind`"),
-        *judge.on_each([it for it in PAGES if it != PROMISES], "`fits` of `rows_follow`\n\n", ": `rows_follow` has no"),
-        ("crates/wkb_c/src/lib.rt", "", 'pub extern "C" fn wkb_raw_lost() {}\n', "no row begins with `wkb_raw_lost`"),
-        (README, "; reports the first", "; is fast; reports the first", "`is fast` has no clause"),
-        (PROMISES, "| `refusal`, `one_cause` |", "| `lost` |", "`Reads` of wkb_read has no such clause"),
-        (PROMISES, "| `refusal`, `one_cause` |", "| |", "`Reads` of wkb_read has no such clause: none is named"),
-        (PROMISES, "| `wkb_laws` | `equal_encodings` |", "| `wkb` | `equal_encodings` |", "of wkb has no such clause"),
-        (PROMISES, "| `canonical` | `ok` |", f"| `canonical` | {UNNAMED} |", "`canonical` of wkb has no such clause"),
-        ("crates/wkb_read/src/geometry.rt", "impl<'a> Wkb<'a> {\n", "impl<'a>  Wkb<'a> {\n", "that proves `Wkb::buf`"),
-        (PROMISES, "| returns exactly what the bytes encode |", "| returns what it likes |", "README doesn't say"),
-    ]
 
     def wrong(self):
         clauses = Clauses()

@@ -24,9 +24,6 @@ OURS = re.compile(r"(bench|c|checks|crates|docs|edits|examples|postgres|python|r
 # The words in capitals that stand for a part of a path.
 PLACES = re.compile(r"CRATE|NAME|FUNCTION")
 PATH = re.compile(r"(?<![\w:/.'])[A-Za-z_]\w*(?:::[A-Za-z_]\w*)+")
-# A picture, and how a table of files and calls begins, for controls.
-FLOWS = "docs/pictures/flows.svg"
-TABLE = "| file | call |\n|---|---|\n"
 # What a picture shows as code: names, with commas between them.
 CODE = re.compile(r'class="code">([^<]+)<')
 ITEM = re.compile(
@@ -159,19 +156,6 @@ def named():
 
 class Names(judge.Judge):
     """Each path in backticks is that of something."""
-
-    controls = [
-        *judge.on_each(PAGES, "`crate::lost`, `lost::name`\n\n", ":1: no source has `lost::name`"),
-        ("docs/COST.md", "", "`.git/HEAD`\n\n", "no file `.git/HEAD`"),
-        ("docs/COST.md", "", "`tools/{lost,gone}`\n\n", "no file `tools/{lost,gone}`"),
-        ("docs/COST.md", "", "`c/out/wkb_dump examples/lost.hex`\n\n", "no file `examples/lost.hex`"),
-        ("docs/COST.md", "", "`rt check --only coord::Coord::lost`\n\n", "no source has `coord::Coord::lost`"),
-        ("docs/COST.md", "", "`wkb::reader::to_vec`\n\n", "no source has `wkb::reader::to_vec`"),
-        (FLOWS, "reader::read_wkb<", "writer::read_wkb<", "no code and no file is writer::read_wkb"),
-        (FLOWS, ">lay_encoding<", ">lay_lost<", "no code and no file is lay_lost"),
-        ("docs/pictures/layers.svg", "c/proved/*.s<", "c/proved/*.o<", "no code and no file is c/proved/*.o"),
-        ("ARCHITECTURE.md", "", f"{TABLE}| `wkb_read/src/read.rt` | `to_vec` |\n\n", "doesn't define `to_vec`"),
-    ]
 
     def wrong(self):
         code = paths_of_code()

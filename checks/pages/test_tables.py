@@ -68,17 +68,5 @@ def wrong_losses():
 class Tables(judge.Judge):
     """The rows of tables agree with their sources."""
 
-    controls = [
-        ("ARCHITECTURE.md", "| `wkb_laws` | lemmas", "| `wkb_lost` | lemmas", "of the table differ"),
-        ("crates.txt", "wkb_geom: byteorder", "wkb_geom: wkb_read", "wkb_geom uses wkb_read"),
-        ("README.md", "| rejected | rejected | crash", "| rejected | rejected | no crash", "collections: docs/DIFF"),
-        ("README.md", "| order byte 2 |", "| order byte 3 |", "README.md: order byte 3: docs/DIFFERENCES.md has None"),
-        ("README.md", "| what we tried |", "| lost |", "README.md has no table of other programs"),
-        ("README.md", "7 times as fast as by OGR", "9 times as fast as by OGR", "times as fast as by OGR"),
-        (SPEED, "|   106.1 |", "|   206.1 |", "times as fast as by GEOS"),
-        ("README.md", "takes 0.", "takes 1.", "of our time by docs/SPEED.md"),
-    ]
-    is_apart = True
-
     def wrong(self):
         yield from (*wrong_crates(), *wrong_peers(), *wrong_times(), *wrong_losses())

@@ -21,11 +21,6 @@ def calls():
 class Calls(judge.Judge):
     """Each of these tests makes each call. A comment makes none."""
 
-    controls = [
-        *((DECLARED, "wkb_raw_check(", "wkb_raw_lost(", f"{it}: wkb_lost is not called") for it in EVERY),
-        ("c/test/stack.c", "wkb_collect(", "/* wkb_collect */ lost(", "stack.c: wkb_collect is not called"),
-    ]
-
     def wrong(self):
         for path in EVERY:
             code = text_of(path)

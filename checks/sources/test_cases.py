@@ -11,8 +11,6 @@ from collections import Counter, defaultdict
 from checks import judge
 from pages import rows_of, spans, text_of, texts
 
-# How the table of tests begins, for a control.
-TABLE = "| crates | tests | worked cases |\n|---|---|---|\n"
 # The rows that are wrong on purpose belong to no case.
 WRONG = "wrong-on-purpose"
 INPUT, ROW, LONGER = re.compile(r"([a-z0-9-]+): ?"), re.compile(r"  ([^ :][^:]*): "), re.compile(r"      ")
@@ -78,15 +76,6 @@ def missing():
 
 class Cases(judge.Judge):
     """The worked cases have their rows and tests."""
-
-    controls = [
-        ("docs/TESTING.md", "", f"{TABLE}| `wkb_read_cases`, `rows` | `kept_parts`, `lost` | lost |\n\n",
-         "lost is not shown by rows: lost"),
-        ("crates/rows/stdin", "", "lost: 01\n  lost: x\n", "lists no question `lost`"),
-        ("crates/rows/stdin", "", "lost: 01\n", "has no row"),
-        ("crates/rows/stdin", "", "Lost\n", "neither an input nor a row"),
-        ("crates/rows/stdout", " rows, ", "0 rows, ", "stdout says"),
-    ]
 
     def wrong(self):
         return missing()

@@ -23,14 +23,6 @@ WARN_NO_PARAMDOC = YES
 class Header(judge.Judge):
     """The warnings of Doxygen, but for the parts of the version, which share a comment."""
 
-    controls = [
-        (HEADER, " * @param len         its length in bytes\n", "", "parameter 'len'"),
-        (HEADER, "@param[out] box ", "@param[out] boxes ", "argument 'boxes' of command @param is not found"),
-        (HEADER, " * @return its WKB_VERSION\n", "", "return type of member wkb_version is not documented"),
-        (HEADER, "  /**< a wkb_order */", "", "Member order"),
-        (HEADER, "/** Lists the parts of the input", "/* Lists the parts of the input", "Member wkb_parts"),
-    ]
-
     @classmethod
     def setUpClass(cls):
         judge.need("doxygen")

@@ -13,22 +13,6 @@ from items import NAMED, Paths
 LIST = "checks/sources/interface.txt"
 NAME = re.compile(r"(?:private )?(?:(?:use|const|fn|struct|enum|trait|type) )?(?:\w+::)*(\w+)")
 COMMA = re.compile(r", (?![^<]*>)")
-# Each line by itself: another value, signature or name; what no user can name; and what lacks a part that it has.
-WRONG = """\
-mod wkb::reader | const MAX_WKB_NESTING_DEPTH: usize = 127
-mod wkb::reader | struct Polygon<'a> |     fn copy(&self) -> Result<Polygon<'a>, AllocError>
-mod wkb::reader | struct Polygon<'a> |     impl Debug, Copy
-mod wkb::reader | struct Polygon<'a> |     type RingType = LineString<'a>
-mod wkb::reader | struct Counts
-mod wkb::canon | fn same(a: &[u8], b: &[u8]) -> WkbResult<bool>
-mod wkb::canon | fn equal(alloc: Global, a: &[u8], b: &[u8]) -> WkbResult<bool>
-mod wkb::geom | trait PointTrait: Dimensioned
-mod wkb::error | enum Overflow |     Count
-mod wkb::error | enum Overflow |     Count |     Size(u64)
-mod wkb_geom | use wkb::reader::Endianness
-mod wkb_geom | impl From<Endianness> for u16
-mod wkb_geom::common
-mod wkb_view::reserved | fn bounded_capacity(count: u32, remaining: usize, least: usize) -> usize"""
 
 
 def rows(text):
@@ -108,18 +92,9 @@ class Sources:
 
 
 class Interface(unittest.TestCase):
-    """The list, and some that have to be rejected."""
-
-    listed = staticmethod(lambda: list(rows(pages.text_of(LIST))))
-
-    @classmethod
-    def setUpClass(cls):
-        cls.sources = Sources({path.partition("::")[0] for path, _ in cls.listed()})
+    """The list."""
 
     def test_the_list_is_that_of_the_sources(self):
-        self.assertEqual([*self.sources.faults(self.listed())], [])
-
-    def test_wrong_lists_are_refused(self):
-        for lines in WRONG.splitlines():
-            with self.subTest(lines=lines):
-                self.assertTrue([*self.sources.faults(list(rows(lines.replace(" | ", "\n"))))])
+        listed = list(rows(pages.text_of(LIST)))
+        sources = Sources({path.partition("::")[0] for path, _ in listed})
+        self.assertEqual([*sources.faults(listed)], [])

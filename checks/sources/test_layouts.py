@@ -144,25 +144,5 @@ def wrong():
 class Layouts(judge.Judge):
     """C lays out its structs as they are proved."""
 
-    controls = [
-        (C, "AT(wkb_found, 48, kind)", "AT(wkb_found, 52, kind)", "wkb_found: kind is at 52"),
-        (C, "IS_LAID(wkb_range, 24,", "IS_LAID(wkb_range, 32,", "wkb_range has the size and the alignment (32, 8)"),
-        (C, "IS_LAID(wkb_options, 12, 4,", "IS_LAID(wkb_options, 12, 8,", "wkb_options has the size and the alignment"),
-        (C, " && AT(wkb_range, 16, count)", "", "wkb_range: count is at None"),
-        (C, "AT(wkb_raw_column, 8, bytes_len)", "AT(wkb_raw_column, 4, bytes_len)", "bytes_len is at 4"),
-        (PROVED, "f.kind ▸ f.dimension", "f.dimension ▸ f.kind", "kind is at 48"),
-        (PROVED, "12 4 (0 ∷ 4 ∷ 8 ∷ [])", "16 4 (0 ∷ 4 ∷ 8 ∷ [])", "wkb_options has the size"),
-        (PROVED, "TotalsLayout = IsLaidOut", "LostLayout = IsLaidOut", "nothing is known of LostLayout"),
-        (RAW, "void wkb_raw_column_check(", "void wkb_raw_lost(", "wkb_raw_lost is declared or exported alone"),
-        (RAW, "wkb_status wkb_raw_check(", "void wkb_raw_check(", "wkb_raw_check returns void, and u32"),
-        (RAW, "const uint8_t *buf, size_t len, wkb_found", "uint8_t *buf, size_t len, wkb_found", "'u8', True, 'buf'"),
-        (RAW, "uint32_t kind, uint32_t dimension", "uint32_t dimension, uint32_t kind", "'uint32_t', False, 'kind'"),
-        (RAW, "uint32_t kind, uint32_t dimension", "uint64_t kind, uint32_t dimension", "'uint64_t', False, 'kind'"),
-        (RAW, "wkb_found *found, wkb", "wkb_found found, wkb", "'wkb_found', False, 'found'"),
-        (RAW, "wkb_found *found, wkb_fault *fault", "wkb_fault *fault, wkb_found *found", "'wkb_fault', True, 'fault'"),
-        (RAW, "size_t room, size_t *size, wkb_fault *fault", "size_t *size, wkb_fault *fault", "wkb_raw_collect has 9"),
-    ]
-    is_apart = True
-
     def wrong(self):
         return wrong()

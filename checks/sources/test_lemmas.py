@@ -1,12 +1,8 @@
-"""Each lemma is cited, and lemmas are apart from definitions.
+"""Each lemma is cited.
 
 A lemma is a definition of a file of proofs/, except the files of functions' proofs, whose names the prover reads.
 Another definition, a contract or an attribute of the code has to name it. The worked values, whose names begin with
 `worked_`, are cited by nothing on purpose: their proof is the test.
-
-In specs/ a lemma is a definition that is marked neither `abbrev` nor `unfoldable`. The laws of traits cite some, and so
-do users, so they can't all be in proofs/. A file that has some begins with the word `Lemmas`, and every other has
-definitions.
 """
 import collections
 import pathlib
@@ -20,12 +16,6 @@ DEFINITION = re.compile(r"(?:pub )?(?:unfoldable |abbrev |record |data )?([^\s:(
 NAME = re.compile(r"[^\s(){}\[\],;]+")
 IMPORT = re.compile(r"(?m)^ *(?:pub )?use [^\n]*(?:\n +[^\n]*)*")
 COMMENT = {".antt": re.compile(r"--[^\n]*"), ".rt": re.compile(r"//[^\n]*")}
-SIGNATURE = re.compile(r"(?:  )?(?:pub )?([^\s:(){}.|]+)(?: [({].*[)}])* :(?: |$)")
-# Files of specs/ that hold lemmas and don't begin so: those of lemmas, and those that hold definitions, too.
-OTHERS = {
-    "wkb_geom": "Items Lawful Stored",
-    "wkb_write_cases": "LongLine",
-}
 
 
 def sources():
@@ -70,44 +60,8 @@ def uncited(known={}):
             yield f"{path}:{line}: nothing cites {name}"
 
 
-def lemmas_of(text):
-    """The line and the name of each lemma of a file of specs/, also inside `mutual`."""
-    block = ""
-    for number, line in enumerate(COMMENT[".antt"].sub("", text).splitlines(), 1):
-        if line[:1].strip():
-            block = line
-        found = (line == block or block.startswith(("mutual", "module"))) and SIGNATURE.match(line)
-        if found:
-            yield number, found[1]
-
-
-def among_definitions():
-    """What is said of each lemma in a file of specs/ that isn't one of lemmas."""
-    for path, text in texts("crates/*/specs/**/*.antt").items():
-        _, crate, _, *_, file = pathlib.PurePath(path).with_suffix("").parts
-        if not text.startswith("-- Lemmas") and file not in OTHERS.get(crate, "").split():
-            yield from (f"{path}:{number}: {name} is a lemma among definitions" for number, name in lemmas_of(text))
-
-
 class Lemmas(judge.Judge):
     """Something cites each lemma."""
 
-    controls = [
-        ("crates/wkb_laws/proofs/Complete.antt", "", "w_lost : Unit\nw_lost = unit\n\n", "nothing cites w_lost"),
-    ]
-
     def wrong(self):
         return uncited()
-
-
-class Definitions(judge.Judge):
-    """No file of definitions holds a lemma."""
-
-    controls = [
-        ("crates/wkb_geom/specs/Dimensions.antt", "", "lost : Unit\nlost = unit\n\n", "lost is a lemma among"),
-        ("crates/wkb_view/specs/Lawful.antt", "-- Lemmas", "-- Facts", "point_value is a lemma among"),
-        ("crates/wkb_geom/specs/Values.antt", "", "mutual\n  both : Unit\n  both = unit\n\n", "both is a lemma among"),
-    ]
-
-    def wrong(self):
-        return among_definitions()

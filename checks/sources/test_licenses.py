@@ -23,7 +23,6 @@ class Texts(judge.Judge):
         "rust/geo/LICENSE-APACHE": "LICENSE-APACHE",
         "rust/geo/LICENSE-MIT": "LICENSE-MIT",
     }
-    controls = [(copy, "2.0" if "APACHE" in name else "2024", "2.1", f"{copy} is not") for copy, name in copies.items()]
 
     def wrong(self):
         for copy, name in self.copies.items():
