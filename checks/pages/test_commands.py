@@ -8,9 +8,8 @@ use `wkb_dump` are skipped if that can't be built.
 
 A command without `$ ` isn't run, unless it runs the program: the page then has its output in backticks. The files that
 such a command names have to exist. Code between lines ```rust, ```antt, ```c, ```cpp, ```python or ```sql and ``` has
-to be, piece by piece, in the SOURCES below, which are compiled and run elsewhere. An edit that a page shows
-has to be one of the repository. tools/api finds a comment on each public call. The sizes in docs/TRUST.md are those of
-tools/sizes.
+to be, piece by piece, in the SOURCES below, which are compiled and run elsewhere. An edit that a page shows has to be
+one of the repository.
 """
 import functools
 import os
@@ -40,8 +39,6 @@ SOURCES = {
     "python": ["c/examples/*.py", "python/**/*.py", "examples/*.py", "docs/START_PYTHON.md", "README.md"],
     "sql": ["sqlite/queries.sql", "postgres/queries.sql", "postgres/planner.sql", "docs/START_SQL.md", "README.md"],
 }
-# The picture that tools/bars makes.
-BARS = "docs/pictures/speed.svg"
 # Whose examples are proved nowhere.
 SKETCHED = ["crates/wkb/src/check.rt", "crates/wkb/src/lib.rt"]
 LINE = "010200000002000000" + 2 * POINT[10:]
@@ -49,8 +46,6 @@ LINE = "010200000002000000" + 2 * POINT[10:]
 RUNS = re.compile(r"\(cd crates/wkb_hex && rt try -- (\S+) < \.\./\.\./(\S+)\)|\./wkb_hex (\S+) < (\S+)$")
 # The folders of our scripts.
 OURS = r"(?:\.ci|bench|c|checks|crates|docs|edits|examples|postgres|python|rust|sqlite|tools)"
-# The page with the table of tools/sizes.
-SIZES = "docs/TRUST.md"
 # What runs the line that a page has for another processor.
 CROSS = "checks/systems/cross_test"
 
@@ -207,22 +202,6 @@ def lost_words(page):
                 yield f"{page}: no file {first}"
 
 
-@functools.lru_cache(maxsize=None)
-def made(tool):
-    """A tool's output for a page."""
-    return subprocess.run([ROOT / tool], stdout=subprocess.PIPE)
-
-
-def lost_tables():
-    """The errors in the picture of speed, in the table of sizes, and of tools/api, which reads its own text only."""
-    if made("tools/api").returncode:
-        yield "tools/api failed"
-    if made("tools/sizes").returncode or made("tools/sizes").stdout.decode() not in text_of(SIZES):
-        yield f"{SIZES}: `tools/sizes | tools/put_tables {SIZES}` puts another table there"
-    if made("tools/bars").returncode or made("tools/bars").stdout.decode() != text_of(BARS):
-        yield f"{BARS}: `tools/bars --write` makes another"
-
-
 class Shown(judge.Judge):
     """Code on the pages is in the sources, or prints the output on the page."""
 
@@ -234,7 +213,6 @@ class Shown(judge.Judge):
         yield from differing_commands(self.folder, lambda it: "wkb_hex" not in it and "wkb_dump" not in it)
         for page in PAGES:
             yield from (*lost_pieces(page), *lost_commands(page), *lost_words(page))
-        yield from lost_tables()
         yield from lost_examples()
 
 
