@@ -15,8 +15,9 @@ TOOLS = "cd cc ldconfig rt make printf python3 pip".split()
 
 @functools.lru_cache(maxsize=None)
 def files():
-    """The files of the repository: those that git knows, or, without git, all but those of a build."""
-    asked = subprocess.run(["git", "ls-files"], cwd=ROOT, stdout=subprocess.PIPE, stderr=subprocess.DEVNULL)
+    """The files of the repository: those that git doesn't ignore, or, without git, all but those of a build."""
+    command = "git ls-files --cached --others --exclude-standard".split()
+    asked = subprocess.run(command, cwd=ROOT, stdout=subprocess.PIPE, stderr=subprocess.DEVNULL)
     if asked.returncode == 0:
         found = [ROOT / line for line in asked.stdout.decode().splitlines()]
     else:
