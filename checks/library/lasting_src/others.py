@@ -1,12 +1,12 @@
 """Other programs, and their output for bytes that they read: a mapping of (order, form) to bytes, or None.
 
-`writes` takes many inputs at once. `made_of` returns the program's output for a text in WKT, in all its forms.
+`writes` takes many inputs at once.
 """
 import ctypes
 import itertools
 import pathlib
 import sys
-from ctypes import c_char_p, c_size_t, c_void_p
+from ctypes import c_size_t, c_void_p
 
 ROOT = pathlib.Path(__file__).resolve().parents[3]
 sys.path.insert(0, str(ROOT / "bench" / "peers_src"))
@@ -14,7 +14,6 @@ import programs as peers
 from model import ISO, OWN_SRID
 
 ORDERS = (0, 1)
-SRID = 4326
 
 
 class AnyInput:
@@ -51,16 +50,6 @@ class Ogr(OneByOne, peers.Ogr):
                 found[order, ISO] = out.raw
         return found
 
-    def made_of(self, text):
-        geometry, at = c_void_p(), c_char_p(text.encode())
-        if self.library.OGR_G_CreateFromWkt(ctypes.byref(at), c_void_p(), ctypes.byref(geometry)):
-            return
-        yield from self.ways(geometry).values()
-        # Its older codes, with a flag for z and no m.
-        for order in ORDERS:
-            out = ctypes.create_string_buffer(self.library.OGR_G_WkbSize(geometry))
-            if not self.library.OGR_G_ExportToWkb(geometry, order, out):
-                yield out.raw
 
 
 class Geos(AnyInput, OneByOne, peers.Geos):
@@ -81,15 +70,6 @@ class Geos(AnyInput, OneByOne, peers.Geos):
                 found[order, form] = ctypes.string_at(out, size.value)
         return found
 
-    def made_of(self, text):
-        self.library.GEOSGeomFromWKT_r.restype = c_void_p
-        geometry = self.library.GEOSGeomFromWKT_r(self.context, text.encode())
-        if not geometry:
-            return
-        geometry = c_void_p(geometry)
-        yield from self.ways(geometry).values()
-        self.library.GEOSSetSRID_r(self.context, geometry, SRID)
-        yield from self.ways(geometry).values()
 
 
 class PostGis(AnyInput, peers.PostGis):
@@ -116,10 +96,6 @@ class PostGis(AnyInput, peers.PostGis):
             ways = ((order, form) for _, form, order in self.calls)
             yield dict(zip(ways, map(bytes.fromhex, found))) if found else None
 
-    def made_of(self, text):
-        values = [f"'{text}'", f"'SRID={SRID};{text}'"]
-        for found in self.tried(values, "text", "ST_GeomFromEWKT(it)"):
-            yield from map(bytes.fromhex, found)
 
 
 NAMES = {Geos: "GEOS", Ogr: "OGR", PostGis: "PostGIS"}
