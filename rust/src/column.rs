@@ -188,11 +188,15 @@ impl<'a> Column<'a> {
         (0..columns).map(move |column| whole.slice(begin(column)..begin(column + 1)))
     }
 
-    /// Whether no offset is below the one before it.
-    pub(crate) fn is_in_order(&self) -> bool {
+    /// The first offset and the last one, if none is below the one before it.
+    pub(crate) fn ends(&self) -> Option<(i64, i64)> {
+        fn ends<T: Copy + Into<i64> + PartialOrd>(offsets: &[T]) -> Option<(i64, i64)> {
+            let is_in_order = offsets.windows(2).all(|it| it[0] <= it[1]);
+            is_in_order.then_some(((*offsets.first()?).into(), (*offsets.last()?).into()))
+        }
         match self.offsets {
-            Offsets::Small(offsets) => offsets.windows(2).all(|it| it[0] <= it[1]),
-            Offsets::Large(offsets) => offsets.windows(2).all(|it| it[0] <= it[1]),
+            Offsets::Small(offsets) => ends(offsets),
+            Offsets::Large(offsets) => ends(offsets),
         }
     }
 
@@ -216,8 +220,10 @@ impl<'a> Column<'a> {
     #[must_use]
     pub fn write(&self, options: &Options) -> Encodings {
         let mut made = Encodings::of(self.rows());
-        // Rows that are read don't overlap, and an encoding is at most four bytes longer than its row.
-        made.data = vec![0; self.data.len() + 4 * self.rows()];
+        // Rows that are read don't overlap, and an encoding is at most four bytes longer than its row. Those of a slice
+        // may be a small part of the data.
+        let held = self.ends().and_then(|(first, last)| usize::try_from(last.saturating_sub(first)).ok());
+        made.data = vec![0; self.data.len().min(held.unwrap_or(usize::MAX)) + 4 * self.rows()];
         let end = raw::column_write(&self.raw(), &options.raw(), &mut made);
         made.data.truncate(end);
         made

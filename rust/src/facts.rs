@@ -114,7 +114,7 @@ impl Column<'_> {
     #[must_use]
     pub fn facts(&self) -> Facts {
         // Where no row overlaps another, a part has the same statuses as the whole.
-        let at_once = if self.is_in_order() { 1024 } else { self.rows().max(1) };
+        let at_once = if self.ends().is_some() { 1024 } else { self.rows().max(1) };
         let mut facts = Facts::default();
         for first in (0..self.rows()).step_by(at_once) {
             self.slice(first..self.rows().min(first + at_once)).add_facts(&mut facts);

@@ -119,8 +119,9 @@ pub fn write(bytes: &[u8], options: &Options) -> Result<Vec<u8>, Refused> {
 /// As [`check`] rejects the input.
 pub fn write_into(bytes: &[u8], options: &Options, out: &mut Vec<u8>) -> Result<(), Refused> {
     out.clear();
-    // An encoding is at most four bytes longer than its input.
-    out.reserve(bytes.len() + 4);
+    // An encoding is at most four bytes longer than its geometry, which may be a small part of a long input.
+    let most = if bytes.len() > 1 << 16 { check(bytes)?.size } else { bytes.len() };
+    out.reserve(most + 4);
     let mut fault = raw::Fault::default();
     match raw::write(bytes, &options.raw(), out, &mut fault) {
         0 => Ok(()),

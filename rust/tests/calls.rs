@@ -36,6 +36,9 @@ fn written_and_read_again() {
     write_into(POINT, &Options::default(), &mut out).unwrap();
     assert_eq!((&out[..], reader.read(&out).unwrap().parts().len(), reader.parts().len()), (POINT, 1, 1));
     assert!(write_into(&POINT[..9], &Options::default(), &mut out).is_err() && out.is_empty());
+    // What is after the geometry takes no memory.
+    let long = [POINT, &[0; 1 << 17]].concat();
+    assert!(write(&long, &Options::default()).unwrap().capacity() < 1 << 16);
 }
 
 /// Each status of `c/wkb.h` is one of this crate, but those that no call of the crate returns.

@@ -127,6 +127,10 @@ fn slices() {
     assert_eq!(small.slice(1..3).check(), [Status::NULL_ROW, Status::OK]);
     assert_eq!((small.slice(3..3).rows(), Column::binary(&data, &[]).split(2).map(|it| it.rows()).sum()), (0, 0_usize));
     assert_eq!(Column::binary(b"", &[0, -1]).facts(), Facts { rows: 1, ..Facts::default() });
+    // A slice is written in memory for its own rows, and where offsets decrease, in enough.
+    let written = |column: Column| column.write(&Options::default()).data;
+    assert!(written(small.slice(2..3)).capacity() <= 25);
+    assert_eq!(written(Column::binary(&data, &[42, 63, 21])), data[..21]);
 }
 
 #[test]
