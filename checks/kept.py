@@ -43,7 +43,7 @@ READS = {
     "docs/RECIPES.md": f"{C} {PYTHON} sqlite/* postgres/*",
     "sqlite/run": f"{C} sqlite/*",
     "postgres/run": f"{C} postgres/* tools/version",
-    "page magnitudes": "README.md docs/RECIPES.md docs/START_SQL.md",
+    "page": "README.md docs/START_SQL.md",
     "python rows": f"{PYTHON} checks/hosts/hostile.py",
     "c/proved/prove checks/systems/proved_test": f"{SOURCES} c/proved/* c/wkb_proved.S c/wkb.h",
     "checks/systems/second_compiler": f"{C} {SOURCES}",

@@ -37,7 +37,7 @@ SOURCES = {
     "c": ["c/examples/*.c", "docs/START_C.md", "README.md"],
     "cpp": ["c/examples/example.cpp"],
     "python": ["c/examples/*.py", "python/**/*.py", "examples/*.py", "docs/START_PYTHON.md", "README.md"],
-    "sql": ["sqlite/queries.sql", "postgres/queries.sql", "postgres/planner.sql", "docs/START_SQL.md", "README.md"],
+    "sql": ["sqlite/queries.sql", "postgres/queries.sql", "docs/START_SQL.md", "README.md"],
 }
 # Whose examples are proved nowhere.
 SKETCHED = ["crates/wkb/src/check.rt", "crates/wkb/src/lib.rt"]
