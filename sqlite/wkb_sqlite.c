@@ -36,8 +36,8 @@
  *   ST_MinX(b), ST_MaxX(b), ST_MinY(b), ST_MaxY(b)
  *                          the bounds, as the triggers of an R-tree ask for them
  *
- * That entry point defines a name only where the connection has no function of this name for one argument. One that is
- * defined for one argument later is called instead of ours, except by statements that were prepared before.
+ * A function of the same name that is defined for one argument, before or later, is called instead of ours, except by
+ * statements that were prepared before.
  *
  * All are deterministic and innocuous, so that indexes, CHECK constraints and generated columns take them. Each
  * returns NULL for NULL. All but the first three read the geometry at the start of the blob, and ignore the bytes after
@@ -447,45 +447,20 @@ static const call CALLS[] = {{"wkb_well_formed", 1, well_formed},
                              {"wkb_zmax", 1, zmax},
                              {"wkb_mmax", 1, mmax}};
 
-/* To SQLite these take any number of arguments: a function that is defined for one argument later comes before them.
- * While a statement runs, as a load in a query does, SQLite replaces no function. */
+/* To SQLite these take any number of arguments: a function that is defined for one argument comes before them, and
+ * replaces none, which SQLite doesn't do while a statement runs, as a load in a query does. */
 static const call TRIGGER_CALLS[] = {{"ST_IsEmpty", -1, st_is_empty},
                                      {"ST_MinX", -1, xmin},
                                      {"ST_MaxX", -1, xmax},
                                      {"ST_MinY", -1, ymin},
                                      {"ST_MaxY", -1, ymax}};
 
-/* Versions of SQLite before this flag leave it aside, and log what isn't there. */
-#ifndef SQLITE_PREPARE_DONT_LOG
-#define SQLITE_PREPARE_DONT_LOG 0x10
-#endif
-
-/* SQLITE_OK or SQLITE_ERROR says whether the connection has a function of this name for one argument, and anything else
- * why this isn't known. A query without a table doesn't read the database, which may be locked. */
-static int look_up(sqlite3 *db, const char *name) {
-  char text[64];
-  sqlite3_stmt *query = NULL;
-  sqlite3_snprintf(sizeof text, text, "select %s(null)", name);
-  int status = sqlite3_prepare_v3(db, text, -1, SQLITE_PREPARE_DONT_LOG, &query, NULL);
-  sqlite3_finalize(query);
-  return status;
-}
-
-static int define(sqlite3 *db, const call *it) {
-  int flags = SQLITE_UTF8 | SQLITE_DETERMINISTIC | SQLITE_INNOCUOUS;
-  return sqlite3_create_function(db, it->name, it->n, flags, NULL, it->function, NULL, NULL);
-}
-
-static int define_where_none_is(sqlite3 *db, const call *it) {
-  int status = look_up(db, it->name);
-  return status == SQLITE_ERROR ? define(db, it) : status;
-}
-
-static int define_all(sqlite3 *db, char **error, const call *calls, size_t count,
-                      int (*define_one)(sqlite3 *, const call *)) {
-  int status = SQLITE_OK;
+static int define_all(sqlite3 *db, char **error, const call *calls, size_t count) {
+  int flags = SQLITE_UTF8 | SQLITE_DETERMINISTIC | SQLITE_INNOCUOUS, status = SQLITE_OK;
   for (size_t i = 0; i < count && status == SQLITE_OK; i++) {
-    status = define_one(db, &calls[i]);
+    status = sqlite3_create_function(db, calls[i].name, calls[i].n, flags, NULL, calls[i].function, NULL, NULL);
+    /* While a statement runs, a name that an earlier load has made for any number of arguments stays. */
+    if (status == SQLITE_BUSY && calls[i].n < 0) status = SQLITE_OK;
     if (status != SQLITE_OK && error != NULL) *error = sqlite3_mprintf("%s: %s", calls[i].name, sqlite3_errmsg(db));
   }
   return status;
@@ -503,10 +478,10 @@ static int define_all(sqlite3 *db, char **error, const call *calls, size_t count
  * again. */
 ENTRY_POINT int sqlite3_wkb_init(sqlite3 *db, char **error, const sqlite3_api_routines *api) {
   SQLITE_EXTENSION_INIT2(api);
-  return define_all(db, error, CALLS, COUNT(CALLS), define);
+  return define_all(db, error, CALLS, COUNT(CALLS));
 }
 
 ENTRY_POINT int sqlite3_wkbst_init(sqlite3 *db, char **error, const sqlite3_api_routines *api) {
   SQLITE_EXTENSION_INIT2(api);
-  return define_all(db, error, TRIGGER_CALLS, COUNT(TRIGGER_CALLS), define_where_none_is);
+  return define_all(db, error, TRIGGER_CALLS, COUNT(TRIGGER_CALLS));
 }
