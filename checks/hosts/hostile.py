@@ -1,5 +1,5 @@
-"""Compares the extensions of SQLite and PostgreSQL with the Python package, over the inputs of c/test/lasting.rows, of
-which the answers of a model are known, and over geometries with each byte changed, and cut at each byte.
+"""Compares the extensions of SQLite and PostgreSQL with the Python package, over the inputs of c/test/lasting.rows, over
+which python/tests/test_lasting.py tries the package, and over geometries with each byte changed, and cut at each byte.
 
     python3 hostile.py sqlite PACKAGE EXTENSION    # tries all functions, also over the blobs of GeoPackages
     python3 hostile.py rows PACKAGE                # prints what the functions have to return, for postgres/run
@@ -47,9 +47,6 @@ SEEDS = [bytes.fromhex(it) for it in (
     "010700000002000000" + 3 * "010700000001000000" + "0101000000" + 16 * "00" + "010200004000000000",
     "00000003ec00000002" "01e9030000" + 24 * "00" + "0080000001" + 24 * "00",
 )]
-# What the functions return of kinds and of dimensions: the name; the answers of wkb_ndims and wkb_zmflag.
-NAMES = "point linestring polygon multipoint multilinestring multipolygon geometrycollection".split()
-DIMENSIONS = [(2, 0), (3, 2), (3, 1), (4, 3)]
 ENVELOPES = [0, 32, 48, 48, 64]
 SIDES = [(axis, end) for axis in "xyzm" for end in ("min", "max")]
 QUERY = (
@@ -86,14 +83,6 @@ def changed():
         for i, byte in enumerate(seed):
             for other in {0, 1, 2, 7, 8, 0x20, 0x80, 0xff, byte ^ 1, byte ^ 0x40}:
                 yield seed[:i] + bytes([other]) + seed[i + 1 :]
-
-
-def summed(data):
-    """FNV-1a in 32 bits."""
-    total = 0x811c9dc5
-    for byte in data:
-        total = (total ^ byte) * 0x01000193 & 0xffffffff
-    return total
 
 
 def place(text, part, offset):
@@ -219,21 +208,6 @@ def try_sqlite(extension):
     print(f"sqlite: {count} blobs, whole, changed and cut, give what Python gives")
 
 
-def try_table():
-    """Compare the package's results with the table: type, SRID, dimension and counts, and both encodings."""
-    for data, (status, *words) in table():
-        found = results(data)
-        returned, expected = found[0] or found[2] is not None, status == "0"
-        if expected:
-            _, parts, coordinates, _, count, srid, has_srid, kind, dimension = map(int, words[:9])
-            members = count if kind > 3 else 0
-            counts_of = *DIMENSIONS[dimension], coordinates, members, parts
-            expected = NAMES[kind - 1], srid if has_srid else None, *counts_of, words[15], words[16]
-            returned = *found[2:9], *(f"{summed(it):08x}" for it in found[9:11])
-        if returned != expected:
-            sys.exit(f"{data.hex()}:\n  expected {expected}\n  the package: {returned}")
-
-
 def copied(value):
     """A value as COPY reads it."""
     if value is None:
@@ -249,7 +223,6 @@ def print_rows():
 
 
 def main():
-    try_table()
     if sys.argv[1] == "sqlite":
         try_sqlite(sys.argv[3])
     else:
