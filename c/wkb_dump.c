@@ -371,11 +371,16 @@ static int digit_of(char letter) {
 
 static bool is_space(char letter) { return letter == ' ' || (letter >= '\t' && letter <= '\r'); }
 
+/* How many characters stand before hex: 0x, as in C, or \x, as in PostgreSQL, or none. */
+static size_t mark_of_hex(const char *text, size_t length) {
+  return length >= 2 && (text[0] == '0' || text[0] == '\\') && (text[1] == 'x' || text[1] == 'X') ? 2 : 0;
+}
+
 /* Goes through hex, and writes its bytes unless OUT is null. Returns how many there are, or WKB_DUMP_NOT_HEX. */
 static size_t read_hex(const char *text, size_t length, char *out, size_t *wrong) {
   size_t bytes = 0, i = 0;
   while (i < length && is_space(text[i])) i++;
-  if (length - i >= 2 && (text[i] == '0' || text[i] == '\\') && (text[i + 1] == 'x' || text[i + 1] == 'X')) i += 2;
+  i += mark_of_hex(text + i, length - i);
   while (i < length) {
     if (is_space(text[i])) {
       i++;
@@ -402,9 +407,9 @@ static bool begins_as_text(const char *text, size_t length) {
   return length > 0;
 }
 
-/* Whether they are hex, which may have 0x before it. */
+/* Whether they are hex. */
 static bool begins_as_hex(const char *text, size_t length) {
-  size_t i = length >= 2 && text[0] == '0' && text[1] == 'x' ? 2 : 0;
+  size_t i = mark_of_hex(text, length);
   while (i < length && i < 10 && digit_of(text[i]) >= 0) i++;
   return i == 10;
 }
