@@ -1,5 +1,5 @@
 -- All coordinates of a value, and what a walk over them says of its visitor.
-use Rattle.std.specs.Prelude.{◌≡◌, ℕ, List, [], ◌∷◌, ◌++◌, flat_map, Option, Some, None}
+use Rattle.std.specs.Prelude.{◌≡◌, ℕ, List, [], ◌∷◌, ◌++◌, flat_map, Option, Some, None, Result, MatchResult}
 use Rattle.wkb.specs.Prelude.{Dimension}
 use Rattle.wkb.specs.Values.{Coordinate, Value, Values, point, line_string, polygon, multi_point, multi_line_string}
 use Rattle.wkb.specs.Values.{multi_polygon, collection, no_members, member}
@@ -51,3 +51,9 @@ abbrev mutual
 pub record Visits {S : Type 0} (has_visited : S → List Coordinate → Type 0) (old new : S) (cs : List Coordinate)
     : Type 0 where
   pub visited : (before : List Coordinate) → has_visited old before → has_visited new (before ++ cs)
+
+-- these coordinates were visited, or the visitor returned an error
+abbrev pub VisitsOrStops : {S E : Type 0} → (S → List Coordinate → Type 0) → (S → Type 0) → S → S → List Coordinate
+    → Result (Unit {0}) E → Type 0
+VisitsOrStops has_visited has_stopped old new cs result =
+    MatchResult result (λ _. Visits has_visited old new cs) (λ _. has_stopped new)

@@ -1,7 +1,7 @@
 //! A walk over all coordinates of a geometry of any kind, at every level and in order. It takes no memory.
 
-ghost use Rattle.std.specs.Prelude.{◌≡◌, ◌<◌, ◌∷◌, [], Some, List, IfOk, slice_get, length, flat_map};
-ghost use Rattle.wkb.specs.Coordinates.{Visits, of_point, of_parts, coordinates_of, coordinates_of_each};
+ghost use Rattle.std.specs.Prelude.{◌≡◌, ◌<◌, ◌∷◌, [], Some, List, ⊤, slice_get, length, flat_map};
+ghost use Rattle.wkb.specs.Coordinates.{VisitsOrStops, of_point, of_parts, coordinates_of, coordinates_of_each};
 ghost use Rattle.wkb.specs.Reads.{ring_seen, seen_points, values};
 ghost use Rattle.wkb.specs.Values.{Coordinate};
 
@@ -22,17 +22,20 @@ pub trait Visitor {
     // What is known once these coordinates were visited, and no others.
     ghost has_visited: { Self → List Coordinate → Type 0 };
 
+    // What is known once a visit returned an error, and none came after it.
+    ghost has_stopped: { Self → Type 0 } = { λ _. ⊤ };
+
     /// Visits a coordinate. An error ends the walk.
     fn visit<C: CoordTrait>(&mut self, coord: &C) -> Result<(), AllocError>
-        ensures { IfOk result (λ _. Visits has_visited self.old self.new
-            (C.words coord.now ∷ [])) };
+        ensures { VisitsOrStops has_visited has_stopped self.old self.new
+            (C.words coord.now ∷ []) result };
 }
 
 /// Visits the coordinate of a point; an empty one has none.
 #[tactic(auto, using(crate::proofs::Visits::visits_none))]
 fn visit_point<V: Visitor, P: PointTrait>(visitor: &mut V, point: &P) -> Result<(), AllocError>
-    ensures { IfOk result (λ _. Visits V.has_visited visitor.old visitor.new
-        (of_point (P.coordinate point.now))) }
+    ensures { VisitsOrStops V.has_visited V.has_stopped visitor.old visitor.new
+        (of_point (P.coordinate point.now)) result }
 {
     match point.coord() {
         Some(coord) => visitor.visit(&coord),
@@ -43,8 +46,8 @@ fn visit_point<V: Visitor, P: PointTrait>(visitor: &mut V, point: &P) -> Result<
 /// Visits the coordinates of a line string, or of a ring.
 #[tactic(auto, using(crate::proofs::Visits::visiting_laws))]
 fn visit_line<V: Visitor, L: LineStringTrait>(visitor: &mut V, line: &L) -> Result<(), AllocError>
-    ensures { IfOk result (λ _. Visits V.has_visited visitor.old visitor.new
-        (L.coordinates line.now)) }
+    ensures { VisitsOrStops V.has_visited V.has_stopped visitor.old visitor.new
+        (L.coordinates line.now) result }
 {
     for i in 0..line.num_coords() {
         visitor.visit(&line.coord_at(i))?;
@@ -67,8 +70,8 @@ fn ring_at<'a>(polygon: &Polygon<'a>, i: usize) -> LinearRing<'a>
 /// Visits the coordinates of a polygon's rings.
 #[tactic(auto, using(crate::proofs::Visits::visiting_laws))]
 fn visit_rings<V: Visitor>(visitor: &mut V, polygon: &Polygon) -> Result<(), AllocError>
-    ensures { IfOk result (λ _. Visits V.has_visited visitor.old visitor.new
-        (of_parts polygon.now.parts)) }
+    ensures { VisitsOrStops V.has_visited V.has_stopped visitor.old visitor.new
+        (of_parts polygon.now.parts) result }
 {
     for i in 0..polygon.num_rings() {
         visit_line(visitor, &ring_at(polygon, i))?;
@@ -79,8 +82,8 @@ fn visit_rings<V: Visitor>(visitor: &mut V, polygon: &Polygon) -> Result<(), All
 /// Visits the coordinates of the points that aren't empty.
 #[tactic(auto, using(crate::proofs::Visits::visiting_laws))]
 fn visit_points<V: Visitor>(visitor: &mut V, multi: &MultiPoint) -> Result<(), AllocError>
-    ensures { IfOk result (λ _. Visits V.has_visited visitor.old visitor.new
-        (flat_map of_point (seen_points multi.now))) }
+    ensures { VisitsOrStops V.has_visited V.has_stopped visitor.old visitor.new
+        (flat_map of_point (seen_points multi.now)) result }
 {
     for i in 0..multi.num_points() {
         visit_point(visitor, &multi.point(i).unwrap())?;
@@ -91,8 +94,8 @@ fn visit_points<V: Visitor>(visitor: &mut V, multi: &MultiPoint) -> Result<(), A
 /// Visits the coordinates of line strings.
 #[tactic(auto, using(crate::proofs::Visits::visiting_laws))]
 fn visit_lines<V: Visitor>(visitor: &mut V, multi: &MultiLineString) -> Result<(), AllocError>
-    ensures { IfOk result (λ _. Visits V.has_visited visitor.old visitor.new
-        (of_parts multi.now.parts)) }
+    ensures { VisitsOrStops V.has_visited V.has_stopped visitor.old visitor.new
+        (of_parts multi.now.parts) result }
 {
     for i in 0..multi.num_line_strings() {
         visit_line(visitor, &multi.line_string(i).unwrap())?;
@@ -103,8 +106,8 @@ fn visit_lines<V: Visitor>(visitor: &mut V, multi: &MultiLineString) -> Result<(
 /// Visits the coordinates of polygons.
 #[tactic(auto, using(crate::proofs::Visits::visiting_laws))]
 fn visit_polygons<V: Visitor>(visitor: &mut V, multi: &MultiPolygon) -> Result<(), AllocError>
-    ensures { IfOk result (λ _. Visits V.has_visited visitor.old visitor.new
-        (flat_map of_parts multi.now.parts)) }
+    ensures { VisitsOrStops V.has_visited V.has_stopped visitor.old visitor.new
+        (flat_map of_parts multi.now.parts) result }
 {
     for i in 0..multi.num_polygons() {
         visit_rings(visitor, multi.polygon(i).unwrap())?;
@@ -115,8 +118,8 @@ fn visit_polygons<V: Visitor>(visitor: &mut V, multi: &MultiPolygon) -> Result<(
 /// Visits all coordinates of a geometry, at every level and in order. An empty point has none.
 #[cycle(walk)]
 pub fn visit_coordinates<V: Visitor>(visitor: &mut V, geometry: &Wkb) -> Result<(), AllocError>
-    ensures { IfOk result (λ _. Visits V.has_visited visitor.old visitor.new
-        (coordinates_of geometry.now.value)) }
+    ensures { VisitsOrStops V.has_visited V.has_stopped visitor.old visitor.new
+        (coordinates_of geometry.now.value) result }
 {
     match geometry.as_type() {
         GeometryType::Point(point) => visit_point(visitor, point),
@@ -134,8 +137,8 @@ pub fn visit_coordinates<V: Visitor>(visitor: &mut V, geometry: &Wkb) -> Result<
 #[cycle(walk)]
 #[tactic(auto, using(crate::proofs::Visits::visiting_laws))]
 fn visit_members<V: Visitor>(visitor: &mut V, members: &[Wkb]) -> Result<(), AllocError>
-    ensures { IfOk result (λ _. Visits V.has_visited visitor.old visitor.new
-        (coordinates_of_each (values members.now))) }
+    ensures { VisitsOrStops V.has_visited V.has_stopped visitor.old visitor.new
+        (coordinates_of_each (values members.now)) result }
 {
     for member in members {
         visit_coordinates(visitor, member)?;

@@ -9,7 +9,7 @@ pub use Rattle.wkb.specs.Checks.{axis_place, words_in, words_on, words_of_each, 
 pub use Rattle.wkb.specs.Checks.{no_numbers, with_number, with_word, widened, range_of, Range, Bounds, type_kind}
 pub use Rattle.wkb.specs.Checks.{type_dimension, type_of}
 pub use Rattle.wkb.specs.Coordinates.{of_point, of_parts, coordinates_of, coordinates_of_each, words_of, HasOnly}
-pub use Rattle.wkb.specs.Coordinates.{HaveOnly, Visits}
+pub use Rattle.wkb.specs.Coordinates.{HaveOnly, Visits, VisitsOrStops}
 pub use Rattle.wkb.specs.AllCoordinates.{coordinates_fit, words_are_whole, coordinates_again, few_points_are_written}
 pub use Rattle.wkb.specs.AllCoordinates.{refused_points_are_many}
 pub use Rattle.wkb.specs.Prelude.{Endianness, BigEndian, LittleEndian, Form, Iso, Ewkb, Dimension, Xy, Xyz, Xym, Xyzm}
