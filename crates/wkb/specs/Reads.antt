@@ -8,7 +8,7 @@ pub use Rattle.wkb_read.specs.Reads.{IsFront, IsOnlyFront, IsRefusal, TellsEach,
 pub use Rattle.wkb_read.specs.Reads.{CountsRefusal, CountsAtMost, CanBeWritten, AsksForNone, BeginsNone, KindTakesNone}
 pub use Rattle.wkb_read.specs.Reads.{TakesNoMemory, IsRead, Lends, Reads, Costs}
 pub use Rattle.wkb_read.specs.Meanings.{geometry_seen, members_seen}
-pub use Rattle.wkb_read.specs.Lawful.{geometry_lawful, members_lawful, one_dimension_seen}
+pub use Rattle.wkb_read.specs.Lawful.{geometry_lawful, members_lawful, one_dimension_seen, seen_as_it_is}
 pub use Rattle.wkb_read.specs.Views.{IsCollectionOf, IsViewOf}
 pub use Rattle.wkb_read.specs.Places.{collection_seen, joined_encodings, HoldsMembers, IsCollectionIn, AreMembers}
 pub use Rattle.wkb_read.specs.Places.{IsMemberAt}

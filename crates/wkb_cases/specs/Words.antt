@@ -94,15 +94,16 @@ pub use Rattle.wkb.specs.Reads.{item_code, listed_code, HasNoFront, IsFront, IsO
 pub use Rattle.wkb.specs.Reads.{IfRefused, IfMemory, CountsValue, CountsRefusal, CountsAtMost, CanBeWritten}
 pub use Rattle.wkb.specs.Reads.{AsksForNone, BeginsNone, KindTakesNone, TakesNoMemory, IsRead, Lends, Reads, Costs}
 pub use Rattle.wkb.specs.Reads.{geometry_seen, members_seen, geometry_lawful, members_lawful, one_dimension_seen}
-pub use Rattle.wkb.specs.Reads.{IsCollectionOf, IsViewOf, collection_seen, joined_encodings, HoldsMembers}
-pub use Rattle.wkb.specs.Reads.{IsCollectionIn, AreMembers, IsMemberAt, words_seen, ring_seen, coordinate_encoding}
-pub use Rattle.wkb.specs.Reads.{coord_order, coord_dimension, coord_encoding, ring_order, ring_dimension, ring_encoding}
-pub use Rattle.wkb.specs.Reads.{ring_offset, ring_coord_bytes, CoordBytesSpell, RingBytesSpell, LendsCoordinates}
-pub use Rattle.wkb.specs.Reads.{point_seen, line_string_seen, multi_point_seen, point_layout, line_string_layout}
-pub use Rattle.wkb.specs.Reads.{multi_point_layout, point_dimension, line_string_dimension, multi_point_dimension}
-pub use Rattle.wkb.specs.Reads.{point_order, point_spelling, line_string_order, line_string_spelling, seen_coordinates}
-pub use Rattle.wkb.specs.Reads.{coordinate_in, line_string_offset, multi_point_offset, seen_coordinate, seen_points}
-pub use Rattle.wkb.specs.Reads.{point_coord_bytes, point_words_bytes, line_string_coord_bytes, line_string_coords_bytes}
+pub use Rattle.wkb.specs.Reads.{seen_as_it_is, IsCollectionOf, IsViewOf, collection_seen, joined_encodings}
+pub use Rattle.wkb.specs.Reads.{HoldsMembers, IsCollectionIn, AreMembers, IsMemberAt, words_seen, ring_seen}
+pub use Rattle.wkb.specs.Reads.{coordinate_encoding, coord_order, coord_dimension, coord_encoding, ring_order}
+pub use Rattle.wkb.specs.Reads.{ring_dimension, ring_encoding, ring_offset, ring_coord_bytes, CoordBytesSpell}
+pub use Rattle.wkb.specs.Reads.{RingBytesSpell, LendsCoordinates, point_seen, line_string_seen, multi_point_seen}
+pub use Rattle.wkb.specs.Reads.{point_layout, line_string_layout, multi_point_layout, point_dimension}
+pub use Rattle.wkb.specs.Reads.{line_string_dimension, multi_point_dimension, point_order, point_spelling}
+pub use Rattle.wkb.specs.Reads.{line_string_order, line_string_spelling, seen_coordinates, coordinate_in}
+pub use Rattle.wkb.specs.Reads.{line_string_offset, multi_point_offset, seen_coordinate, seen_points, point_coord_bytes}
+pub use Rattle.wkb.specs.Reads.{point_words_bytes, line_string_coord_bytes, line_string_coords_bytes}
 pub use Rattle.wkb.specs.Reads.{multi_point_member_bytes, multi_point_spelling, list_of_values, IsCollection, points_of}
 pub use Rattle.wkb.specs.Reads.{members_spelled, list_of_spellings, spelling_at, BytesSpell, srid_of, order_of}
 pub use Rattle.wkb.specs.Reads.{polygon_seen, multi_line_string_seen, multi_polygon_seen, stride, ArePoints}
