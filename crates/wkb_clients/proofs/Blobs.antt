@@ -9,7 +9,7 @@ use Rattle.wkb.specs.Checks.{Range, Bounds, AreBounds, rank, range_of, words_on,
 use Rattle.wkb.specs.Known.{never_both}
 use Rattle.wkb.specs.Refusals.{no_order_byte}
 use Rattle.wkb.specs.Order.{HasNumbers, range_has_numbers}
-use Rattle.wkb.specs.Prelude.{Endianness, BigEndian, LittleEndian, order_byte, number, number_bytes, is_nan}
+use Rattle.wkb.specs.Prelude.{Endianness, BigEndian, LittleEndian, order_byte, number_bytes, is_nan}
 use Rattle.wkb.specs.Values.{Value}
 use Rattle.wkb.specs.Reads.{IsFront}
 use Rattle.wkb_clients.specs.Common.{Item}

@@ -156,8 +156,15 @@ range_bytes order r =
 abbrev pub envelope_bytes : Endianness → ℕ → Bounds → List ℕ
 envelope_bytes order kind b = if kind == 0 then [] else range_bytes order b.x ++ range_bytes order b.y
 
--- what is found is a blob that holds the package; none where its geometry is EWKB, or its envelope has more axes
+-- the blob holds the package, and is its header, the envelope of its geometry's bounds, and the geometry's bytes
+pub record IsBlobOf (p : Package) (blob : List ℕ) : Type 0 where
+  pub holds : HoldsGeometry blob p.header p.geometry
+  pub bounds : Bounds
+  pub bounded : AreBounds bounds p.geometry.value
+  pub whole : blob
+      ≡ header_bytes p.header ++ (envelope_bytes p.header.order p.header.envelope bounds ++ p.geometry.encoding)
+
+-- what is found is that blob; none where the geometry is EWKB, or the envelope has more axes
 abbrev pub FindsBlob : Package → Option (Vec ℕ Global) → Type 0
 FindsBlob p found =
-    MatchOption found ((1 < p.header.envelope) ⊎ (is_ewkb p.geometry.encoding ≡ true))
-    (λ blob. HoldsGeometry blob.items p.header p.geometry)
+    MatchOption found ((1 < p.header.envelope) ⊎ (is_ewkb p.geometry.encoding ≡ true)) (λ blob. IsBlobOf p blob.items)
