@@ -191,8 +191,7 @@ each_least (member t ts) = omega (arith, each_least ts, value_size-least t)
 pub refused_each : {room : ℕ} {w : Wanted} {n m : ℕ} {input : List ℕ} {cause : Cause} {a b c d : ℕ} → n ≡ m → a ≡ c
     → b ≡ d
     → RefusesEach room w n input cause a b → RefusesEach room w m input cause c d
-refused_each {room} {w} {input = input} {cause = cause} e f g r =
-    subst (λ T. T) (λ i. RefusesEach room w (e i) input cause (f i) (g i)) r
+refused_each {room} {w} {input = input} {cause = cause} e f g r = grind arith
 
 -- these members at the start of the input
 record MembersAre (room : ℕ) (w : Wanted) (n : ℕ) (input : List ℕ) (ts : Values) : Type 0 where
@@ -244,12 +243,10 @@ list_body order own _ field low = first_of (rw count-each, grind arith)
 
 list_nest : (t : Value) (room : ℕ) → 3 < kind t → (kind t ≡ 7 → 0 < room)
     → nest_each (members t) ≤ room_inside (kind t) room → nest t ≤ room
-list_nest (collection d ts) room low some h = let more = some refl in omega arith
-list_nest _ room low some h = omega arith
+list_nest t room low some h = grind arith
 
 pub list_turns : (t : Value) → 3 < kind t → member_count t ≡ member_count_each (members t)
-list_turns (polygon d rings) low = absurd (omega arith)
-list_turns t low = omega (arith, member_count-members t)
+list_turns t low = grind (arith, member_count-members)
 
 listed_each : (ts : Values) → listed_count_each ts ≡ count ts + listed_inside ts
 listed_each no_members = refl
@@ -270,16 +267,13 @@ list_slots _ remaining low fits = absurd (omega arith)
 
 -- what a wanted member holds is all that it is
 point_of-is : (d : Dimension) (t : Value) → kind t ≡ 1 → dimension t ≡ d → point d (point_of t) ≡ t
-point_of-is d (point e c) k same = ap (λ z. point z c) (sym same)
-point_of-is d _ k same = absurd (omega arith)
+point_of-is d t k same = grind arith
 
 line_string_of-is : (d : Dimension) (t : Value) → kind t ≡ 2 → dimension t ≡ d → line_string d (line_string_of t) ≡ t
-line_string_of-is d (line_string e c) k same = ap (λ z. line_string z c) (sym same)
-line_string_of-is d _ k same = absurd (omega arith)
+line_string_of-is d t k same = grind arith
 
 polygon_of-is : (d : Dimension) (t : Value) → kind t ≡ 3 → dimension t ≡ d → polygon d (polygon_of t) ≡ t
-polygon_of-is d (polygon e c) k same = ap (λ z. polygon z c) (sym same)
-polygon_of-is d _ k same = absurd (omega arith)
+polygon_of-is d t k same = grind arith
 
 -- members that a multi geometry wants are a list of parts of its kind
 parts_made : {A : Type 0} (k : ℕ) (d : Dimension) (f : A → Value) (g : Value → A)

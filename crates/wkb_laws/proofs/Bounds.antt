@@ -1,6 +1,6 @@
 -- Members and list entries are bounded by the bytes.
 use Rattle.std.proofs.Common.{◌≡◌, ℕ, ◌+◌, ◌*◌, ◌<◌, ◌≤◌, List, [], ◌∷◌, length, Bool, refl, sym, ap, ◌∙◌, arith}
-use Rattle.std.proofs.Common.{length-append, lit≤, mul-le-mul_left}
+use Rattle.std.proofs.Common.{length-append, mul-le-mul_left}
 use Rattle.std.proofs.lemmas.Bool.Decides.{nat_tests}
 use Rattle.wkb_laws.specs.Prelude.{Endianness, Dimension, IsEach, Coordinate, Value, point, line_string, polygon}
 use Rattle.wkb_laws.specs.Prelude.{multi_point, multi_line_string, multi_polygon, collection, Values, no_members}
@@ -12,7 +12,7 @@ use Rattle.wkb_laws.specs.Prelude.{no_ring_count, short_ring, later_ring, Refuse
 use Rattle.wkb_laws.specs.Prelude.{this_member, later_member}
 use Rattle.wkb_laws.specs.Laws.{FrontIsBounded, RefusalIsBounded}
 use Rattle.wkb_laws.proofs.Parts.{then_length, length-opens, header_length}
-use Rattle.wkb_laws.proofs.Lists.{each_sum, each_same, by_list_kind, IsWanted}
+use Rattle.wkb_laws.proofs.Lists.{each_sum, each_same, IsWanted}
 
 -- each item of a list has at least this number of bytes
 pub each_long : {A : Type 0} (P : A → List ℕ → Type 0) (size : ℕ) → ((a : A) (x : List ℕ) → P a x → size ≤ length x)
@@ -73,11 +73,7 @@ mutual
   each_spelled_long w _ _ x a = absurd a
 
 pub front_is_bounded_lem : FrontIsBounded
-front_is_bounded_lem input s t rest f =
-    let long = spelled_long s t f.front f.spelled in
-    let most = listed_count-most t in
-    let whole : length input ≡ length f.front + length rest = ap length f.whole ∙ length-append f.front rest in
-    (omega arith, omega arith)
+front_is_bounded_lem input s t rest f = grind (arith, spelled_long, listed_count-most, length-append)
 
 length-counts : {room : ℕ} {w : Wanted} {input rest : List ℕ} {order : Endianness} {k : ℕ} {d : Dimension}
     {srid : Bool} {n : ℕ}
@@ -89,9 +85,7 @@ rings_begun : {order : Endianness} {d : Dimension} {n : ℕ} {input : List ℕ} 
     → 4 * begun ≤ length input + 4
 rings_begun (no_ring_count h) = omega arith
 rings_begun (short_ring b h) = omega arith
-rings_begun {order} {d} (later_ring ring b h) =
-    let first = coordinates_long order d ring b.front b.first in
-    omega (arith, rings_begun h, ap length b.whole, length-append {A = ℕ})
+rings_begun {order} {d} (later_ring ring b h) = grind (arith, coordinates_long, length-append, rings_begun h)
 
 front_long : {room : ℕ} {input : List ℕ} {s : Spelling} {t : Value} {rest : List ℕ} → FrontWithin room input s t rest
     → 4 * member_count t + 5 + length rest ≤ length input
@@ -125,10 +119,7 @@ list_share inner outer asked slots rest len more ask fits inside =
 -- the members that are wanted after a count
 pub wanted_inside : (w : Wanted) (room k : ℕ) (d : Dimension) (srid : Bool) → IsWanted w → IsAllowed room w k d srid
     → 3 < k → k ≤ 7 → IsWanted (member_part k d)
-wanted_inside (part wanted e) room k d srid good allowed low high =
-    let same = (allowed.wanted).0 in absurd (omega arith)
-wanted_inside any room k d srid good allowed low high =
-    by_list_kind (λ z. IsWanted (member_part z d)) (lit≤ tt) (lit≤ tt) (lit≤ tt) tt k low high
+wanted_inside w room k d srid good allowed low high = grind arith
 
 -- a list of rings, and a member that is spelled, pay for their entries by their own bytes
 own_share : (s front rest len own slots : ℕ) → 3 ≤ s → 4 * own ≤ front → 9 * slots ≤ s * rest → front + rest ≤ len
@@ -175,7 +166,4 @@ mutual
       )
 
 pub refusal_is_bounded_lem : RefusalIsBounded
-refusal_is_bounded_lem input cause turns slots r =
-    let within = refused_within r tt in
-    let asked : 9 * slots ≤ 133 * length input = within.1 in
-    (omega arith, omega arith)
+refusal_is_bounded_lem input cause turns slots r = grind (arith, refused_within)

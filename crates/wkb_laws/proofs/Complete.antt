@@ -1,10 +1,10 @@
 -- Every front and every refusal is what reading from left to right gives.
 use Rattle.std.proofs.Common.{◌≡◌, ℕ, zero, suc, ◌<◌, ◌≤◌, List, [], ◌∷◌, length, Some, None, Ok, Err, Result, Bool}
-use Rattle.std.proofs.Common.{nat_lt, refl, sym, ap, ◌∙◌, arith, lt-ltb, le-ltb, ◌≢◌, ◌+◌, ◌-◌, ◌*◌, ◌++◌, drop, map}
-use Rattle.std.proofs.Common.{Option, true, false, is_some, ◌==◌, if◌then◌else◌, subst, append_assoc, append-nil}
+use Rattle.std.proofs.Common.{nat_lt, refl, sym, ap, ◌∙◌, arith, lt-ltb, le-ltb, ◌≢◌, ◌+◌, ◌*◌, ◌++◌, drop, map}
+use Rattle.std.proofs.Common.{Option, true, false, is_some, ◌==◌, if◌then◌else◌, subst, append_assoc, append-nil, rules}
 use Rattle.std.proofs.Common.{length-append, drop-drop, lit<, lit≤}
 use Rattle.std.proofs.lemmas.Bool.{false_from_ne_true}
-use Rattle.wkb_laws.specs.Prelude.{count_in, Endianness, BigEndian, LittleEndian, Dimension, Head, Layout, WkbType}
+use Rattle.wkb_laws.specs.Prelude.{count_in, Endianness, Dimension, Head, Layout, WkbType}
 use Rattle.wkb_laws.specs.Prelude.{Cause, end_of_input, general, incorrect_type, InvalidByteOrder, IsNumber, order_byte}
 use Rattle.wkb_laws.specs.Prelude.{Code, Begins, Wanted, any, part, IsPart, Opens, Item, type_kind, type_dimension}
 use Rattle.wkb_laws.specs.Prelude.{type_of, layout_of, laid, head_at, head_by_order, head_by_code, meaning, meaning_of}
@@ -22,7 +22,6 @@ use Rattle.wkb_laws.specs.Prelude.{later_ring, Refuses, no_order_byte, bad_order
 use Rattle.wkb_laws.specs.Prelude.{too_deep, short_point, no_count, short_line_string, short_multi_point, bad_ring}
 use Rattle.wkb_laws.specs.Prelude.{bad_member, RefusesEach, this_member, later_member}
 use Rattle.wkb_geom.specs.Refusals.{left_in, left_in_rings, left_in_each}
-use Rattle.wkb_geom.specs.declared.code.WkbType.TheVariants as kinds
 use Rattle.wkb_geom.proofs.Codes.{one_meaning}
 use Rattle.wkb_geom.proofs.Meanings.{meaning_holds, type_kind-type_of}
 use Rattle.wkb_laws.specs.Laws.{listed_inside}
@@ -39,8 +38,7 @@ use Rattle.wkb_geom.specs.Reading.{Outcome, Reading, rejection, then_body, with_
 use Rattle.wkb_geom.specs.Reading.{member_body, member_at, body_at, collection_within}
 
 pub type_of-type : (t : WkbType) → type_of (type_kind t) (type_dimension t) ≡ t
-type_of-type (kinds.Point d) = refl
-type_of-type _ = refl
+type_of-type t = grind arith
 
 -- an opening, and each fault in front of a body, as they are read
 pub meaning_found : (c k : ℕ) (d : Dimension) (srid : Bool) → Code c k d srid
@@ -56,8 +54,7 @@ meaning_found c k d srid code =
 pub head_by_byte : (order : Endianness) (behind : List ℕ)
     → head_at (order_byte order ∷ behind) ≡ head_by_order (Some order) behind
 unfolding head_at
-head_by_byte BigEndian behind = refl
-head_by_byte LittleEndian behind = refl
+head_by_byte order behind = grind arith
 
 pub head_coded : {input behind rest : List ℕ} {order : Endianness} {c : ℕ} → input ≡ order_byte order ∷ behind
     → Begins (IsNumber order 4 c) behind rest
@@ -77,14 +74,11 @@ head_opened {order = order} {k = k} {d = d} {srid = srid} o =
 
 head_misordered : (first : ℕ) (rest : List ℕ) → 1 < first → head_at (first ∷ rest) ≡ Err (general InvalidByteOrder)
 unfolding head_at
-head_misordered (suc (suc n)) rest h = refl
-head_misordered _ rest h = absurd (omega arith)
+head_misordered first rest h = grind arith
 
 head_cut : (first : ℕ) (rest : List ℕ) → first ≤ 1 → length rest < 4 → head_at (first ∷ rest) ≡ Err end_of_input
 unfolding head_at
-head_cut zero rest h short = rw (lt-ltb _ _ short)
-head_cut (suc zero) rest h short = rw (lt-ltb _ _ short)
-head_cut (suc (suc n)) rest h short = absurd (omega arith)
+head_cut first rest h short = grind arith
 
 -- the reader of a part, where this number of collections more may be opened
 abbrev pub reader : ℕ → Wanted → List ℕ → Reading Item
@@ -107,14 +101,12 @@ reader_by room (part k d) input = refl
 
 faulty : (room : ℕ) (w : Wanted) (input : List ℕ) (cause : Cause) → head_at input ≡ Err cause
     → reader room w input ≡ refused input cause
-faulty room any input cause e = reader_by room any input ∙ ap (read_by room any input) e
-faulty room (part k d) input cause e = ap (read_by room (part k d) input) e
+faulty room w input cause e = grind (arith, reader_by)
 
 member_body_is : (deeper : Layout → List ℕ → Reading Item) (k : ℕ) (d : Dimension) (l : Layout) (input : List ℕ)
     → 1 ≤ k → k ≤ 3
     → member_body k l input ≡ body_at deeper (type_of k d) l input
-member_body_is deeper (suc (suc (suc zero))) d l input low few = refl
-member_body_is deeper _ d l input low few = grind arith
+member_body_is deeper k d l input low few = grind arith
 
 module _ {input rest : List ℕ} {order : Endianness} {k : ℕ} {d : Dimension} {srid : Bool}
     (o : Opens input order k d srid rest) where
@@ -124,8 +116,7 @@ module _ {input rest : List ℕ} {order : Endianness} {k : ℕ} {d : Dimension} 
   opened : (room : ℕ) (w : Wanted) → IsWanted w → IsPart w k d srid
       → reader room w input
       ≡ body_at (collection_within room) (type_of k d) (laid order d srid) input
-  opened room any good p =
-      reader_by room any input ∙ rw (head_opened o, same_type.1)
+  opened room any good p = cc (reader_by room any input, head_opened o, same_type.1)
   opened room (part l e) good p =
       let wanted = is_passed l e (head_of order k d srid) (same_type.0 ∙ p.0, same_type.1 ∙ p.1, p.2) in
       rw (head_opened o, wanted, p.0, p.1)
@@ -154,15 +145,7 @@ body_counted : (room k : ℕ) (l : Layout) (input : List ℕ) → 1 ≤ k → k 
     → body_at (collection_within room) (type_of k l.dimension) l input
     ≡ with_count l input (behind_of room k l input)
 unfolding line_string_at polygon_at multi_point_at multi_line_string_at multi_polygon_at collection_at
-body_counted (suc room) (suc (suc (suc (suc (suc (suc (suc zero))))))) l input low high n some =
-    let inside : room ≡ suc room - 1 = omega arith in
-    ap (λ z. with_count l input (list_behind 7 l (reader z any) input)) inside
-body_counted room (suc (suc zero)) l input low high n some = refl
-body_counted room (suc (suc (suc zero))) l input low high n some = refl
-body_counted room (suc (suc (suc (suc zero)))) l input low high n some = refl
-body_counted room (suc (suc (suc (suc (suc zero))))) l input low high n some = refl
-body_counted room (suc (suc (suc (suc (suc (suc zero)))))) l input low high n some = refl
-body_counted room _ l input low high n some = grind arith
+body_counted room k l input low high n some = search (rules, list_behind)
 
 -- a count, as it is read
 pub record CountRead (input : List ℕ) (l : Layout) (n : ℕ) (rest : List ℕ) : Type 0 where
@@ -199,9 +182,7 @@ list_counted : (room k : ℕ) (l : Layout) (input : List ℕ) (n : ℕ) → 3 < 
     → (k ≡ 4 → multi_point_end l.dimension l.has_srid n ≤ length input)
     → behind_of room k l input n
     ≡ parts_body k l (reader (room_inside k room) (member_part k l.dimension)) (list_item l (whole_by k)) input n
-list_counted room (suc (suc (suc (suc zero)))) l input n low high long = rw (le-ltb _ _ (long refl))
-list_counted room (suc (suc (suc (suc (suc (suc (suc zero))))))) l input n low high long = refl
-list_counted room _ l input n low high long = grind arith
+list_counted room k l input n low high long = grind arith
 
 -- ---- words, coordinates and rings, as they are read at the start of the bytes
 
@@ -268,8 +249,7 @@ rings_found l (ring ∷ rings) x rest h =
 pub srid_read : (order : Endianness) (srid : Option ℕ) (field x y : List ℕ) → IsSrid order srid field
     → drop 5 x ≡ field ++ y
     → srid_in order (is_some srid) x ≡ srid
-srid_read order None field x y is e = refl
-srid_read order (Some v) field x y is e = ap Some (ap (number order 4) e ∙ number-front order 4 v field y is)
+srid_read order srid field x y is e = grind (arith, number-front)
 
 -- what has no members has no spellings of any, and no bytes
 alone : (w : Wanted) (ss : Spellings) (m : List ℕ) → SpellsEach w ss no_members m → (no_spellings ≡ ss) × (m ≡ [])
@@ -290,8 +270,7 @@ nest_inside (multi_polygon d l) room h = omega (arith, each_same (polygon d) nes
 nest_inside _ room h = omega arith
 
 nest_collection : (t : Value) → kind t ≡ 7 → 0 < nest t
-nest_collection (collection d ts) e = omega arith
-nest_collection _ e = absurd (omega (arith, e))
+nest_collection t e = grind arith
 
 -- the items of members make the geometry again
 held : {A : Type 0} (f : A → Value) (g : Value → A) → ((a : A) → g (f a) ≡ a) → (found : List Item) (l : List A)
@@ -344,15 +323,7 @@ module _ (h : Header) (own : List ℕ) (ss : Spellings) (t : Value) (x : List �
 
   opens : (rest : List ℕ)
       → Opens (x ++ rest) h.order (kind t) (dimension t) (is_some h.srid) (a.first.srid_field ++ (a.rest ++ rest))
-  opens rest =
-      let is = a.first in
-      record {
-        code = h.code;
-        behind = is.code_field ++ (is.srid_field ++ (a.rest ++ rest));
-        whole = then_append a rest ∙ rw (is.whole, append_assoc);
-        number = record { front = is.code_field; whole = refl; first = is.code };
-        meaning = is.meaning;
-      }
+  opens rest = grind (arith, then_append, append_assoc)
 
   spelling_read : (words : List ℕ) (others : Spellings) → words ≡ own → others ≡ ss
       → spelled_in (laid h.order (dimension t) (is_some h.srid)) x words others ≡ node h own ss
@@ -373,17 +344,7 @@ module _ (h : Header) (own : List ℕ) (ss : Spellings) (t : Value) (x : List �
     front_counts : (n : ℕ) (field behind : List ℕ) → a.second.front ≡ field ++ behind → IsNumber h.order 4 n field
         → OpensCounted room w (x ++ rest) h.order (kind t) (dimension t) (is_some h.srid) n
         (behind ++ (a.second.rest ++ rest))
-    front_counts n field behind e number =
-        let shape : a.rest ++ rest ≡ field ++ (behind ++ (a.second.rest ++ rest)) =
-        then_append a.second rest ∙ rw (e, append_assoc) in
-        record {
-          srid_field = a.first.srid_field;
-          count_field = field;
-          opens = rw shape at (opens rest);
-          allowed = is_allowed;
-          srid_len = srid_length h.order h.srid a.first.srid_field a.first.srid;
-          number = number;
-        }
+    front_counts n field behind e number = grind (arith, then_append, append_assoc, opens, is_allowed, srid_length)
 
     list_found : 3 < kind t
         → MembersFound (reader (room_inside (kind t) room) (member_part (kind t) (dimension t))) ss (members t)
@@ -417,7 +378,6 @@ module _ (room : ℕ) (w : Wanted) (good : IsWanted w) (h : Header) (own : List 
       → reader room w (x ++ rest) ≡ (free, Ok (point_item_of (laid h.order d (is_some h.srid)) x words all, rest))
   unfolding point_at
   point_by c a words all spelled nan p =
-      let l = laid h.order d (is_some h.srid) in
       let end = point_end d (is_some h.srid) in
       let none = alone _ ss a.second.rest a.second.second in
       let long = coordinate_length h.order d words a.second.front spelled in
@@ -434,7 +394,6 @@ module _ (room : ℕ) (w : Wanted) (good : IsWanted w) (h : Header) (own : List 
       → reader room w (x ++ rest) ≡ found (node h own ss) (line_string d cs) x rest
   line_string_by cs a p =
       let body = a.second.first.1 in
-      let l = laid h.order d (is_some h.srid) in
       let end = line_string_end d (is_some h.srid) (length cs) in
       let none = alone _ ss a.second.rest a.second.second in
       let read = ring_read h.order d cs a.second.front a.second.rest body in
@@ -515,8 +474,7 @@ mutual
 pub front_read : (room : ℕ) (w : Wanted) → IsWanted w → (input : List ℕ) (s : Spelling) (t : Value) (rest : List ℕ)
     → (f : FrontWithin room input s t rest)
     → IsPart w (kind t) (dimension t) (has_srid s) → reader room w input ≡ found s t f.front rest
-front_read room w good input s t rest f p =
-    ap (reader room w) f.whole ∙ front_at room w good s t f.front rest f.spelled f.shallow p
+front_read room w good input s t rest f p = cc (front_at room w good s t f.front rest f.spelled f.shallow p)
 
 -- a refusal, with its turns and its slots
 abbrev pub refusal : {A : Type 0} → ℕ → ℕ → List ℕ → Cause → Reading A

@@ -1,9 +1,9 @@
 -- A strict prefix of a geometry is rejected as an input that ends too early.
 use Rattle.std.proofs.Common.{◌⊎◌, ℕ, ◌+◌, List, [], ◌++◌, length, sym, ap, ◌∙◌, append_assoc, arith, inl, inr}
 use Rattle.std.proofs.Common.{length-append, Bool, append-nil}
-use Rattle.wkb_laws.specs.Prelude.{Endianness, Dimension, ShortPoint, ShortLineString, ShortLinearRing, ShortMultiPoint}
+use Rattle.wkb_laws.specs.Prelude.{Endianness, Dimension}
 use Rattle.wkb_laws.specs.Prelude.{Begins, Value, listed_count, Spelling, Wanted, Front, FrontWithin, Cause}
-use Rattle.wkb_laws.specs.Prelude.{end_of_input, general, slots_asked, Opens, OpensCounted, RefusesRings, later_ring}
+use Rattle.wkb_laws.specs.Prelude.{slots_asked, Opens, OpensCounted, RefusesRings, later_ring}
 use Rattle.wkb_laws.specs.Prelude.{Refuses, bad_order_byte, bad_code, wrong_part, too_deep, bad_ring, bad_member}
 use Rattle.wkb_laws.specs.Prelude.{RefusesEach, this_member, later_member}
 use Rattle.wkb_laws.specs.Laws.{EndsTooEarly, CutIsRefused}
@@ -19,38 +19,18 @@ begins_more {rest = rest} y b =
 opens_more : {input rest : List ℕ} {order : Endianness} {k : ℕ} {d : Dimension} {srid : Bool} (y : List ℕ)
     → Opens input order k d srid rest
     → Opens (input ++ y) order k d srid (rest ++ y)
-opens_more y o =
-    record {
-      code = o.code;
-      behind = o.behind ++ y;
-      whole = ap (λ z. z ++ y) o.whole;
-      number = begins_more y o.number;
-      meaning = o.meaning;
-    }
+opens_more y o = grind (arith, begins_more)
 
 counts_more : {room : ℕ} {w : Wanted} {input rest : List ℕ} {order : Endianness} {k : ℕ} {d : Dimension} {n : ℕ}
     {srid : Bool} (y : List ℕ)
     → OpensCounted room w input order k d srid n rest → OpensCounted room w (input ++ y) order k d srid n (rest ++ y)
-counts_more {input = input} {rest = rest} {order = order} {k = k} {d = d} {srid = srid} y c = record {
-  srid_field = c.srid_field;
-  count_field = c.count_field;
-  opens = rw (append_assoc c.srid_field (c.count_field ++ rest) y, append_assoc c.count_field rest y) at
-      (opens_more y c.opens);
-  allowed = c.allowed;
-  srid_len = c.srid_len;
-  number = c.number;
-}
+counts_more {input = input} {rest = rest} {order = order} {k = k} {d = d} {srid = srid} y c =
+    grind (arith, append_assoc, opens_more)
 
 front_more : {room : ℕ} {input : List ℕ} {s : Spelling} {t : Value} {rest : List ℕ} (y : List ℕ)
     → FrontWithin room input s t rest
     → FrontWithin room (input ++ y) s t (rest ++ y)
-front_more {rest = rest} y f =
-    record {
-      front = f.front;
-      whole = ap (λ z. z ++ y) f.whole ∙ append_assoc f.front rest y;
-      spelled = f.spelled;
-      shallow = f.shallow;
-    }
+front_more {rest = rest} y f = grind (arith, append_assoc)
 
 rings_cut : {order : Endianness} {d : Dimension} {n : ℕ} {input : List ℕ} {cause : Cause} {begun : ℕ}
     → RefusesRings order d n input cause begun → EndsTooEarly cause
@@ -83,12 +63,7 @@ mutual
       let more = each_lasts r y n in (listed_count t + more.0, later_member (front_more y f) p more.1)
 
 cut_or_not : (c : Cause) → EndsTooEarly c ⊎ (EndsTooEarly c → ⊥)
-cut_or_not end_of_input = inl tt
-cut_or_not (general (ShortPoint end len)) = inl tt
-cut_or_not (general (ShortLineString end len)) = inl tt
-cut_or_not (general (ShortLinearRing end len)) = inl tt
-cut_or_not (general (ShortMultiPoint end len)) = inl tt
-cut_or_not _ = inr (λ h. h)
+cut_or_not c = grind arith
 
 pub cut_is_refused_lem : CutIsRefused
 cut_is_refused_lem input s t rest x y f e some =

@@ -1,8 +1,8 @@
 -- An encoding is as long as the size of its geometry says.
-use Rattle.std.proofs.Common.{◌≡◌, ◌+◌, ◌*◌, None, refl, ap, ◌∙◌, arith, is_some, if◌then◌else◌, sym}
+use Rattle.std.proofs.Common.{◌≡◌, ◌+◌, None, refl, ap, ◌∙◌, arith, sym}
 use Rattle.std.proofs.lemmas.List.{length-map}
 use Rattle.wkb_laws.specs.Prelude.{size, Geometry, Geometries, line, rectangle, triangle, no_geometries, geometry}
-use Rattle.wkb_laws.specs.Prelude.{normal, normal_each, byte_size, byte_sizes, form_srid, fault, fault_each}
+use Rattle.wkb_laws.specs.Prelude.{normal, normal_each, byte_size, byte_sizes, fault, fault_each}
 use Rattle.wkb_laws.specs.Prelude.{as_dimensions, written_dimension, Dimensions, dimensions_fault}
 use Rattle.wkb_geom.specs.Geometries.{point, multi_point}
 use Rattle.wkb_geom.specs.Geometries.{collection}
@@ -31,6 +31,4 @@ mutual
       omega (arith, sizes_of_normal gs (or_else_parts _ _ e).1, size_of_normal g (or_else_parts _ _ e).0)
 
 pub encoding_has_size_lem : EncodingHasSize
-encoding_has_size_lem order form g _ lawful fine =
-    encoding_length order form g lawful fine
-    ∙ ap (λ n. n + 4 * (if is_some (form_srid form) then 1 else 0)) (size_of_normal g fine)
+encoding_has_size_lem order form g _ lawful fine = grind (arith, encoding_length, size_of_normal)

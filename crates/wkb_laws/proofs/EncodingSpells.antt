@@ -1,16 +1,16 @@
 -- The encoding that is written spells the normal value.
+use Rattle.std.proofs.lemmas.Grind.{common_steps}
 use Rattle.std.proofs.Common.{rules, ◌≡◌, ℕ, ◌<◌, ◌≤◌, ◌^◌, [], Bool, true, false, refl, sym, ap, ◌∙◌, arith, is_some}
-use Rattle.std.proofs.Common.{append-nil, zero, suc, ◌+◌, List, ◌∷◌, ◌++◌, length, map, replicate, Option, Some, None}
-use Rattle.std.proofs.Common.{lit<, lit≤, slice_index, if◌then◌else◌, flat_map}
+use Rattle.std.proofs.Common.{append-nil, ◌+◌, List, ◌∷◌, ◌++◌, length, map, replicate, Option, Some, None}
+use Rattle.std.proofs.Common.{lit≤, if◌then◌else◌, flat_map}
 use Rattle.std.proofs.lemmas.List.{length-map}
 use Rattle.std.specs.List.{AllByRecursion}
-use Rattle.std.proofs.Math.Bool.{or-false}
 use Rattle.std.proofs.lemmas.Bool.Decides.{nat_tests}
 use Rattle.byteorder.specs.Numbers.{big_number-reads_back, little_number-reads_back, length-bytes_high_first}
 use Rattle.byteorder.specs.Numbers.{length-bytes_low_first}
 use Rattle.byteorder.specs.Endian.{big_number, little_number}
 use Rattle.wkb_laws.specs.Prelude.{Endianness, BigEndian, LittleEndian, Dimension, Xy, Form, Iso, Ewkb, number}
-use Rattle.wkb_laws.specs.Prelude.{IsNumber, number_bytes, has_z, has_m, Code, form_srid, code_of, Xyzm, Dimensions}
+use Rattle.wkb_laws.specs.Prelude.{IsNumber, number_bytes, Code, form_srid, code_of, Dimensions}
 use Rattle.wkb_laws.specs.Prelude.{IsWord, all_nan, empty_word, width, written_dimension, IsEach, IsCounted, Coordinate}
 use Rattle.wkb_laws.specs.Prelude.{Value, each, kind, dimension, members, count, Spelling, node, Spellings}
 use Rattle.wkb_laws.specs.Prelude.{no_spellings, IsHeader, IsSrid, SpellsCoordinate, SpellsCoordinates, SpellsBody}
@@ -22,7 +22,6 @@ use Rattle.wkb_laws.specs.Prelude.{line_string_encoding, polygon_encoding, membe
 use Rattle.wkb_laws.specs.Prelude.{encodings, or_else, dimensions_fault, count_fault, first_fault, coordinates_fault}
 use Rattle.wkb_laws.specs.Prelude.{rings_fault, fault, fault_each, IsForm, Fault}
 use Rattle.wkb_geom.specs.Values as value
-use Rattle.wkb_geom.proofs.Codes.{flag-bit, bit-most, thousands-most}
 use Rattle.wkb_geom.specs.Geometries.{point, line_string, polygon, multi_point, multi_line_string, multi_polygon}
 use Rattle.wkb_geom.specs.Geometries.{collection, IsCoordinate, IsPoint}
 use Rattle.wkb_laws.specs.Written.{written_header, empty_words, each_spelling, written_point, written_plain, written}
@@ -48,30 +47,11 @@ IsNumber-number_bytes LittleEndian n x h = record {
 pub Code-code_of : (form : Form) (k : ℕ) (d : Dimension) → 1 ≤ k → k ≤ 7
     → Code (code_of form k d) k d (is_some (form_srid form))
 unfolding code_of
-Code-code_of Iso k d low high =
-    record {
-      z = false;
-      m = false;
-      iso = d;
-      kind = record { low = low; high = high };
-      sum = omega arith;
-      has_z = refl;
-      has_m = refl;
-    }
-Code-code_of (Ewkb srid) k d low high = record {
-  z = has_z d;
-  m = has_m d;
-  iso = Xy;
-  kind = record { low = low; high = high };
-  sum = omega arith;
-  has_z = sym (or-false (has_z d));
-  has_m = sym (or-false (has_m d));
-}
+Code-code_of form k d low high = grind arith
 
 pub code_of-lt : (form : Form) (k : ℕ) (d : Dimension) → k ≤ 7 → code_of form k d < 256 ^ 4
 unfolding code_of
-code_of-lt Iso k d high = let most = thousands-most d in omega arith
-code_of-lt (Ewkb srid) k d high = omega (arith, bit-most, flag-bit)
+code_of-lt form k d high = grind arith
 
 count_fits : (n : ℕ) → count_fault n ≡ None → n < 256 ^ 4
 unfolding count_fault
@@ -101,9 +81,7 @@ all_good P f (a ∷ l) h e =
 -- the empty word is a NaN
 empty_coordinate : (d : Dimension)
     → (all_nan (replicate (width d) empty_word) ≡ true) × value.IsValueCoordinate d (replicate (width d) empty_word)
-empty_coordinate Xy = (refl, record { len = refl; words = (lit< tt, (lit< tt, tt)) })
-empty_coordinate Xyzm = (refl, record { len = refl; words = (lit< tt, (lit< tt, (lit< tt, (lit< tt, tt)))) })
-empty_coordinate _ = (refl, record { len = refl; words = (lit< tt, (lit< tt, (lit< tt, tt))) })
+empty_coordinate d = grind arith
 
 -- a coordinate of the right length, if there is one
 abbrev MayHave : Dimension → Option Coordinate → Type 0
@@ -130,8 +108,7 @@ module _ (order : Endianness) where
 
   some_body : (d : Dimension) (c : Coordinate) (b : Bool) → all_nan c ≡ b → value.IsValueCoordinate d c
       → SpellsBody order (if b then c else []) (value.point d (if b then None else Some c)) (words_encoding order c)
-  some_body d c true e h = (e, SpellsCoordinate-encoding d c h)
-  some_body d c false e h = (refl, e, SpellsCoordinate-encoding d c h)
+  some_body d c given e h = grind (arith, SpellsCoordinate-encoding d c h)
 
   point_body : (d : Dimension) (c : Option Coordinate) → MayHave d c
       → SpellsBody order (empty_words d c) (value.point d (normal_point c)) (words_encoding order (point_words d c))
@@ -204,8 +181,7 @@ module _ (order : Endianness) (form : Form) (h : IsForm form) where
       → Spells (node (written_header order form (kind t) (dimension t)) [] ss) t
       (members_encoding order form (kind t) (dimension t) n inside)
   unfolding members_encoding
-  list_spells t n ss inside low high body each =
-      all_spells [] ss t (number_bytes order 4 n) inside _ low high refl body each
+  list_spells t n ss inside low high body each = grind (arith, all_spells)
 
 -- a list of members, each with an encoding that spells it
 members_spell : {A : Type 0} (w : Wanted) (f : A → Value) (spell : A → Spelling) (t : A → List ℕ) (good : A → Type 0)
@@ -215,8 +191,7 @@ members_spell w f spell t good one [] h = refl
 members_spell w f spell t good one (a ∷ l) h = joined (t a) _ (one a h.0) (members_spell w f spell t good one l h.1)
 
 pub inner_fits : (form : Form) → IsForm (inner form) × (is_some (form_srid (inner form)) ≡ false)
-inner_fits Iso = (tt, refl)
-inner_fits (Ewkb srid) = (tt, refl)
+inner_fits form = grind arith
 
 -- a coordinate of a caller's geometry has as many words as the dimension's name says
 module _ (dims : Dimensions) (e : dimensions_fault dims ≡ None) where
@@ -224,24 +199,11 @@ module _ (dims : Dimensions) (e : dimensions_fault dims ≡ None) where
   coordinate_fits c h = record { len = h.len ∙ sym (width-written_dimension dims e); words = h.words }
 
   point_fits : (c : Option Coordinate) → IsPoint dims c → MayHave (written_dimension dims) c
-  point_fits None h = tt
-  point_fits (Some c) h = coordinate_fits c h
-
-word_at : (c : Coordinate) (i : ℕ) → AllByRecursion IsWord c → IsWord (slice_index c i)
-word_at [] i h = lit< tt
-word_at (w ∷ c) zero h = h.0
-word_at (w ∷ c) (suc i) h = word_at c i h.1
-
-corner_fits : (c e : Coordinate) (i j : ℕ) → AllByRecursion IsWord c → AllByRecursion IsWord e
-    → value.IsValueCoordinate Xy (slice_index c i ∷ slice_index e j ∷ [])
-corner_fits c e i j h k = record { len = refl; words = (word_at c i h, (word_at e j k, tt)) }
+  point_fits c h = grind (arith, coordinate_fits)
 
 rectangle_fits : (l g : Coordinate) → AllByRecursion IsWord l → AllByRecursion IsWord g
     → value.AreValueCoordinates Xy (rectangle_ring l g)
-rectangle_fits l g h k = (
-  corner_fits l l 0 1 h h,
-  (corner_fits l g 0 1 h k, (corner_fits g g 0 1 k k, (corner_fits g l 0 1 k h, (corner_fits l l 0 1 h h, tt)))),
-)
+rectangle_fits l g h k = grind (arith, common_steps)
 
 -- the members after a map
 each-map : {A B : Type 0} (f : B → Value) (g : A → B) (l : List A) → each f (map g l) ≡ each (λ a. f (g a)) l

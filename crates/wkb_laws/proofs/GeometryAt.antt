@@ -1,5 +1,5 @@
 -- Reading from left to right gives exactly the fronts and the refusals, at bounded costs.
-use Rattle.std.proofs.Common.{◌≡◌, ℕ, ◌+◌, ◌*◌, ◌≤◌, List, length, refl, arith, Ok, Err}
+use Rattle.std.proofs.Common.{◌≡◌, ℕ, ◌+◌, ◌*◌, ◌≤◌, List, length, refl, arith, Ok, Err, rules}
 use Rattle.wkb_laws.specs.Prelude.{any, max_nesting, Reading, Item, Layout, at_no_cost}
 unfoldable use Rattle.wkb_laws.specs.Prelude.{line_string_at}
 use Rattle.wkb_laws.specs.Laws.{Agrees, GeometryAgrees, FrontIsRead, RefusalIsRead, ReadingIsBounded}
@@ -29,9 +29,7 @@ refusal_is_read_lem input cause turns slots r = refusal_read r tt
 
 bounded : (input : List ℕ) (r : Reading Item) → Agrees input r
     → (4 * r.0.turns ≤ length input + 4) × (r.0.slots ≤ 15 * length input)
-bounded input (cost, Ok x) h =
-    let bounds = front_is_bounded_lem input x.0.spelled x.0.value x.1 h.0 in
-    (omega arith, omega arith)
+bounded input (cost, Ok x) h = search (rules, front_is_bounded_lem)
 bounded input (cost, Err e) h = refusal_is_bounded_lem input e.cause cost.turns cost.slots h
 
 pub reading_is_bounded_lem : ReadingIsBounded

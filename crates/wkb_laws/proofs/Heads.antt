@@ -13,10 +13,9 @@ use Rattle.wkb_laws.specs.Prelude.{Wanted, member_part, IsPart, has_srid, srid_s
 use Rattle.wkb_laws.specs.Prelude.{Refuses, no_order_byte, bad_order_byte, no_code, bad_code, no_count, Cost, Reading}
 use Rattle.wkb_laws.specs.Prelude.{Item, type_kind, layout_of, body_start, parts_start, head_at, head_by_order}
 use Rattle.wkb_laws.specs.Prelude.{head_by_code, srid_in, spelled_in, count_in, part, type_dimension, is_member}
-use Rattle.wkb_laws.specs.Prelude.{thousands, FrontWithin}
+use Rattle.wkb_laws.specs.Prelude.{FrontWithin}
 use Rattle.wkb_geom.proofs.Meanings.{meaning_holds}
 use Rattle.wkb_laws.proofs.Parts.{number-more, number_begins, begins_number, field_taken, length-opens}
-use Rattle.wkb_geom.proofs.Codes.{thousands_inj}
 
 -- what a reading says of the input: a front with its counts, or the refusal with its counts
 pub record ItemIs (room : ℕ) (w : Wanted) (input : List ℕ) (i : Item) (rest : List ℕ) (cost : Cost) : Type 0 where
@@ -192,9 +191,7 @@ abbrev pub IsWantedHead : ℕ → Dimension → Head → Type 0
 IsWantedHead k d h = IsPart (part k d) (type_kind h.wkb_type) (type_dimension h.wkb_type) h.has_srid
 
 pub passes : (k : ℕ) (d : Dimension) (h : Head) → is_member k d h ≡ true → IsWantedHead k d h
-passes k d h t =
-    let same : thousands (type_dimension h.wkb_type) ≡ thousands d = grind (arith, nat_tests) in
-    (grind (arith, nat_tests), thousands_inj _ d same, λ one. grind (arith, nat_tests))
+passes k d h t = grind (arith, nat_tests)
 
 pub is_passed : (k : ℕ) (d : Dimension) (h : Head) → IsWantedHead k d h → is_member k d h ≡ true
 is_passed k d h p = grind (arith, nat_tests)

@@ -112,9 +112,7 @@ pub none_in_points : (d : Dimension) (ss : Spellings) (ts : Values) (x : List �
 none_in_points d no_spellings ts x h = refl
 none_in_points d (spelling s ss) no_members x h = absurd h
 none_in_points d (spelling (node h own inside) ss) (member (point e c) ts) x a =
-    let own : srid_size (is_some h.srid) ≡ 0 = rw (a.first.1.2 refl) in
-    let inside = none_without_members _ inside _ a.first.0.second.second in
-    omega (arith, srid_size_is (is_some h.srid), none_in_points d ss ts a.rest a.second)
+    grind (arith, none_without_members, srid_size_is, none_in_points d ss ts a.rest a.second)
 none_in_points d (spelling s ss) (member t ts) x a = absurd (omega (arith, a.first.1.0))
 
 -- an encoding is as long as its value asks for, and four bytes for each SRID
@@ -181,10 +179,7 @@ any_srid order n _ = any_header order n _ _ _
 
 pub encoding_length : (order : Endianness) (form : Form) (g : Geometry) → IsGeometry g → fault g ≡ None
     → length (encoding order form g) ≡ value_size (normal g) + 4 * (if is_some (form_srid form) then 1 else 0)
-encoding_length order Iso g lawful fine = form_length order Iso g tt lawful fine
-encoding_length order (Ewkb None) g lawful fine = form_length order (Ewkb None) g tt lawful fine
-encoding_length order (Ewkb (Some n)) g lawful fine =
-    any_srid order n g ∙ form_length order (Ewkb (Some 0)) g (omega arith) lawful fine
+encoding_length order form g lawful fine = grind (arith, form_length, any_srid)
 
 pub length_of_encoding_lem : LengthOfEncoding
 length_of_encoding_lem order other form g _ lawful fine =
@@ -194,10 +189,7 @@ length_of_encoding_lem order other form g _ lawful fine =
 spelled_written : (order : Endianness) (s : Spelling) (t : Value) (x : List ℕ) → AreBytes x → Spells s t x
     → length x ≡ length (encoding order Iso (geometry_of t)) + 4 * srid_count s
 spelled_written order s t x b h =
-    let good = spelled_good s t x b h in
-    let written : length (encoding order Iso (geometry_of t)) ≡ value_size (normal (geometry_of t)) + 0 =
-    encoding_length order Iso (geometry_of t) (lawful-geometry_of t good.0) good.1 in
-    omega (arith, spelled_length s t x h, ap value_size (normal-geometry_of t good.0))
+    grind (arith, spelled_good, encoding_length, lawful-geometry_of, spelled_length, normal-geometry_of)
 
 pub length_of_front_lem : LengthOfFront
 length_of_front_lem order input s t rest b f =

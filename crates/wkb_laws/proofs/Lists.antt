@@ -1,5 +1,5 @@
 -- Lists of values, what holds of all items, and the kinds that are lists of members.
-use Rattle.std.proofs.Common.{ℕ, sum_by, ◌+◌, ◌*◌, sym, ap, ◌∙◌, ◌≡◌, List, [], ◌∷◌, length, refl, arith, zero, suc}
+use Rattle.std.proofs.Common.{ℕ, sum_by, ◌+◌, ◌*◌, sym, ap, ◌∙◌, ◌≡◌, List, [], ◌∷◌, length, refl, arith}
 use Rattle.std.proofs.Common.{◌<◌, ◌≤◌, ◌==◌, ◌&&◌, nat_lt, if◌then◌else◌}
 use Rattle.std.proofs.lemmas.List.Sums.{sum_by-cons}
 use Rattle.std.specs.List.{AllByRecursion}
@@ -36,11 +36,7 @@ count-each f l = omega (arith, each_same f count refl 1 (λ a ts. refl) l)
 
 -- what holds of each of the four holds of any
 pub by_list_kind : (Q : ℕ → Type 0) → Q 4 → Q 5 → Q 6 → Q 7 → (k : ℕ) → 3 < k → k ≤ 7 → Q k
-by_list_kind Q a b c d (suc (suc (suc (suc zero)))) low high = a
-by_list_kind Q a b c d (suc (suc (suc (suc (suc zero))))) low high = b
-by_list_kind Q a b c d (suc (suc (suc (suc (suc (suc zero)))))) low high = c
-by_list_kind Q a b c d (suc (suc (suc (suc (suc (suc (suc zero))))))) low high = d
-by_list_kind Q a b c d _ low high = absurd (omega arith)
+by_list_kind Q a b c d k low high = grind arith
 
 -- a part that is a member: of any kind, or a point, a line string or a polygon
 abbrev pub IsWanted : Wanted → Type 0

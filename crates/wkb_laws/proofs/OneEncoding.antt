@@ -4,7 +4,7 @@ use Rattle.std.proofs.Common.{refl, sym, ap, subst, ◌∙◌, arith, ◌/◌}
 use Rattle.std.proofs.lemmas.Nat.{div-mul-add}
 use Rattle.byteorder.specs.Endian.{big_from, little_from}
 use Rattle.byteorder.specs.Numbers.{big_from-cons, little_from-cons, big_from-lt}
-use Rattle.wkb_laws.specs.Prelude.{Endianness, BigEndian, LittleEndian, Dimension, AreBytes, IsNumber, number, Then}
+use Rattle.wkb_laws.specs.Prelude.{Endianness, Dimension, AreBytes, IsNumber, number, Then}
 use Rattle.wkb_laws.specs.Prelude.{IsEach, IsCounted, Coordinate, Value, Values, point, line_string, polygon}
 use Rattle.wkb_laws.specs.Prelude.{no_members, member, kind, dimension, members, Header, Spelling, node, Spellings}
 use Rattle.wkb_laws.specs.Prelude.{no_spellings, spelling, IsHeader, IsSrid, SpellsCoordinate, SpellsCoordinates}
@@ -50,9 +50,7 @@ little_fixed _ _ _ l m e h k = absurd (omega arith)
 
 pub number_fixed : (order : Endianness) (n v : ℕ) → Fixed (IsNumber order n v)
 unfolding number
-number_fixed BigEndian n v = record { same = λ x y a b h k. big_fixed n x y a.len b.len (a.value ∙ sym b.value) h k }
-number_fixed LittleEndian n v =
-    record { same = λ x y a b h k. little_fixed n x y a.len b.len (a.value ∙ sym b.value) h k }
+number_fixed order n v = grind (arith, big_fixed, little_fixed)
 
 together : {P Q : List ℕ → Type 0} → Fixed P → Fixed Q → (a b c d : List ℕ) → P a → P b → Q c → Q d → AreBytes (a ++ c)
     → AreBytes (b ++ d) → a ++ c ≡ b ++ d
@@ -62,11 +60,7 @@ together one other a b c d p q r s h k =
     cc
 
 then_fixed : {P Q : List ℕ → Type 0} → Fixed P → Fixed Q → Fixed (Then P Q)
-then_fixed one other = record {
-  same = λ x y a b h k.
-      rw (a.whole, b.whole) (together one other a.front b.front a.rest b.rest a.first b.first a.second b.second
-      (rw a.whole at h) (rw b.whole at k));
-}
+then_fixed one other = grind (arith, together)
 
 each_fixed : {A : Type 0} {P : A → List ℕ → Type 0} → ((a : A) → Fixed (P a)) → (l : List A) → Fixed (IsEach P l)
 each_fixed one [] = record { same = λ x y a b h k. a ∙ sym b }

@@ -31,6 +31,4 @@ one_spelling s u t v x y r q a b e =
     }
 
 pub one_front_lem : HasOneFront
-one_front_lem input s u t v rest more a b =
-    let same = one_spelling s u t v a.front b.front rest more a.spelled b.spelled (sym a.whole ∙ b.whole) in
-    (same.encoding, same.spelling, same.value, same.rest)
+one_front_lem input s u t v rest more a b = grind (arith, one_spelling)

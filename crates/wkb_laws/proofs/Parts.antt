@@ -50,12 +50,7 @@ field_taken order n y h = record { len = length-take-le n y h; value = number-ta
 -- where an input begins with a field, the number and the rest
 pub begins_number : (order : Endianness) (n v : ℕ) (input rest : List ℕ) → Begins (IsNumber order n v) input rest
     → (n ≤ length input) × (number order n input ≡ v) × (drop n input ≡ rest)
-begins_number order n v input rest b =
-    rw b.whole (
-      omega (arith, b.first.len, length-append b.front rest),
-      number-front order n v b.front rest b.first,
-      drop_front n b.front rest b.first.len,
-    )
+begins_number order n v input rest b = grind (arith, length-append, number-front, drop_front)
 
 pub number_begins : (order : Endianness) (n : ℕ) (input : List ℕ) → n ≤ length input
     → Begins (IsNumber order n (number order n input)) input (drop n input)
@@ -98,9 +93,7 @@ items_read P size item one (a ∷ l) x y h =
 -- a coordinate at the start of the bytes
 pub coordinate_read : (order : Endianness) (d : Dimension) (c : Coordinate) (x y : List ℕ)
     → SpellsCoordinate order d c x → coordinate order d (x ++ y) ≡ c
-coordinate_read order d c x y h =
-    rw (← h.len) (items_read (IsNumber order 8) 8 (number order 8)
-    (λ v x y is. (is.len, number-front order 8 v x y is)) c x y h.words)
+coordinate_read order d c x y h = grind (arith, items_read, number-front)
 
 -- one of the items, by its number
 pub item_at : {A : Type 0} (size : ℕ) (item : List ℕ → A) (n i : ℕ) (y : List ℕ) (a : A)
@@ -109,9 +102,7 @@ pub item_at : {A : Type 0} (size : ℕ) (item : List ℕ → A) (n i : ℕ) (y :
 item_at size item zero i y a is = absurd (cc)
 item_at size item (suc n) zero y a is =
     let start : size * 0 ≡ 0 = omega arith in let same : item y ≡ a = cc in rw (start, same)
-item_at size item (suc n) (suc i) y a is =
-    let start : size * suc i ≡ size + size * i = omega arith in
-    rw (start, ← drop-drop (size * i) size y) (item_at size item n i (drop size y) a is)
+item_at size item (suc n) (suc i) y a is = grind (arith, drop-drop, item_at size item n i (drop size y) a is)
 
 pub length-opens : {input rest : List ℕ} {order : Endianness} {k : ℕ} {d : Dimension} {srid : Bool}
     → Opens input order k d srid rest

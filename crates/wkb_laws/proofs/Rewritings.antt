@@ -1,5 +1,5 @@
 -- Values and outermost SRIDs are equal exactly where their encodings are.
-use Rattle.std.proofs.Common.{◌≡◌, ℕ, List, [], ◌++◌, refl, sym, ap, ◌∙◌, subst, append-nil}
+use Rattle.std.proofs.Common.{◌≡◌, ℕ, List, [], ◌++◌, refl, sym, ap, ◌∙◌, subst, append-nil, arith}
 use Rattle.wkb_laws.specs.Prelude.{Endianness, Form, Ewkb, AreBytes, Value, Spelling, node, header, Spells, Front}
 use Rattle.wkb_laws.specs.Prelude.{geometry_of, form_srid, encoding, IsForm}
 use Rattle.wkb_laws.specs.Written.{written, HasOptions}
@@ -19,9 +19,7 @@ outer_srid order form (node h words ss) k = k.1
 -- the encoding of a value spells it
 pub value_encoding : (order : Endianness) (form : Form) (t : Value) → IsForm form → Good t
     → Spells (written order form (geometry_of t)) t (encoding order form (geometry_of t))
-value_encoding order form t h good =
-    rw (normal-geometry_of t good.0) at
-    (encoding_spells order form (geometry_of t) h (lawful-geometry_of t good.0) good.1)
+value_encoding order form t h good = grind (arith, normal-geometry_of, encoding_spells, lawful-geometry_of)
 
 pub one_encoding : (order : Endianness) (form other : Form) (t v : Value) → IsForm form → IsForm other → Good t → Good v
     → encoding order form (geometry_of t) ≡ encoding order other (geometry_of v)

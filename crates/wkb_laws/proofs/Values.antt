@@ -15,7 +15,6 @@ use Rattle.wkb_laws.specs.Prelude.{node, Spellings, no_spellings, spelling, Spel
 use Rattle.wkb_laws.specs.Prelude.{SpellsBody, Wanted, member_part, Spells, SpellsEach, normal, normal_each}
 use Rattle.wkb_laws.specs.Prelude.{normal_point, geometry_of, geometries_of, Ewkb, Front, IsForm, count_fault}
 use Rattle.wkb_laws.specs.Prelude.{first_fault, coordinates_fault, rings_fault, fault, fault_each, count_geometries}
-use Rattle.wkb_geom.specs.declared.common.Dimensions.TheVariants as asked
 use Rattle.wkb_geom.specs.Geometries as geometry
 use Rattle.wkb_geom.proofs.Faults.{none_both}
 use Rattle.wkb_laws.specs.Laws.{NamedDimension}
@@ -34,11 +33,7 @@ or_else_three e =
 pub width-written_dimension : (dims : Dimensions) → dimensions_fault dims ≡ None
     → width (written_dimension dims) ≡ size dims
 unfolding dimensions_fault
-width-written_dimension asked.Xy e = refl
-width-written_dimension asked.Xyz e = refl
-width-written_dimension asked.Xym e = refl
-width-written_dimension asked.Xyzm e = refl
-width-written_dimension (asked.Unknown n) e = grind (arith, nat_tests)
+width-written_dimension dims e = grind (arith, nat_tests)
 
 -- the parts of bytes are bytes
 pub AreBytes-front : (x y : List ℕ) → AreBytes (x ++ y) → AreBytes x
