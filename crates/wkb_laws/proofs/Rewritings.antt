@@ -62,6 +62,8 @@ equal_spelled_with_srid_lem order i j s u t v x y h k b b' a a' = (
   λ e. ap (λ z. encoding order (Ewkb i) (geometry_of z)) e.0 ∙ ap (λ z. encoding order (Ewkb z) (geometry_of v)) e.1,
 )
 
+pub ruleset spelled_laws = (equal_spelled_lem, equal_spelled_with_srid_lem)
+
 pub equal_encodings_lem : EqualEncodings
 equal_encodings_lem order form a b s u t v rest more h ab bb f g =
     equal_spelled_lem order form s u t v f.front g.front h (front_bytes a s t rest ab f)

@@ -31,11 +31,13 @@ pub fn rings_stand()
 {}
 
 /// The bytes that spell a member are those of the whole at its place: after the count and the members before it.
+#[tactic(auto, using(crate::proofs::PartsInPlace::members_in_place_lem))]
 pub fn members_in_place()
     ensures { MembersInPlace }
 {}
 
 /// A member begins where the one before it ends, and the first of them where the count ends. So do rings.
+#[tactic(auto, using(crate::proofs::PartsInPlace::start_laws))]
 pub fn next_start()
     ensures first { FirstStart }
     ensures next { NextStart }
