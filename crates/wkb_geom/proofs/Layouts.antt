@@ -11,7 +11,7 @@ use Rattle.wkb_geom.specs.declared.header.Layout.{Layout}
 use Rattle.wkb_geom.specs.declared.error.Cause.{Cause}
 use Rattle.wkb_geom.specs.Meanings.{has_srid_flag}
 use Rattle.wkb_geom.specs.Numbers.{number}
-use Rattle.wkb_geom.specs.Reading.{Meaning, meaning_of, type_kind, type_dimension, same_dimension, head_by_code}
+use Rattle.wkb_geom.specs.Reading.{Meaning, meaning_of, head_by_code}
 use Rattle.wkb_geom.specs.Reading.{head_by_order, head_at, order_of_byte, laid, layout_wanted, member_layout}
 
 -- the layout of a member of this order and code
@@ -33,15 +33,11 @@ laid_if order d a b one srid =
 
 wanted_by : (order : Endianness) (d : Dimension) (a b one srid : Bool) → IsOk (laid_if order d a b one srid)
     → laid_if order d a b one srid ≡ Ok (laid order d (if one then false else srid))
-wanted_by order d true true true false h = refl
-wanted_by order d true true false srid h = refl
-wanted_by order d _ _ _ _ h = absurd cc
+wanted_by order d a b one srid h = grind arith
 
 wanted : (k : ℕ) (d : Dimension) (h : Head) → IsOk (layout_wanted k d (Ok h))
     → layout_wanted k d (Ok h) ≡ Ok (laid h.order d (if k == 1 then false else h.has_srid))
-wanted k d h is =
-    wanted_by h.order d (type_kind h.wkb_type == k) (same_dimension (type_dimension h.wkb_type) d)
-    (k == 1) h.has_srid is
+wanted k d h is = grind arith
 
 flag_of : (t : Bool) (m n : Meaning) → (if t then Some m else None) ≡ Some n → n.has_srid ≡ m.has_srid
 flag_of true m n e = let same : m ≡ n = cc in ap (λ (x : Meaning). x.has_srid) (sym same)
@@ -56,9 +52,7 @@ by_code : (k : ℕ) (d : Dimension) (order : Endianness) (c : ℕ) (m : Option M
     → IsOk (layout_wanted k d (head_by_code order c m))
     → layout_wanted k d (head_by_code order c m) ≡ Ok (layout_by k d order c)
 by_code k d order c None e h = absurd cc
-by_code k d order c (Some m) e h =
-    wanted k d (record { order = order; wkb_type = m.wkb_type; has_srid = m.has_srid }) h
-    ∙ ap (λ (s : Bool). Ok (laid order d (if k == 1 then false else s))) (flag_meant c m e)
+by_code k d order c (Some m) e h = grind (arith, wanted, flag_meant)
 
 -- the header behind an order, by whether the bytes are too short for one
 abbrev head_if : Bool → Endianness → List ℕ → Result Head Cause
@@ -69,13 +63,7 @@ by_length : (k : ℕ) (d : Dimension) (order : Endianness) (behind : List ℕ) (
     → nat_lt (length behind) 4 ≡ short
     → IsOk (layout_wanted k d (head_if short order behind))
     → Known k d (Some order) behind (layout_wanted k d (head_if short order behind))
-by_length k d order behind true e h = absurd cc
-by_length k d order behind false e h = record {
-  order = order;
-  order_is = refl;
-  whole = ltb-false (length behind) 4 e;
-  layout_is = by_code k d order (number order 4 behind) (meaning_of (number order 4 behind)) refl h;
-}
+by_length k d order behind short e h = grind (arith, ltb-false, by_code)
 
 by_order : (k : ℕ) (d : Dimension) (first : Option Endianness) (behind : List ℕ)
     → IsOk (layout_wanted k d (head_by_order first behind))

@@ -1,5 +1,5 @@
 -- What codes stand for: the number is taken apart flag by flag, and what is read is the one meaning.
-use Rattle.std.proofs.Common.{◌≡◌, ◌⊎◌, ℕ, zero, suc, ◌+◌, ◌-◌, ◌*◌, ◌/◌, ◌%◌, ◌<◌, ◌≤◌, Option, Some, None, Bool, true}
+use Rattle.std.proofs.Common.{◌≡◌, ◌⊎◌, ℕ, suc, ◌+◌, ◌-◌, ◌*◌, ◌/◌, ◌%◌, ◌<◌, ◌≤◌, Option, Some, None, Bool, true}
 use Rattle.std.proofs.Common.{false, refl, sym, ap, ◌∙◌, subst, arith, inl, inr}
 use Rattle.std.specs.Cmp.{first_so, second_so}
 use Rattle.std.specs.Prelude.{nat_le, nat_lt, ◌&&◌, ◌||◌, if◌then◌else◌}
@@ -28,24 +28,12 @@ below_flags : (c z m s z' m' s' a b n rest : ℕ) → c ≡ z * 0x80000000 + a �
     → b ≡ s * 0x20000000 + n → (s ≡ 1) ⊎ (n < 0x20000000) → z' ≤ 1 → m' ≤ 1 → s' ≤ 1
     → z ≤ 1 → m ≤ 1 → s ≤ 1 → rest < 4000
     → c ≡ z' * 0x80000000 + m' * 0x40000000 + s' * 0x20000000 + rest → n ≡ rest
-below_flags c z m s z' m' s' a b n rest ea la eb lb en ln hz hm hs iz im is small e =
-    let same_z : z ≡ z' = omega arith in
-    let same_m : m ≡ m' = omega arith in
-    let same_s : s ≡ s' = omega arith in
-    omega arith
+below_flags c z m s z' m' s' a b n rest ea la eb lb en ln hz hm hs iz im is small e = grind arith
 
 code_is : (c k : ℕ) (d : Dimension) (z m s : Bool) (a b n : ℕ) (iso : Dimension) → has_z d ≡ (z || has_z iso)
     → has_m d ≡ (m || has_m iso)
     → c ≡ flag z 0x80000000 + a → a ≡ flag m 0x40000000 + b → b ≡ flag s 0x20000000 + n → IsIso n iso k → Code c k d s
-code_is c k d z m s a b n iso dz dm ea eb en h = record {
-  z = z;
-  m = m;
-  iso = iso;
-  kind = record { low = h.0; high = h.1 };
-  sum = omega arith;
-  has_z = dz;
-  has_m = dm;
-}
+code_is c k d z m s a b n iso dz dm ea eb en h = grind arith
 
 no_meaning : (c : ℕ) (z m s : Bool) (a b n : ℕ) → c ≡ flag z 0x80000000 + a → (z ≡ false → a < 0x80000000)
     → a ≡ flag m 0x40000000 + b → (m ≡ false → b < 0x40000000) → b ≡ flag s 0x20000000 + n
@@ -71,9 +59,7 @@ if_holds Q false x y f g = g refl
 
 pub type_kind-type_of : (k : ℕ) (d : Dimension) → 1 ≤ k → k ≤ 7
     → (type_kind (type_of k d) ≡ k) × (type_dimension (type_of k d) ≡ d)
-type_kind-type_of zero d low high = absurd (omega arith)
-type_kind-type_of (suc (suc (suc (suc (suc (suc (suc (suc k)))))))) d low high = absurd (omega arith)
-type_kind-type_of _ d low high = (refl, refl)
+type_kind-type_of k d low high = grind arith
 
 without_by : (c worth : ℕ) (b : Bool) → nat_le worth c ≡ b
     → (c ≡ flag b worth + (if b then c - worth else c)) × (b ≡ false → (if b then c - worth else c) < worth)
@@ -85,14 +71,10 @@ without_by c worth false e =
     clash f = cc
 
 has_z-with : (z m : Bool) → has_z (dimension_with z m) ≡ z
-has_z-with false false = refl
-has_z-with true true = refl
-has_z-with _ _ = refl
+has_z-with z m = grind arith
 
 has_m-with : (z m : Bool) → has_m (dimension_with z m) ≡ m
-has_m-with false false = refl
-has_m-with true true = refl
-has_m-with _ _ = refl
+has_m-with z m = grind arith
 
 thousands-iso : (q : ℕ) → q < 4 → thousands (iso_dimension q) ≡ q
 thousands-iso (suc (suc (suc (suc q)))) h = absurd (omega arith)
@@ -157,11 +139,7 @@ unfolding meaning_of
 meaning_by c table = ap (λ (x : Bool). if x then Some (meant c) else None) (sym table)
 
 iso_of_thousands : (q : ℕ) (d : Dimension) → Some d ≡ dimension_of_thousands q → d ≡ iso_dimension q
-iso_of_thousands zero d e = cc
-iso_of_thousands (suc zero) d e = cc
-iso_of_thousands (suc (suc zero)) d e = cc
-iso_of_thousands (suc (suc (suc zero))) d e = cc
-iso_of_thousands (suc (suc (suc (suc q)))) d e = grind (arith, nat_tests)
+iso_of_thousands q d e = grind (arith, nat_tests)
 
 -- the meaning, from the steps that find it
 pub meaning_is : (c a b n : ℕ) (iso d : Dimension) (t : WkbType)
