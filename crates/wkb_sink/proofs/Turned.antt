@@ -2,7 +2,7 @@
 use Rattle.wkb_sink.proofs.Prelude.{◌≡◌, ℕ, zero, suc, ◌+◌, ◌-◌, ◌*◌, ◌<◌, ◌≤◌, List, [], ◌∷◌, ◌++◌, length, take, drop}
 use Rattle.wkb_sink.proofs.Prelude.{Some, refl, sym, ap, ◌∙◌, arith, slice_get, slice_index, length-append, flat_map}
 use Rattle.wkb_sink.proofs.Prelude.{flat_map-append, length-drop, length-take-le, Endianness, words_encoding}
-use Rattle.wkb_sink.proofs.Prelude.{take_all, append_assoc, subst}
+use Rattle.wkb_sink.proofs.Prelude.{take_all, append_assoc}
 use Rattle.std.proofs.Math.Nat.{mul-add}
 use Rattle.std.specs.List.{AllByRecursion, concat}
 use Rattle.std.proofs.lemmas.Option.{slice_get-get_or}
@@ -26,9 +26,7 @@ read_back LittleEndian w rest h = little_number-reads_back 8 w rest (omega (arit
 pub words_length : (order : Endianness) (ws : List ℕ) → length (words_encoding order ws) ≡ 8 * length ws
 unfolding words_encoding
 words_length order [] = refl
-words_length order (w ∷ ws) =
-    let whole = length-append (number_bytes order 8 w) (flat_map (number_bytes order 8) ws) in
-    omega (arith, whole, length-number order 8 w, words_length order ws)
+words_length order (w ∷ ws) = grind (arith, length-append, flat_map, length-number, words_length order ws)
 
 -- the word at an index, read off the bytes
 pub word_at : (order : Endianness) (ws : List ℕ) (i : ℕ) → AllByRecursion IsWord ws → i < length ws
@@ -63,10 +61,7 @@ two_words_more order words all part i k first second behind one two stored fits 
 pub behind_pairs : (order : Endianness) (words all : List ℕ) (pair i : ℕ)
     → take (16 * pair) all ≡ words_encoding order (take (2 * pair) words) → 2 * pair ≡ i
     → take (8 * i) all ≡ words_encoding order (take i words)
-behind_pairs order words all pair i behind many =
-    let place : 8 * (2 * pair) ≡ 16 * pair = omega arith in
-    subst (λ n. take (8 * n) all ≡ words_encoding order (take n words)) many
-    (ap (λ k. take k all) place ∙ behind)
+behind_pairs order words all pair i behind many = grind arith
 
 -- of words at hand
 pub stored_two_more : (order : Endianness) (words all part : List ℕ) (i k : ℕ)
@@ -95,9 +90,7 @@ stored_last order words all part i k n word is behind item stored last fits part
 pub word_held : (held : Endianness) (words lent : List ℕ) (at i word : ℕ) → AllByRecursion IsWord words
     → lent ≡ words_encoding held words → at ≡ 8 * i → word ≡ number held 8 (drop at lent) → i < length words
     → slice_get words i ≡ Some word
-word_held held words lent at i word fit is place read more =
-    word_at held words i fit more
-    ∙ ap Some ((λ j. number held 8 (drop (sym place j) (sym is j))) ∙ sym read)
+word_held held words lent at i word fit is place read more = grind (arith, word_at)
 
 -- of words that are read in one order, and stored in another
 pub turned_two_more : (held order : Endianness) (words lent all part : List ℕ) (i k first second : ℕ)
@@ -110,9 +103,7 @@ pub turned_two_more : (held order : Endianness) (words lent all part : List ℕ)
     → 2 * i + 1 < length words → 16 * i ≤ length all → 16 ≤ length part
     → take (16 * (i + 1)) (put_mid (16 * i) k all part) ≡ words_encoding order (take (2 * (i + 1)) words)
 turned_two_more held order words lent all part i k first second fit is behind one two stored more fits part_fits =
-    two_words_more order words all part i k first second behind
-    (word_held held words lent (16 * i) (2 * i) first fit is (omega arith) one (omega (arith, more)))
-    (word_held held words lent (16 * i + 8) (2 * i + 1) second fit is (omega arith) two more) stored fits part_fits
+    grind (arith, two_words_more, word_held)
 
 -- a run of items of k bytes each
 run_front : {X : Type 0} (f : X → List ℕ) (k : ℕ) (xs : List X) (to : ℕ) → AllByRecursion (λ x. length (f x) ≡ k) xs
@@ -135,10 +126,7 @@ run_bytes f k xs zero to h order within =
 run_bytes f k xs (suc from) zero h order within = absurd (omega arith)
 run_bytes f k [] (suc from) (suc to) h order within = absurd (omega arith)
 run_bytes f k (x ∷ xs) (suc from) (suc to) h order within =
-    let place : k * suc from ≡ length (f x) + k * from = omega (arith, h.0) in
-    let many : k * suc to - k * suc from ≡ k * to - k * from = omega arith in
-    rw (many, place, drop-append-add (f x) (flat_map f xs) (k * from))
-    (run_bytes f k xs from to h.1 (omega arith) (omega arith))
+    grind (arith, drop-append-add, flat_map, run_bytes f k xs from to h.1 (omega arith) (omega arith))
 
 items_fit : {X : Type 0} (f : X → List ℕ) (k : ℕ) (xs : List X) (n : ℕ) → AllByRecursion (λ x. length (f x) ≡ k) xs
     → n ≤ length xs
@@ -157,13 +145,7 @@ module _ {X : Type 0} (f : X → List ℕ) (k : ℕ) (xs : List X) {all : List �
   module _ {from : ℕ} {part : List ℕ} (order : from ≤ to) (lent : part ≡ take (k * to - k * from) (drop (k * from) all))
     where
       pub run_length : length part ≡ k * (to - from)
-      run_length =
-          let parts : to ≡ from + (to - from) = omega arith in
-          let whole : k * to ≡ k * from + k * (to - from) = ap (λ n. k * n) parts ∙ mul-add k from (to - from) in
-          let left = length-drop (k * from) all in
-          ap length lent
-          ∙ length-take-le (k * to - k * from) (drop (k * from) all) (omega (arith, left, whole, run_within))
-          ∙ omega (arith, whole)
+      run_length = grind (arith, mul-add, length-drop, length-take-le, run_within)
 
       pub run_lent : part ≡ flat_map f (drop from (take to xs))
       run_lent = lent ∙ rw is (run_bytes f k xs from to each order within)
@@ -188,9 +170,7 @@ pub words_joined : (order : Endianness) (cs : List (List ℕ))
     → words_encoding order (concat cs) ≡ flat_map (words_encoding order) cs
 unfolding words_encoding
 words_joined order [] = refl
-words_joined order (c ∷ cs) =
-    flat_map-append (number_bytes order 8) c (concat cs)
-    ∙ ap (λ l. flat_map (number_bytes order 8) c ++ l) (words_joined order cs)
+words_joined order (c ∷ cs) = grind (arith, flat_map-append, flat_map, words_joined order cs)
 
 are_words : (xs ys : List ℕ) → AllByRecursion IsWord xs → AllByRecursion IsWord ys → AllByRecursion IsWord (xs ++ ys)
 are_words [] ys h k = k
