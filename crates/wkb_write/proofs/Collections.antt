@@ -97,10 +97,8 @@ module _ {X : Type 0} (f : X → Geometry) where
         → (count_fault (length xs) ≡ None) × (n ≡ length xs) → total ≡ capped (before + (4 + 5 * n))
         → Ahead (λ x. member_measure (f x)) (measure_after before (collection_of f d xs)) total xs 0
     unfolding or_else
-    members_ahead before total supported counted sum = record {
-      fault = rw (supported, count-geometries xs, counted.0) (faults-geometries xs);
-      size = omega (arith, sizes-geometries xs, counted.1, sum);
-    }
+    members_ahead before total supported counted sum =
+        grind (arith, fault, count-geometries, counted, faults-geometries, sizes-geometries)
 
 -- a collection that a value is: where it has no fault, and where it was measured or put
 module _ {X : Type 0} {geo : Geometry} {read d : Dimensions} (f : X → Geometry) (xs : List X) (same : read ≡ d)

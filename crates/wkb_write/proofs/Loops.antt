@@ -52,11 +52,7 @@ pub head_laid : {X : Type 0} {a b : Progress} {whole : List ℕ} {f : X → List
     (order : Endianness) (header : List ℕ) → whole ≡ header ++ counted order f xs → n ≡ length xs
     → IsLaid a b (header ++ number_bytes order 4 n) → HasLaid a b whole f xs 0
 unfolding counted
-head_laid {n = n} order header is count p = record {
-  front = header ++ number_bytes order 4 n;
-  is = is ∙ rw (← count, append_assoc) refl;
-  laid = p;
-}
+head_laid {n = n} order header is count p = grind (arith, number_bytes, append_assoc)
 
 -- where the header or the count was cut, the whole was
 pub head_cut : {X : Type 0} {a b : Progress} {whole : List ℕ} {n : ℕ} (order : Endianness) (header : List ℕ)
@@ -114,9 +110,7 @@ module _ {X : Type 0} {a b : Progress} {whole : List ℕ} {f : X → List ℕ} {
 coordinate_left : (order : Endianness) (d : Dimensions) (cs : List (List ℕ)) (i : ℕ) → AreCoordinates d cs
     → i < length cs → 8 * size d ≤ length (flat_map (words_encoding order) (drop i cs))
 coordinate_left order d [] i lawful more = absurd (omega arith)
-coordinate_left order d (c ∷ cs) zero lawful more =
-    let whole = length-append (words_encoding order c) (flat_map (words_encoding order) cs) in
-    omega (arith, whole, words_length order c, lawful.0.len)
+coordinate_left order d (c ∷ cs) zero lawful more = grind (arith, length-append, words_encoding, flat_map, words_length)
 coordinate_left order d (c ∷ cs) (suc i) lawful more = coordinate_left order d cs i lawful.1 (omega arith)
 
 -- there was no room for the next coordinate

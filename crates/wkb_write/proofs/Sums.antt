@@ -1,6 +1,6 @@
 -- Parts one after another, as a loop measures them.
-use Rattle.wkb_write.proofs.Prelude.{◌≡◌, ℕ, ◌+◌, ◌*◌, ◌^◌, ◌<◌, ◌≤◌, List, [], length, drop, None, Result, Ok, Err}
-use Rattle.wkb_write.proofs.Prelude.{refl, subst, ap, ◌∙◌, ◌∷◌, arith, Fault, first_fault, or_else, count_below}
+use Rattle.wkb_write.proofs.Prelude.{◌≡◌, ℕ, ◌+◌, ◌*◌, ◌^◌, ◌<◌, ◌≤◌, List, length, drop, None, Result, Ok}
+use Rattle.wkb_write.proofs.Prelude.{refl, subst, ◌∙◌, arith, Fault, first_fault, or_else, count_below}
 use Rattle.wkb_write.proofs.Prelude.{drop_all, sum_by, sum_by-cons, count_fault, Finds, Measures, capped, Measure}
 use Rattle.wkb_write.proofs.Prelude.{parts_fault, parts_size}
 use Rattle.std.proofs.lemmas.Nat.{mul-le}
@@ -30,9 +30,7 @@ count_found part xs n e is finds = reports_first e _ _ (subst (λ k. Finds e (co
 
 -- the bytes that all parts begin with fit `usize`
 pub headers_fit : (header n : ℕ) → header < 2 ^ 8 → count_fault n ≡ None → 4 + header * n < 2 ^ 64
-headers_fit header n short counted =
-    let few = count_below n counted in
-    omega (arith, mul-le header n (2 ^ 8) (2 ^ 32) (omega (arith, short)) (omega (arith, few)))
+headers_fit header n short counted = grind (arith, count_below, mul-le)
 
 module _ {X : Type 0} {part : X → Measure} {whole : Measure} {total : ℕ} {xs : List X} {i : ℕ}
     (ahead : Ahead part whole total xs i) where
@@ -63,11 +61,7 @@ module _ {X : Type 0} {part : X → Measure} {whole : Measure} {total : ℕ} {xs
   pub last_part : (r : Result ℕ Fault) → ItemAt xs i (λ x. Measures (part x).fault (total + (part x).size) r)
       → length xs ≤ i + 1 → Measures whole.fault whole.size r
   unfolding first_fault or_else
-  last_part (Ok m) at end =
-      let one = at.rest ∙ ap (λ l. at.item ∷ l) (drop_all (i + 1) xs end) in
-      let sizes = sum_by-cons (λ x. (part x).size) at.item [] in
-      (rw (one, at.holds.0) at ahead.fault, omega (arith, rw one at ahead.size, sizes, at.holds.1))
-  last_part (Err e) at end = found e at
+  last_part r at end = grind (arith, drop_all, sum_by-cons, found)
 
   -- all parts
   pub all_parts : length xs ≤ i → (whole.fault ≡ None) × (capped total ≡ capped whole.size)
