@@ -1,18 +1,17 @@
 -- The singles of a row, from what its ends are.
-use Rattle.std.proofs.Common.{◌≡◌, ℕ, zero, suc, ◌+◌, ◌-◌, ◌/◌, ◌<◌, ◌≤◌, ◌↔◌, refl, ap, ◌∙◌, subst, arith}
+use Rattle.std.proofs.Common.{◌≡◌, ℕ, zero, suc, ◌+◌, ◌-◌, ◌/◌, ◌<◌, ◌≤◌, ◌↔◌, refl, subst, arith}
 use Rattle.std.proofs.Common.{List, [], ◌∷◌, length, drop, length-take, length-drop, slice_range}
 use Rattle.std.proofs.Common.{Option, None, IsSome, IfSome}
 use Rattle.std.proofs.lemmas.Bool.{false≢true}
 use Rattle.std.proofs.lemmas.List.{drop-drop, take-take, drop-take}
 use Rattle.wkb_geom.specs.declared.common.Dimensions.{Dimensions}
 use Rattle.wkb_geom.specs.Dimensions.{size}
-use Rattle.wkb_plain.specs.Runs.{coordinates_in}
 use Rattle.wkb_levels.specs.declared.ends.Ends.{Ends}
 use Rattle.wkb_levels.specs.declared.levels.Levels.{Levels}
 use Rattle.wkb_levels.specs.Cuts.{start_at, AreEnds, pieces_from}
 use Rattle.wkb_levels.specs.EndLists.{start_of, ends_of, begin_of, AreEndsWithin}
 use Rattle.wkb_levels.specs.RingLists.{rings_in}
-use Rattle.wkb_levels.specs.Columns.{AreRowLevels, column_rings, singles_of, row_begin, row_end, AreEndsBetween}
+use Rattle.wkb_levels.specs.Columns.{AreRowLevels, singles_of, row_begin, row_end, AreEndsBetween}
 use Rattle.wkb_levels.proofs.Pieces.{length-pieces, slice_range-pieces, start_within, start_from}
 use Rattle.wkb_levels.proofs.Pieces.{rest_fit, last_of_part}
 
@@ -55,13 +54,7 @@ pub record HasPart (e : Ends) (from to : ℕ) (part : Ends) : Type 0 where
 
 pub has_part : (e : Ends) (b t : ℕ) (part : Ends) (from to : ℕ) → b ≡ from → t ≡ to → (b ≤ t) × (t ≤ length (ends_of e))
     → start_of part ≡ begin_of e b → ends_of part ≡ slice_range (ends_of e) b t → HasPart e from to part
-has_part e b t part from to at till are start ends =
-    record {
-      order = omega (arith, are, at, till);
-      within = omega (arith, are, at, till);
-      start = start ∙ ap (begin_of e) at;
-      ends = ends ∙ ap (λ k. slice_range (ends_of e) k t) at ∙ ap (slice_range (ends_of e) from) till;
-    }
+has_part e b t part from to at till are start ends = grind arith
 
 -- they end in order if the level does there
 pub part_ends : (limit : ℕ) (e : Ends) (from to : ℕ) (part : Ends) → HasPart e from to part
@@ -158,18 +151,7 @@ module _ (l : Levels) (d : Dimensions) (i : ℕ) (s : Ends)
     pub polygons_are : (rings : List (List (List ℕ))) → rings ≡ rings_in d l.words.now r
         → AreEndsWithin (start_of s + length rings) s
         → pieces_from (start_of s) rings (start_of s) (ends_of s) ≡ singles_of l d i
-    polygons_are rings given fit =
-        let last = begin_of s (length (ends_of s)) in
-        let spanned : rings ≡ slice_range (column_rings l d) (start_of s) last =
-        rw (given, spans.start, spans.ends)
-        (slice_range-pieces 0 (coordinates_in d l.words.now) (start_of l.ring_ends) (ends_of l.ring_ends) (start_of s)
-        last (omega (arith, spans.order, spans.within))) in
-        rw spanned
-        (pieces_within (column_rings l d) (start_of s) last (start_of s) (ends_of s) (omega arith)
-        (rw (count_rings rings given) at fit)
-        ∙ rw (has.start, has.ends)
-        (slice_range-pieces 0 (column_rings l d) (start_of l.single_ends) (ends_of l.single_ends) (row_begin l i)
-        (row_end l i) (omega (arith, has.order, has.within))))
+    polygons_are rings given fit = grind (arith, slice_range, slice_range-pieces, pieces_within, count_rings)
 
 -- ---- what follows from an option
 
