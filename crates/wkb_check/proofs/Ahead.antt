@@ -109,26 +109,13 @@ here d = geometry_of_front d.front
 pub found_header : {buf : List ℕ} {found : Summary} → DescribesFront buf found → {k : ℕ} {d : Dimension}
     → k ≡ type_kind found.wkb_type → d ≡ type_dimension found.wkb_type
     → IsHeaderAt buf 0 k d found.order found.srid
-found_header f k_is d_is = λ g.
-    let same = one_spelling f.spelled g.spelled f.value g.value f.front.front g.begins.front f.rest g.rest
-    f.front.spelled g.begins.first (sym f.front.whole ∙ g.begins.whole) in
-    rw (← same.spelling, ← same.value)
-    (record {
-      kind_is = k_is ∙ ap type_kind f.described.wkb_type ∙ type_kind_is f.value;
-      dimension_is = d_is ∙ ap type_dimension f.described.wkb_type ∙ type_dimension_is f.value;
-      order_is = f.described.order;
-      srid_is = f.described.srid;
-    })
+found_header f k_is d_is = grind (arith, one_spelling, type_kind_is, type_dimension_is)
 
 -- the header of a geometry determines its piece
 pub piece_by : (at : ℕ) (s : Spelling) (t : Value) {k : ℕ} {d : Dimension} {order : Endianness} {srid : Option ℕ}
     → HeaderIs s t k d order srid → (p : Piece) → p ≡ piece_of at s t
     → record { kind_is : p.kind ≡ k; dimension_is : p.dimension ≡ d; order_is : p.order ≡ order }
-piece_by at (node h words ss) t is p e = record {
-  kind_is = ap (λ (q : Piece). q.kind) e ∙ sym is.kind_is;
-  dimension_is = ap (λ (q : Piece). q.dimension) e ∙ sym is.dimension_is;
-  order_is = ap (λ (q : Piece). q.order) e ∙ sym is.order_is;
-}
+piece_by at (node h words ss) t is p e = grind arith
 
 -- the number of a kind is the code of that kind
 pub bare_meant : (k : ℕ) → 1 ≤ k → k ≤ 7 → meaning_of k ≡ Some (meaning (type_of k Xy) false)

@@ -13,7 +13,7 @@ use Rattle.wkb_check.specs.Pieces.{bytes_left, AreRings, IsRing}
 use Rattle.wkb_check.specs.declared.pieces.Piece.{Piece}
 use Rattle.wkb_check.specs.declared.pieces.Pieces.{Pieces}
 use Rattle.wkb_check.proofs.Placing.{First, alone, first_one, Inside, leaf_inside, rings_inside}
-use Rattle.wkb_check.proofs.Placing.{members_inside, inner, itself_first, geometry_inside, onward, none_of, begun_at}
+use Rattle.wkb_check.proofs.Placing.{members_inside, inner, itself_first, geometry_inside, onward, begun_at}
 use Rattle.wkb_check.proofs.Rings.{NextRing, next_ring}
 use Rattle.wkb_check.proofs.Joining.{few_geometries, joined}
 
@@ -33,9 +33,7 @@ module _ (w : Pieces) (ahead : HasAhead w) (some : 0 < w.rings) (p : Piece)
     (is : p ≡ ring_piece w.order w.dimension w.at (number w.order 4 (drop w.at w.bytes.now))) where
   ring_after : {xs : List Piece} → IsAhead w xs → (next : ℕ) → next ≡ own_end p
       → NextRing w.bytes.now w.order w.dimension w.rings (w.rings - 1) w.at next
-  ring_after a next ends =
-      next_ring w.bytes.now w.order w.dimension w.rings _ w.at next a.whole (omega (arith, some))
-      (ends ∙ ap own_end is)
+  ring_after a next ends = grind (arith, next_ring)
 
   pub ring_inside : own_end p ≤ length w.bytes.now
   ring_inside = (ring_after ahead.are (own_end p) refl).inside
@@ -76,11 +74,7 @@ pub ruleset ring_laws = (ring_inside, ring_takes)
 
 pub none_ahead : {buf : List ℕ} {order : Endianness} {d : Dimension} {r n at : ℕ} {xs : List Piece}
     → Ahead buf order d r n at xs → r ≤ 0 → n ≤ 0 → xs ≡ []
-none_ahead {buf = buf} {order = order} {d = d} {n = n} {at = at} {xs = xs} a e none =
-    let c : Ahead buf order d 0 n at xs = subst (λ r. Ahead buf order d r n at xs) (omega (arith, e)) a in
-    c.are
-    ∙ ap (λ ts. pieces_from at (subjects_of_each c.all.spelled ts))
-    (none_of c.all.values (omega (arith, none, c.all.counted)))
+none_ahead {buf = buf} {order = order} {d = d} {n = n} {at = at} {xs = xs} a e none = grind arith
 
 module _ (w : Pieces) {xs : List Piece} (a : IsAhead w xs) (none : w.rings ≡ 0) (some : 0 < w.geometries) where
   to_come : Ahead w.bytes.now w.order w.dimension 0 w.geometries w.at xs
@@ -187,19 +181,11 @@ fewer_left s = omega (arith, s.further, s.inside.ends, s.inside.inside, ap lengt
 -- a ring that was taken, and those after it
 pub ring_of : {order : Endianness} {d : Dimension} {w : Pieces} {p : Piece} → AreRings order d w
     → IsRing w.order w.dimension p → IsRing order d p
-ring_of are is = record {
-  kind_is = is.kind_is;
-  order_is = is.order_is ∙ are.order_is;
-  dimension_is = is.dimension_is ∙ are.dimension_is;
-}
+ring_of are is = grind arith
 
 pub rings_after : {order : Endianness} {d : Dimension} {w now : Pieces} → AreRings order d w
     → AreRings w.order w.dimension now → AreRings order d now
-rings_after before after = record {
-  order_is = after.order_is ∙ before.order_is;
-  dimension_is = after.dimension_is ∙ before.dimension_is;
-  alone = after.alone;
-}
+rings_after before after = grind arith
 
 -- what calls of `next` gave, and what is to come after them, are the pieces that were to come
 pub given : (w now : Pieces) (ps xs : List Piece) → IsAhead w ps → Yields Steps w xs now

@@ -6,8 +6,8 @@ use Rattle.std.proofs.lemmas.Bool.{cond_both}
 use Rattle.std.proofs.lemmas.List.{drop-drop}
 use lib.Seq.{sets}
 use Rattle.wkb_laws.specs.Prelude.{Endianness, Dimension, Begins, Coordinate, Value, Values}
-use Rattle.wkb_laws.specs.Prelude.{point, line_string, polygon, multi_point, multi_line_string, multi_polygon}
-use Rattle.wkb_laws.specs.Prelude.{collection, no_members, member, members, count, kind, dimension}
+use Rattle.wkb_laws.specs.Prelude.{point, line_string, polygon}
+use Rattle.wkb_laws.specs.Prelude.{no_members, member, members, count, kind, dimension}
 use Rattle.wkb_laws.specs.Prelude.{Spelling, node, Spellings, no_spellings, spelling, SpellsBody, Spells, SpellsEach}
 use Rattle.wkb_laws.specs.Prelude.{Wanted, SpellsCoordinates, IsEach, any, ring_end}
 use Rattle.wkb_geom.specs.Grammar.{Then}
@@ -18,8 +18,8 @@ use Rattle.wkb_laws.proofs.Parts.{then_length, then_append, drop_front, header_l
 use Rattle.wkb_laws.proofs.Lengths.{coordinate_length, coordinates_length}
 use Rattle.wkb_laws.proofs.Lists.{count-each}
 use Rattle.wkb_check.specs.Known.{HasGeometry, HasGeometries, AreWhole}
-use Rattle.wkb_check.specs.Subjects.{Subject, whole, ring, rings_of, subjects, subjects_of_rings, subjects_of_each}
-use Rattle.wkb_check.specs.Pieces.{count_of, leading, own_end, piece_of, ring_piece, piece_at, last_end, pieces_from}
+use Rattle.wkb_check.specs.Subjects.{Subject, whole, rings_of, subjects, subjects_of_rings, subjects_of_each}
+use Rattle.wkb_check.specs.Pieces.{count_of, leading, own_end, piece_of, ring_piece, piece_at, last_end}
 use Rattle.wkb_check.specs.Pieces.{pieces_of, first_rings, IsInside}
 use Rattle.wkb_check.specs.declared.pieces.Piece.{Piece}
 use Rattle.wkb_check.proofs.Bodies.{RingsFirst, rings_first, rest_smaller}
@@ -92,9 +92,7 @@ end_append at (x ∷ xs) ys = end_append (own_end (piece_at at x)) xs ys
 
 -- each goes on
 begins_onward : (at : ℕ) (x : Subject) → at < (piece_at at x).offset
-begins_onward at (whole (node h words ss) (point d c)) = omega arith
-begins_onward at (whole (node h words ss) _) = omega arith
-begins_onward at (ring order d cs) = omega arith
+begins_onward at x = grind arith
 
 own_behind : (p : Piece) → p.offset ≤ own_end p
 own_behind p = cond_both (nat_lt p.kind 3) _ _ (λ e. p.offset ≤ e) (λ _. omega arith) (λ _. omega arith)
@@ -281,13 +279,7 @@ pub inside_many : {buf more : List ℕ} {s : Spelling} {t : Value} {order : Endi
     {rings n from : ℕ} → (i : Inside buf s t more order d rings n from)
     → length (subjects s t) ≡ 1 + rings + length (subjects_of_each i.all.spelled i.all.values)
 inside_many {buf} {s = s} {t} {order} {d} {rings} {from = from} i =
-    omega (
-      arith,
-      ap length (itself_first s t),
-      ap length i.are,
-      length-append (first_rings order d rings (drop from buf)) (subjects_of_each i.all.spelled i.all.values),
-      first_many order d rings (drop from buf),
-    )
+    grind (arith, itself_first, length-append, first_many)
 
 -- rings are inside, and no members
 pub rings_alone : {buf more : List ℕ} {s : Spelling} {t : Value} {order : Endianness} {d : Dimension}
@@ -301,9 +293,7 @@ rings_alone {buf} {order = order} {d} {rings} {from} i =
 -- it has coordinates
 leaf : (s : Spelling) (t : Value) → nat_lt (kind t) 3 ≡ true → inner s t ≡ []
 unfolding inner
-leaf (node h words ss) (point d c) e = refl
-leaf (node h words ss) (line_string d cs) e = refl
-leaf (node h words ss) _ e = absurd cc
+leaf s t e = grind arith
 
 -- it has rings
 has_rings : (buf : List ℕ) (at : ℕ) (s : Spelling) (t : Value) (rest : List ℕ)
@@ -335,11 +325,7 @@ has_rings buf at (node h words ss) _ rest b e = absurd (omega (arith, e))
 
 -- it has members
 members_many : (t : Value) → nat_lt (kind t) 4 ≡ false → count_of t ≡ count (members t)
-members_many (multi_point d points) e = sym (count-each (point d) points)
-members_many (multi_line_string d lines) e = sym (count-each (line_string d) lines)
-members_many (multi_polygon d polygons) e = sym (count-each (polygon d) polygons)
-members_many (collection d ts) e = refl
-members_many _ e = absurd cc
+members_many t e = grind (arith, count-each)
 
 has_members : (buf : List ℕ) (at : ℕ) (s : Spelling) (t : Value) (rest : List ℕ)
     → Begins (Spells s t) (drop at buf) rest → nat_lt (kind t) 4 ≡ false → (order : Endianness) (d : Dimension)
@@ -398,16 +384,12 @@ module _ (buf : List ℕ) (at : ℕ) (g : HasGeometry (drop at buf)) (p : Piece)
 
   -- a geometry with coordinates of its own is its only piece
   pub only_piece : nat_lt p.kind 3 ≡ true → pieces_of at g.spelled g.value ≡ p ∷ []
-  only_piece low =
-      ap (pieces_from at) (itself_first g.spelled g.value)
-      ∙ (λ i. sym is i ∷ pieces_from (own_end (sym is i)) (leaf_of low i))
+  only_piece low = grind (arith, itself_first, leaf_of)
 
   module _ (end : ℕ) (ends : end ≡ own_end p) where
     -- where what is inside ends, it ends itself
     pub inner_end : last_end end (inner g.spelled g.value) ≡ last_end at (subjects g.spelled g.value)
-    inner_end =
-        (λ i. last_end ((ends ∙ ap own_end is) i) (inner g.spelled g.value))
-        ∙ ap (last_end at) (sym (itself_first g.spelled g.value))
+    inner_end = grind (arith, inner, itself_first)
 
     pub leaf_inside : nat_lt p.kind 3 ≡ true → (order : Endianness) (d : Dimension)
         → Inside buf g.spelled g.value g.rest order d 0 0 end
@@ -423,7 +405,4 @@ module _ (buf : List ℕ) (at : ℕ) (g : HasGeometry (drop at buf)) (p : Piece)
 
     pub members_inside : nat_lt p.kind 3 ≡ false → p.kind ≢ 3 → (order : Endianness) (d : Dimension)
         → Inside buf g.spelled g.value g.rest order d 0 p.count end
-    members_inside high other order d =
-        let more : nat_lt (kind g.value) 4 ≡ false =
-        le-ltb (kind g.value) 4 (omega (arith, kind_of, other, ltb-false p.kind 3 high)) in
-        rw (ends, is) (has_members buf at g.spelled g.value g.rest g.begins more order d)
+    members_inside high other order d = grind (arith, le-ltb, kind_of, ltb-false, has_members)

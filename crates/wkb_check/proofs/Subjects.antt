@@ -1,7 +1,6 @@
 -- Where the subjects of a geometry stand in its bytes, and what its pieces and entries say of them.
 use Rattle.std.proofs.Common.{◌≡◌, ℕ, ◌+◌, ◌*◌, ◌≤◌, List, [], ◌∷◌, ◌++◌, length, drop, Some, None}
 use Rattle.std.proofs.Common.{refl, sym, ap, ◌∙◌, arith, append-nil, nat_lt, if◌then◌else◌, true, false}
-use Rattle.std.proofs.lemmas.Bool.{cond-true}
 use Rattle.wkb_laws.specs.Prelude.{Endianness, Dimension, width, Coordinate, Value, Values, point}
 use Rattle.wkb_laws.specs.Prelude.{line_string}
 use Rattle.wkb_laws.specs.Prelude.{polygon, no_members, member, members, kind, dimension, Spelling, node, Spellings}
@@ -157,14 +156,7 @@ one_read {bytes = bytes} order d c stands h =
 with_coordinates : {input : List ℕ} {p : Piece} {x : Subject} → p.kind ≡ kind_in x → p.dimension ≡ dimension_in x
     → p.count ≡ count_in x → nat_lt p.kind 3 ≡ true
     → AreRead input p.order p.dimension p.offset p.count (subject_coordinates x) → PointIs x → IsPieceOf input p x
-with_coordinates {input} {p} {x} kind_is dimension_is count_is low r point_is = record {
-  kind_is = kind_is;
-  dimension_is = dimension_is;
-  count_is = count_is;
-  coordinates_are = cond-true (nat_lt p.kind 3) _ _ low ∙ r.read;
-  point_is = point_is;
-  inside = λ _. r.inside;
-}
+with_coordinates {input} {p} {x} kind_is dimension_is count_is low r point_is = grind arith
 
 body_says : {input : List ℕ} (at : ℕ) {body rest : List ℕ} (h : Header) (own : List ℕ) (ss : Spellings) (t : Value)
     → Stands input (body_at h at) body rest → SpellsBody h.order own t body
@@ -177,14 +169,7 @@ body_says at h own ss (line_string d cs) stands b =
     with_coordinates refl refl refl refl
     (coordinates_read h.order d cs (rest_stands stands b.1 (counted_at h at) (omega (arith, b.1.first.len)))
     b.1.second) tt
-body_says at h own ss _ stands b = record {
-  kind_is = refl;
-  dimension_is = refl;
-  count_is = refl;
-  coordinates_are = refl;
-  point_is = tt;
-  inside = λ low. absurd (cc);
-}
+body_says at h own ss _ stands b = grind arith
 
 pub says : {input : List ℕ} {at : ℕ} {bytes rest : List ℕ} (x : Subject) → Stands input at bytes rest
     → SpellsSubject x bytes → IsPieceOf input (piece_at at x) x
