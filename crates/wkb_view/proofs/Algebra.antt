@@ -1,8 +1,8 @@
 -- Readings one after the other, and their costs.
-use Rattle.std.proofs.Common.{◌≡◌, ◌+◌, ◌≤◌, ℕ, suc, List, [], ◌∷◌, Ok, Err, refl, sym, ap, ◌∙◌, add_assoc, zero-add}
+use Rattle.std.proofs.Common.{◌≡◌, ◌+◌, ◌≤◌, ℕ, suc, List, [], ◌∷◌, Ok, refl, ap, add_assoc, zero-add}
 use Rattle.std.proofs.Common.{arith}
 use Rattle.wkb_geom.specs.Reading.{◌⊕◌}
-use Rattle.wkb_view.specs.Prelude.{Cost, free, one_turn, Reading, costs, done, and_then, repeated, ReadError, cause_of}
+use Rattle.wkb_view.specs.Prelude.{Cost, free, one_turn, Reading, costs, done, and_then, repeated, ReadError}
 use Rattle.wkb_view.specs.Prelude.read_errors
 use Rattle.wkb_view.specs.declared.counts.Counts.{Counts}
 use Rattle.wkb_view.specs.Outcome.{Spent, AtMost, CanCount, Stops, next_turn, cost_of}
@@ -27,9 +27,6 @@ and_then-assoc r f g = grind (arith, and_then-costs)
 pub and_then-same : {A B : Type 0} (r : Reading A) (f g : A → List ℕ → Reading B)
     → ((x : A) (rest : List ℕ) → f x rest ≡ g x rest) → and_then r f ≡ and_then r g
 and_then-same r f g h = grind (arith, h)
-
-pub then_done : {A : Type 0} (r : Reading A) → and_then r (λ x after. done x after) ≡ r
-then_done r = grind (arith, cost_is)
 
 pub done_then : {A B : Type 0} (x : A) (rest : List ℕ) (f : A → List ℕ → Reading B)
     → and_then (done x rest) f ≡ f x rest
@@ -64,25 +61,16 @@ turn_begins old new r turn = grind (arith, cost_is, costs-costs)
 module _ {A : Type 0} (r whole : Reading A) (old mid new : Counts)
     (leads : costs (cost_of mid) r ≡ costs (cost_of old) whole) where
   pub spent_in_all : Spent mid new r.0 → Spent old new whole.0
-  spent_in_all h = record {
-    turns = omega (arith, ap (λ (s : Reading A). s.0.turns) leads);
-    slots = omega (arith, ap (λ (s : Reading A). s.0.slots) leads);
-  }
+  spent_in_all h = grind arith
 
   pub at_most_in_all : AtMost mid new r.0 → AtMost old new whole.0
-  at_most_in_all h = record {
-    turns = omega (arith, ap (λ (s : Reading A). s.0.turns) leads);
-    slots = omega (arith, ap (λ (s : Reading A). s.0.slots) leads);
-  }
+  at_most_in_all h = grind arith
 
 -- all is read
 pub all_read : {A : Type 0} (x : A) (rest : List ℕ) (whole : Reading A) (old new : Counts)
     → costs (cost_of new) (done x rest) ≡ costs (cost_of old) whole
     → (whole.1 ≡ Ok (x, rest)) × Spent old new whole.0
-all_read x rest whole old new e = (
-  sym (ap (λ (s : Reading _). s.1) e),
-  spent_in_all (done x rest) whole old new new e (record { turns = omega arith; slots = omega arith }),
-)
+all_read x rest whole old new e = grind arith
 
 module _ {A B : Type 0} (r : Reading A) (f : A → List ℕ → Reading B) (whole : Reading B) (old mid : Counts)
     (leads : costs (cost_of mid) (and_then r f) ≡ costs (cost_of old) whole) where
@@ -108,9 +96,4 @@ pub part_stops : {A B : Type 0} (error : ReadError) (r : Reading A) (f : A → L
     (old mid new : Counts)
     → costs (cost_of mid) (and_then r f) ≡ costs (cost_of old) whole → Stops error r mid new
     → Stops error whole old new
-part_stops (read_errors.Cause cause) (c, Ok x) f whole old mid new leads h = absurd cc
-part_stops (read_errors.Cause cause) (c, Err e) f whole old mid new leads h =
-    (sym (ap (λ (s : Reading _). cause_of s.1) leads) ∙ h.0, spent_in_all _ whole old mid new leads h.1)
-part_stops read_errors.Memory r f whole old mid new leads most =
-    let part = part_within r f whole old mid leads in
-    record { turns = omega arith; slots = omega arith }
+part_stops error r f whole old mid new leads h = grind arith

@@ -1,18 +1,17 @@
 -- Parts read one after the other, as a loop does, and lists of them after a count.
 use Rattle.std.proofs.Common.{◌≡◌, ℕ, suc, ◌+◌, ◌-◌, ◌≤◌, ◌<◌, List, [], ◌∷◌, ◌++◌, Ok, refl, sym, ap, ◌∙◌}
-use Rattle.std.proofs.Common.{append_assoc, arith, Bool, true, false, cond, length, drop, ltb, length-drop}
+use Rattle.std.proofs.Common.{append_assoc, arith, Bool, cond, length, drop, ltb, length-drop}
 use Rattle.std.proofs.lemmas.List.{append-nil}
-use Rattle.std.proofs.lemmas.Bool.{le-ltb, lt-ltb}
-use Rattle.wkb_view.specs.Prelude.{refused, end_of_input, Cause, ReadError, Cost, free, one_turn, Outcome}
+use Rattle.wkb_view.specs.Prelude.{refused, end_of_input, Cause, ReadError, free, one_turn, Outcome}
 use Rattle.wkb_view.specs.Prelude.read_errors
 use Rattle.wkb_view.specs.Prelude.{Reading, costs, done, count_in, and_then, repeated, Layout, Item, number}
-use Rattle.wkb_view.specs.Prelude.{multi_point_end, slots_asked, slots_of, consumed, body_start, parts_start, list_at}
-use Rattle.wkb_view.specs.Prelude.{list_item, member_at, parts_body, multi_point_with}
+use Rattle.wkb_view.specs.Prelude.{multi_point_end, slots_asked, consumed, body_start, parts_start, list_at}
+use Rattle.wkb_view.specs.Prelude.{list_item, member_at, multi_point_with}
 use Rattle.wkb_view.specs.declared.counts.Counts.{Counts}
 use Rattle.wkb_view.specs.Outcome.{Spent, next_turn, cost_of, CanCount, Stops}
 use Rattle.wkb_view.specs.Members.{parts_behind}
 use Rattle.wkb_view.specs.Entries.{entries_asked, HasNoList}
-use Rattle.wkb_view.proofs.Algebra.{cost_is, costs-costs, then_done, repeated_more, repeated_none, turn_begins}
+use Rattle.wkb_view.proofs.Algebra.{repeated_more, repeated_none, turn_begins}
 use Rattle.wkb_view.proofs.Algebra.{all_read, part_within, part_counted, part_leads, part_stops}
 unfoldable use Rattle.wkb_geom.specs.Reading.{multi_point_at, multi_polygon_at}
 
@@ -35,14 +34,7 @@ pub record Loop {A : Type 0} (part : List ℕ → Reading A) (count i : ℕ) (fr
     (whole : Reading (List A)) : Type 0 where
   pub leads : costs (cost_of now) (goes_on front (repeated (count - i) part rest)) ≡ costs (cost_of start) whole
 
--- before the first part
-pub parts_begin : {A : Type 0} (part : List ℕ → Reading A) (count : ℕ) (rest : List ℕ) (c : Counts)
-    → Loop part count 0 [] rest c c (repeated count part rest)
-parts_begin part count rest c =
-    let all : count - 0 ≡ count = omega arith in
-    record { leads = rw all (ap (λ (r : Reading _). costs (cost_of c) r) (then_done (repeated count part rest))) }
-
--- and, with the next one, the n parts after it
+-- the next part, and the n parts after it
 abbrev with_next : {A : Type 0} → (List ℕ → Reading A) → ℕ → List A → A → List ℕ → Reading (List A)
 with_next part n front x after = goes_on (front ++ x ∷ []) (repeated n part after)
 
@@ -101,21 +93,6 @@ pub record IsList {A : Type 0} (l : Layout) (part : List ℕ → Reading A) (end
       (and_then (parts_behind part l n bytes) (λ xs after. done (end xs (consumed bytes after)) after))
       ≡ costs (cost_of old) whole
 
-is_list : {A : Type 0} (k : ℕ) (l : Layout) (part : List ℕ → Reading A) (end : List A → List ℕ → Item)
-    (bytes : List ℕ) (n : ℕ) (old mid : Counts) (whole : Reading Item) → whole ≡ parts_body k l part end bytes n
-    → mid.turns ≡ old.turns
-    → mid.slots ≡ old.slots + slots_asked k n (length (parts_start l.has_srid bytes))
-    → IsList l part end bytes n old mid whole
-is_list k l part end bytes n old mid whole is turns slots = record {
-  grows = omega arith;
-  leads =
-      ap (λ (c : Cost). costs c
-      (and_then (parts_behind part l n bytes) (λ xs after. done (end xs (consumed bytes after)) after)))
-      (cost_is _ _ (omega arith) slots)
-      ∙ sym (costs-costs (cost_of old) (slots_of (slots_asked k n (length (parts_start l.has_srid bytes)))) _)
-      ∙ ap (λ (r : Reading Item). costs (cost_of old) r) (sym is);
-}
-
 -- a count that is there, and the entries that were asked for
 module _ (l : Layout) (bytes : List ℕ) (n : ℕ) (old mid : Counts) (whole : body_start l.has_srid + 4 ≤ length bytes)
     (counted : n ≡ count_in l bytes) (turns : mid.turns ≡ old.turns) where
@@ -124,10 +101,7 @@ module _ (l : Layout) (bytes : List ℕ) (n : ℕ) (old mid : Counts) (whole : b
 
   pub list_here : {A : Type 0} (k : ℕ) (part : List ℕ → Reading A) (end : List A → List ℕ → Item) → Asked k
       → IsList l part end bytes n old mid (list_at k l part end bytes)
-  list_here k part end slots =
-      let long : ltb (length bytes) (body_start l.has_srid + 4) ≡ false = le-ltb _ _ whole in
-      is_list k l part end bytes n old mid _ (rw (long, ← counted) refl) turns
-      (rw (counted, parts_length l.has_srid bytes) slots)
+  list_here k part end slots = grind arith
 
 -- A list whose count is cut short, or for whose entries an allocation fails: its reading, if the count is there, costs
 -- the entries that were asked for.
@@ -144,11 +118,7 @@ module _ (least : ℕ) (l : Layout) (bytes : List ℕ) where
 
     pub list_refused : (error : ReadError) (old new : Counts) → HasNoList l bytes error → new.turns ≡ old.turns
         → new.slots ≡ old.slots + entries_asked least l bytes → Stops error list_or_cut old new
-    list_refused (read_errors.Cause cause) old new none turns slots =
-        let short : has_no_count ≡ true = lt-ltb _ _ none.1 in
-        rw (short, none.0) (refl, record { turns = omega arith; slots = omega arith })
-    list_refused read_errors.Memory old new none turns slots =
-        record { turns = omega arith; slots = omega (arith, entries_within) }
+    list_refused error old new none turns slots = grind arith
 
 pub polygons_within : (l : Layout) (bytes : List ℕ) → entries_asked 9 l bytes ≤ (multi_polygon_at l bytes).0.slots
 unfolding multi_polygon_at
@@ -160,10 +130,7 @@ pub points_here : (l : Layout) (bytes : List ℕ) (n : ℕ) (old : Counts)
     → multi_point_end l.dimension l.has_srid n ≤ length bytes
     → IsList l (member_at 1 l.dimension) (list_item l multi_point_with) bytes n old old (multi_point_at l bytes)
 unfolding multi_point_at
-points_here l bytes n old counted enough =
-    let there : ltb (length bytes) (body_start l.has_srid + 4) ≡ false = le-ltb _ _ (omega arith) in
-    let long : ltb (length bytes) (multi_point_end l.dimension l.has_srid n) ≡ false = le-ltb _ _ enough in
-    is_list 4 l _ _ bytes n old old _ (rw (there, ← counted, long) refl) refl (omega arith)
+points_here l bytes n old counted enough = grind arith
 
 module _ {A : Type 0} {n : ℕ} {l : Layout} {part : List ℕ → Reading A} {end : List A → List ℕ → Item}
     {bytes : List ℕ} {old mid : Counts} {whole : Reading Item} (h : IsList l part end bytes n old mid whole) where

@@ -42,9 +42,7 @@ module _ (k : ℕ) (l : Layout) (ends encoding : List ℕ) (i : ℕ) where
   -- and has a layout
   pub member_there : (t : List ℕ) → AreMembersOfKind k l ends encoding
       → Some t ≡ slice_get (pieces_behind l ends encoding) i → IsOk (member_layout k l.dimension t)
-  member_there t are e =
-      let member = piece_form (IsMemberOfKind k l.dimension) (body_start l.has_srid + 4) ends encoding i t are e in
-      rw member.layout_is refl
+  member_there t are e = grind (arith, piece_form)
 
   -- what is made of it
   pub members_seen : {B : Type 0} (f : Item → B) (o : Option (List ℕ)) → o ≡ slice_get (pieces_behind l ends encoding) i
@@ -77,9 +75,7 @@ seen_at f ps i o got = grind (arith, slice_get-map, copied_is ps i o got)
 dimension_at : (d : Dimension) (ps : List (Listed (List (List Coordinate)))) (i : ℕ)
     (o : Option (Bor (Listed (List (List Coordinate))))) → IsAnswered ps i o
     → AllByRecursion (λ p. p.dimension ≡ d) ps → IfSome o (λ p. p.now.dimension ≡ d)
-dimension_at d ps i None got all = tt
-dimension_at d ps i (Some p) got all =
-    each_at (λ q. q.dimension ≡ d) ps i p.now all (sym (copied_is ps i (Some p) got))
+dimension_at d ps i o got all = grind (arith, each_at, copied_is)
 
 fitted_at : (d : Dimension) (o : Option (Bor (Listed (List (List Coordinate)))))
     → IfSome o (λ p. p.now.dimension ≡ d)
@@ -152,10 +148,7 @@ point_laid d bytes l e =
     member_laid 1 d bytes l e ∙ ap (λ (s : Bool). Ok (laid l.order d s)) (no_srid d (head_at bytes) l e)
 
 member_size : (d : Dimension) (encoding : List ℕ) → IsMemberOfKind 1 d encoding → length encoding ≡ stride d
-member_size d encoding m =
-    let same : m.layout.dimension ≡ d = member_dimension 1 d encoding m.layout m.layout_is in
-    let none : m.layout.has_srid ≡ false = no_srid d (head_at encoding) m.layout m.layout_is in
-    rw (same, none) at m.encoding_is.whole ∙ omega arith
+member_size d encoding m = grind arith
 
 -- a member more
 pub ends_next : (l : Layout) (i : ℕ) (bytes rest after : List ℕ)

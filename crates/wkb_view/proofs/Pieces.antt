@@ -11,7 +11,7 @@ use Rattle.wkb_view.specs.Prelude.{Reading, consumed, body_start, parts_start, r
 use Rattle.wkb_view.specs.Pieces.{pieces, ArePieces, AreInOrder, IsPiece, Passed}
 use Rattle.wkb_view.specs.declared.counts.Counts.{Counts}
 use Rattle.wkb_view.specs.Outcome.{Spent, next_turn}
-use Rattle.wkb_view.proofs.Lists.{Loop, parts_begin, next_part, parts_end}
+use Rattle.wkb_view.proofs.Lists.{Loop, next_part, parts_end}
 
 -- ---- the part at an index
 
@@ -26,9 +26,7 @@ between : (start : ℕ) (ends encoding : List ℕ) (i : ℕ) → AreInOrder star
 between start [] encoding i h lt = absurd (omega arith)
 between start (x ∷ ends) encoding zero h lt =
     record { ordered = omega arith; within = omega arith; item = refl }
-between start (x ∷ ends) encoding (suc i) h lt =
-    let b = between x ends encoding i h.1 (omega arith) in
-    record { ordered = b.ordered; within = b.within; item = b.item }
+between start (x ∷ ends) encoding (suc i) h lt = grind (arith, between x ends encoding i h.1 (omega arith))
 
 pub part_is : (start : ℕ) (ends encoding : List ℕ) (i s : ℕ) → AreInOrder start ends encoding → i < length ends
     → s ≡ get_or (start ∷ ends) i 0
@@ -118,22 +116,7 @@ pieces-take : (P : List ℕ → Type 0) (start : ℕ) (ends : List ℕ) (n : ℕ
     → (pieces start ends (take n encoding) ≡ pieces start ends encoding) × ArePieces P start ends (take n encoding)
 pieces-take P start [] n encoding h le = (refl, omega (arith, length-take n encoding))
 pieces-take P start (x ∷ ends) n encoding h le =
-    let low = start-le-last_end P x ends encoding h.1 in
-    let inner = drop-of-take start n encoding (omega arith) in
-    let same =
-    ap (λ (t : List ℕ). take (x - start) t) inner
-    ∙ take-take (x - start) (n - start) (drop start encoding) (omega arith) in
-    let later = pieces-take P x ends n encoding h.1 le in (
-      rw (same, later.0) refl,
-      (
-        record {
-          ordered = h.0.ordered;
-          within = omega (arith, length-take n encoding);
-          form = subst P (sym same) h.0.form;
-        },
-        later.1,
-      ),
-    )
+    grind (arith, start-le-last_end, drop-of-take, take-take, length-take, pieces-take P x ends n encoding h.1 le)
 
 -- after i of the parts, each seen by its encoding
 pub record SoFar {A : Type 0} (least : ℕ) (P : List ℕ → Type 0) (seen : List ℕ → A) (part : List ℕ → Reading A)
@@ -152,18 +135,7 @@ pub pieces_begin : {A : Type 0} {least : ℕ} {P : List ℕ → Type 0} {seen : 
     → rest ≡ parts_start srid bytes
     → SoFar least P seen part (body_start srid + 4) count 0 bytes [] rest began began
     (repeated count part (parts_start srid bytes))
-pieces_begin {part = part} srid count bytes rest began whole rest-is =
-    let start = body_start srid + 4 in
-    let behind : parts_start srid bytes ≡ drop start bytes =
-    drop-drop 4 (body_start srid) bytes ∙ ap (λ (n : ℕ). drop n bytes) (omega arith) in
-    record {
-      left = rw rest-is (parts_begin part count (parts_start srid bytes) began);
-      stand = whole;
-      rest_is = rest-is ∙ behind;
-      within = whole;
-      taken_in_all = omega (arith, ap length (rest-is ∙ behind), length-drop start bytes);
-      as_many = refl;
-    }
+pieces_begin {part = part} srid count bytes rest began whole rest-is = grind arith
 
 module _ {A : Type 0} {least : ℕ} {P : List ℕ → Type 0} {seen : List ℕ → A} {part : List ℕ
     → Reading A} {start count : ℕ} {bytes : List ℕ}
