@@ -1,6 +1,6 @@
 -- The members of collections, as a caller of the geometry traits sees them.
 use Rattle.wkb_read.proofs.Prelude.{◌≡◌, ℕ, List, [], ◌∷◌, map, refl, sym, ap, ◌∙◌, slice_get, Option}
-use Rattle.wkb_read.proofs.Prelude.{option_map, Bor, length, Value, Values, Coordinate, Listed, Geometry, Geometries}
+use Rattle.wkb_read.proofs.Prelude.{option_map, Bor, length, Value, Values, Coordinate, Listed, Geometry}
 use Rattle.wkb_read.proofs.Prelude.{geometries, geometry_of, geometries_of, IsGeometry, Item, values, geometry_seen}
 use Rattle.wkb_read.proofs.Prelude.{members_seen, Layout, parts_in, AreMembers, IsMemberAt}
 use Rattle.wkb_read.proofs.Prelude.{arith}
@@ -14,7 +14,6 @@ use Rattle.wkb_geom.specs.declared.geom.GeometryType.{GeometryType}
 use Rattle.wkb_geom.specs.declared.geom.GeometryType.TheVariants as handed
 use Rattle.wkb_geom.specs.Values as value
 use Rattle.wkb_geom.specs.Geometries.{point, line_string, multi_point}
-use Rattle.wkb_geom.specs.Geometries.{collection}
 use Rattle.wkb_geom.specs.Parts.{PointMeans, LineStringMeans, PolygonMeans, MultiPointMeans, MultiLineStringMeans}
 use Rattle.wkb_geom.specs.Parts.{MultiPolygonMeans, CollectionMeans, RectMeans, TriangleMeans, LineMeans, RectMembers}
 use Rattle.wkb_geom.specs.Parts.{TriangleMembers, LineMembers}
@@ -144,13 +143,7 @@ module _ {R T N : Type 0} where
 
   pub collection_told : (w : Item) (part : Part R T N) → IsViewOf w part
       → CollectionMeans (as_dimensions (value.dimension w.value)) geometry_seen part (geometry_seen w)
-  collection_told w (handed.GeometryCollection gs) e =
-      let c = e.whole in
-      let seen = members_are gs.now ∙ ap members_seen e.all.value in
-      rw (← e.is)
-      (ap (λ (l : Geometries). collection (as_dimensions c.dimension) l)
-      (ap geometries seen ∙ members_together c.parts))
-  collection_told w _ e = tt
+  collection_told w part e = grind (arith, members_are, members_seen, geometries, members_together)
 
   pub rect_told : (kind : RectMembers R) (w : Item) (part : Part R T N) → IsViewOf w part
       → RectMeans kind part (geometry_seen w)
