@@ -16,7 +16,7 @@ use Rattle.wkb_bounds.specs.declared.range.Bounds.{Bounds}
 use Rattle.wkb_bounds.specs.declared.ranks.Ranks.{Ranks}
 use Rattle.wkb_bounds.specs.declared.run.Run.{Run}
 use Rattle.wkb_bounds.specs.declared.axes.AxisRanks.{AxisRanks}
-use Rattle.wkb_bounds.specs.Ranges.{with_word, widened, AreNumbers, WidensRanks}
+use Rattle.wkb_bounds.specs.Ranges.{with_word, widened, AreNumbers, AreRight, WidensRanks}
 use Rattle.wkb_bounds.specs.Ordinates.{Axis, x_axis, y_axis, z_axis, m_axis, axis_place, word_at, words_of_each}
 use Rattle.wkb_bounds.specs.Ordinates.{words_at, words_in, place_words}
 use Rattle.wkb_bounds.specs.Bounded.{on, Widens, WidensBounds, WidensPlane, ArePlaneNumbers, bounds_by}
@@ -172,15 +172,16 @@ run_widens {order} d {size} {n} {bytes} old new is sized widens a =
 
 -- ---- x and y
 
-module _ {old new : AxisRanks} {cs : List Coordinate} (w : WidensPlane false old new cs) where
-  pub plane_before : ArePlaneNumbers new → ArePlaneNumbers old
-  plane_before n = record { x = w.x.before n.x; y = w.y.before n.y }
+pub plane_before : {old new : AxisRanks} {cs : List Coordinate} → WidensPlane false old new cs → ArePlaneNumbers new
+    → ArePlaneNumbers old
+plane_before w n = record { x = w.x.before n.x; y = w.y.before n.y }
 
-  pub plane_widens : ArePlaneNumbers new → WidensBounds old new Xy cs
-  plane_widens n x_axis = w.x.range n.x
-  plane_widens n y_axis = w.y.range n.y
-  plane_widens n z_axis = w.z ∙ no_ordinates None old.z cs (λ k e. absurd cc)
-  plane_widens n m_axis = w.m ∙ no_ordinates None old.m cs (λ k e. absurd cc)
+module _ {tested : Bool} {old new : AxisRanks} {cs : List Coordinate} (w : WidensPlane tested old new cs) where
+  pub plane_widens : AreRight tested new.x → AreRight tested new.y → WidensBounds old new Xy cs
+  plane_widens x y x_axis = w.x.range x
+  plane_widens x y y_axis = w.y.range y
+  plane_widens x y z_axis = w.z ∙ no_ordinates None old.z cs (λ k e. absurd cc)
+  plane_widens x y m_axis = w.m ∙ no_ordinates None old.m cs (λ k e. absurd cc)
 
   pub plane_few : (a : Axis) → (on a (bounds_by new)).count ≤ (on a (bounds_by old)).count + length cs
   plane_few x_axis = omega (arith, words_few (Some 0) cs)

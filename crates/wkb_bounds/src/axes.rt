@@ -98,7 +98,7 @@ impl AxisRanks {
     /// As `widen_plane_by`, with a test of each word where one isn't a number.
     #[tactic(auto, using(crate::proofs::Widening::run_laws))]
     #[inline(always)]
-    fn widen_plane_in(&mut self, run: Run<'_>)
+    pub(crate) fn widen_plane_in(&mut self, run: Run<'_>)
         requires plane { 16 ≤ run.size }
         requires room { HasRoom (bounds_by self.old) run.count }
         ensures { WidensPlane true self.old self.new (coordinates_of run.entry) }
@@ -109,7 +109,11 @@ impl AxisRanks {
             self.x = numbers.x;
             self.y = numbers.y;
         } else {
-            self.widen_plane_word_by_word(run.order, run.size, run.count, run.bytes);
+            // A copy is lent, so that the ranks stay in registers.
+            let mut tested = *self;
+            tested.widen_plane_word_by_word(run.order, run.size, run.count, run.bytes);
+            self.x = tested.x;
+            self.y = tested.y;
         }
     }
 

@@ -32,11 +32,7 @@ fn xy_bounds_of_order_into(order: Endianness, count: u32, bytes: &[u8], bounds: 
         (λ a. words_in a Xy (coordinates order Xy count bytes.now)) }
 {
     let mut ranks = AxisRanks::empty();
-    ranks.widen_plane_by(Run::of(order, XY_SIZE, count, bytes), false);
-    if !ranks.are_plane_numbers() {
-        coordinates_bounds_into(order, Dimension::Xy, count, bytes, bounds);
-        return;
-    }
+    ranks.widen_plane_in(Run::of(order, XY_SIZE, count, bytes));
     *bounds = ranks.bounds();
 }
 

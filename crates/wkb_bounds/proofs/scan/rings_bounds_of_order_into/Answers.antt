@@ -45,7 +45,7 @@ loop-ring-preserved c =
       so_far = λ g.
           ring_of_numbers (l.so_far g) s (plane_before widens)
           (λ n a.
-          plane_widens widens n a
+          plane_widens widens n.x n.y a
           ∙ rw (c.of.ensures.coordinates_are, c.rest_from-bytes.ensures)
           (ap (widened (on a (bounds_by c.loop-ring.ranks))) (sym (ring_words a c.args.buf.now p ring))));
       rings = rings_after l.rings c.next_if_ring.ensures.rings;

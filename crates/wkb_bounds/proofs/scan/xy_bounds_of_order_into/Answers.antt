@@ -6,7 +6,7 @@ pub returns : goal.returns
 returns c = λ a.
     rw (
       c.bounds.ensures,
-      plane_widens c.widen_plane_by.ensures (c.are_plane_numbers.ensures.all c.if-not-are_plane_numbers.false) a,
+      plane_widens c.widen_plane_in.ensures tt tt a,
       c.of.ensures.coordinates_are,
       c.empty-ranks.ensures,
     ) refl
