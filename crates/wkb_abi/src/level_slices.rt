@@ -139,8 +139,8 @@ fn lay_one_coordinate(
     by_order!(order, lay_ordered(bytes, 1, order, own, asked, out, start))
 }
 
-/// Writes the words that are asked for of `count` coordinates. The order is a constant in each loop, and where x and y
-/// alone are there and asked for, the dimensions are, too. It takes scalars, so that its callers need no piece in
+/// Writes the words that are asked for of `count` coordinates. The order is a constant in each loop, and where xy, xyz or
+/// xyzm is both there and asked for, the dimensions are, too. It takes scalars, so that its callers need no piece in
 /// memory.
 #[inline(never)]
 fn lay_many_coordinates(
@@ -156,13 +156,17 @@ fn lay_many_coordinates(
     requires room { start + width asked * count ≤ length out.old }
     ensures { out.new ≡ sets out.old start (words_from asked order own count bytes.now) }
 {
-    use Dimension::Xy;
-    use Endianness::{BigEndian, LittleEndian};
+    use Dimension::{Xy, Xyz, Xyzm};
+    use Endianness::{BigEndian as Big, LittleEndian as Little};
     match (order, own, asked) {
-        (LittleEndian, Xy, Xy) => lay_ordered(bytes, count, LittleEndian, Xy, Xy, out, start),
-        (BigEndian, Xy, Xy) => lay_ordered(bytes, count, BigEndian, Xy, Xy, out, start),
-        (LittleEndian, _, _) => lay_ordered(bytes, count, LittleEndian, own, asked, out, start),
-        (BigEndian, _, _) => lay_ordered(bytes, count, BigEndian, own, asked, out, start),
+        (Little, Xy, Xy) => lay_ordered(bytes, count, Little, Xy, Xy, out, start),
+        (Big, Xy, Xy) => lay_ordered(bytes, count, Big, Xy, Xy, out, start),
+        (Little, Xyz, Xyz) => lay_ordered(bytes, count, Little, Xyz, Xyz, out, start),
+        (Big, Xyz, Xyz) => lay_ordered(bytes, count, Big, Xyz, Xyz, out, start),
+        (Little, Xyzm, Xyzm) => lay_ordered(bytes, count, Little, Xyzm, Xyzm, out, start),
+        (Big, Xyzm, Xyzm) => lay_ordered(bytes, count, Big, Xyzm, Xyzm, out, start),
+        (Little, _, _) => lay_ordered(bytes, count, Little, own, asked, out, start),
+        (Big, _, _) => lay_ordered(bytes, count, Big, own, asked, out, start),
     }
 }
 
