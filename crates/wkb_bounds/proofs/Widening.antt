@@ -172,10 +172,6 @@ run_widens {order} d {size} {n} {bytes} old new is sized widens a =
 
 -- ---- x and y
 
-pub plane_before : {old new : AxisRanks} {cs : List Coordinate} → WidensPlane false old new cs → ArePlaneNumbers new
-    → ArePlaneNumbers old
-plane_before w n = record { x = w.x.before n.x; y = w.y.before n.y }
-
 module _ {tested : Bool} {old new : AxisRanks} {cs : List Coordinate} (w : WidensPlane tested old new cs) where
   pub plane_widens : AreRight tested new.x → AreRight tested new.y → WidensBounds old new Xy cs
   plane_widens x y x_axis = w.x.range x

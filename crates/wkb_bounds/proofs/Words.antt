@@ -18,9 +18,8 @@ use Rattle.wkb_bounds.specs.Ranges.{widened, range_of, no_numbers}
 use Rattle.wkb_bounds.specs.Ordinates.{Axis, x_axis, y_axis, z_axis, m_axis, axis_place, word_at, words_of_each}
 use Rattle.wkb_bounds.specs.Ordinates.{words_in}
 use Rattle.wkb_bounds.specs.Ordinates.{words_on, words_on_each, point_words_on}
-use Rattle.wkb_bounds.specs.declared.axes.AxisRanks.{AxisRanks}
 use Rattle.wkb_check.specs.Known.{HasGeometry}
-use Rattle.wkb_bounds.specs.Bounded.{on, nothing, bounds_by, AreBounds, ArePlaneNumbers}
+use Rattle.wkb_bounds.specs.Bounded.{on, nothing, AreBounds}
 use Rattle.wkb_check.specs.Pieces.{pieces_of, piece_of, own_end, IsRing, IsAhead, IsTaken, IsNext, Steps}
 use Rattle.wkb_check.specs.declared.pieces.Pieces.{Pieces}
 use Rattle.wkb_bounds.proofs.Widening.{widened-append}
@@ -207,44 +206,3 @@ module _ {buf : List ℕ} where
       all_widened buf b x.passed g
       (x.all ∙ ap (λ ps. x.passed ++ ps) (subst (IsNext new x.left) none (s.steps x.left x.ahead)) ∙ append-nil x.passed)
       x.widens
-
--- As `WidenedSoFar`, if the ranks are of numbers: what they are then is known of any.
-pub record NumbersSoFar (buf : List ℕ) (w : Pieces) (k : AxisRanks) (g : HasGeometry buf) : Type 0 where
-  pub bounds : Bounds
-  pub so_far : WidenedSoFar buf w bounds g
-  pub same : ArePlaneNumbers k → (a : Axis) → on a (bounds_by k) ≡ on a bounds
-
--- the bounds with these ranges
-abbrev by_axis : (Axis → Range) → Bounds
-by_axis f = record { x = f x_axis; y = f y_axis; z = f z_axis; m = f m_axis }
-
-on_by_axis : (f : Axis → Range) (a : Axis) → on a (by_axis f) ≡ f a
-on_by_axis f x_axis = refl
-on_by_axis f _ = refl
-
-module _ {buf : List ℕ} where
-  pub first_of_numbers : {w : Pieces} {first : Piece} {k : AxisRanks} (g : HasGeometry buf)
-      → IsTaken w (pieces_of 0 g.spelled g.value) first → nat_lt first.kind 3 ≡ false → bounds_by k ≡ nothing
-      → NumbersSoFar buf w k g
-  first_of_numbers {k = k} g taken high none = record {
-    bounds = bounds_by k;
-    so_far = first_passed g taken high none;
-    same = λ n a. refl;
-  }
-
-  pub ring_of_numbers : {old new : Pieces} {k now : AxisRanks} {p : Piece} {g : HasGeometry buf}
-      → NumbersSoFar buf old k g → Steps old (Some p) new → (ArePlaneNumbers now → ArePlaneNumbers k)
-      → (ArePlaneNumbers now → (a : Axis) → on a (bounds_by now) ≡ widened (on a (bounds_by k)) (piece_words a buf p))
-      → NumbersSoFar buf new now g
-  ring_of_numbers {p = p} x s before widens =
-      let more : Axis → Range = λ a. widened (on a x.bounds) (piece_words a buf p) in
-      record {
-        bounds = by_axis more;
-        so_far = one_passed x.so_far s (on_by_axis more);
-        same = λ n a.
-            widens n a ∙ ap (λ r. widened r (piece_words a buf p)) (x.same (before n) a) ∙ sym (on_by_axis more a);
-      }
-
-  pub all_of_numbers : {old new : Pieces} {k : AxisRanks} {r : Option Piece} {g : HasGeometry buf}
-      → NumbersSoFar buf old k g → r ≡ None → Steps old r new → ArePlaneNumbers k → AreBounds (bounds_by k) g.value
-  all_of_numbers x none s n = λ a. x.same n a ∙ all_passed x.so_far none s a

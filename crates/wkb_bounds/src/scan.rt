@@ -98,10 +98,10 @@ fn rings_bounds_of_order_into(buf: &[u8], order: Endianness, srid: Option<u32>, 
     while let Some(ring) = pieces.next_if_ring() {
         let bytes = rest_from(buf, ring.offset);
         ranks.widen_plane_by(Run::of(order, XY_SIZE, ring.count, bytes), false);
-    }
-    if !ranks.are_plane_numbers() {
-        front_bounds_into(buf, bounds);
-        return;
+        if !ranks.are_plane_numbers() {
+            front_bounds_into(buf, bounds);
+            return;
+        }
     }
     *bounds = ranks.bounds();
 }

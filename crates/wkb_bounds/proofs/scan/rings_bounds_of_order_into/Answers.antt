@@ -4,8 +4,8 @@ use Rattle.wkb_bounds.specs.Bounded.{on, bounds_by, AreBounds}
 use Rattle.wkb_bounds.specs.Ranges.{widened}
 use Rattle.wkb_check.proofs.Ahead.{piece_by}
 use Rattle.wkb_check.proofs.Following.{ring_of, rings_after}
-use Rattle.wkb_bounds.proofs.Widening.{plane_before, plane_widens, plane_few, run_long}
-use Rattle.wkb_bounds.proofs.Words.{first_of_numbers, ring_of_numbers, all_of_numbers, ring_words, leaf_end}
+use Rattle.wkb_bounds.proofs.Widening.{plane_widens, plane_few, run_long}
+use Rattle.wkb_bounds.proofs.Words.{first_passed, one_passed, all_passed, ring_words, leaf_end}
 use Rattle.wkb_bounds.proofs.Words.{none_counted}
 use Rattle.wkb_bounds.proofs.scan.rings_bounds_of_order_into.Goals as goal
 
@@ -17,7 +17,7 @@ loop-ring-init c =
     let rings = behind.rings first.kind_is in
     record {
       so_far = λ g.
-          first_of_numbers g (behind.steps g) (ap (λ k. nat_lt k 3) first.kind_is) c.empty-ranks.ensures;
+          first_passed g (behind.steps g) (ap (λ k. nat_lt k 3) first.kind_is) c.empty-ranks.ensures;
       rings = record {
         order_is = rings.order_is ∙ first.order_is;
         dimension_is = rings.dimension_is ∙ first.dimension_is;
@@ -30,7 +30,7 @@ loop-ring-init c =
 
 pub next_if_ring-requires-clause-ahead : goal.next_if_ring-requires-clause-ahead
 next_if_ring-requires-clause-ahead c =
-    let x = (c.loop-ring.invariant.so_far c.requires.here).so_far in
+    let x = c.loop-ring.invariant.so_far c.requires.here in
     record { pieces = x.left; are = x.ahead }
 
 pub loop-ring-preserved : goal.loop-ring-preserved
@@ -41,11 +41,12 @@ loop-ring-preserved c =
     let ring = ring_of l.rings c.in-Some.ensures.ring in
     let low = ap (λ k. nat_lt k 3) ring.kind_is in
     let widens = c.widen_plane_by.ensures in
+    let numbers = c.are_plane_numbers.ensures.all c.if-not-are_plane_numbers.false in
     record {
       so_far = λ g.
-          ring_of_numbers (l.so_far g) s (plane_before widens)
-          (λ n a.
-          plane_widens widens n.x n.y a
+          one_passed (l.so_far g) s
+          (λ a.
+          plane_widens widens numbers.x numbers.y a
           ∙ rw (c.of.ensures.coordinates_are, c.rest_from-bytes.ensures)
           (ap (widened (on a (bounds_by c.loop-ring.ranks))) (sym (ring_words a c.args.buf.now p ring))));
       rings = rings_after l.rings c.next_if_ring.ensures.rings;
@@ -65,5 +66,4 @@ loop-ring-preserved c =
 pub returns : goal.returns
 returns c = λ g.
     subst (λ b. AreBounds b g.value) (sym c.bounds.ensures)
-    (all_of_numbers (c.loop-ring.invariant.so_far g) c.in_default.is c.next_if_ring.ensures.steps
-    (c.are_plane_numbers.ensures.all c.if-not-are_plane_numbers.false))
+    (all_passed (c.loop-ring.invariant.so_far g) c.in_default.is c.next_if_ring.ensures.steps)
