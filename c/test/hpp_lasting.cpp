@@ -257,16 +257,16 @@ void collects(const row &it) {
   }
 }
 
-// All inputs, and a null row behind each four of them, with bits that begin in the second byte.
+// All inputs, and a null row behind each four of them, with bits that begin behind eight bytes.
 template <typename Offset>
 struct filled {
-  static constexpr std::size_t FIRST_BIT = 11;
+  static constexpr std::size_t FIRST_BIT = 67;
   std::vector<const row *> rows{};
   std::vector<std::byte> data{};
   std::vector<Offset> offsets{0};
   std::vector<std::uint8_t> validity{};
 
-  explicit filled(const std::vector<row> &inputs) : validity(inputs.size() / 6 + 3) {
+  explicit filled(const std::vector<row> &inputs) : validity(inputs.size() / 6 + 10) {
     for (std::size_t i = 0; i < inputs.size(); i++) {
       add(&inputs[i]);
       if (i % 4 == 3) add(nullptr);

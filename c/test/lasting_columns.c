@@ -6,7 +6,7 @@
 
 /* The rows of the column, with the null ones. Levels have at most a coordinate for 16 bytes. */
 enum { ROWS = LASTING_MOST + 2, DATA_MOST = BYTES_MOST + 2 * 21, OUT_MOST = 2 * DATA_MOST, PARTS_MOST = 20000 };
-enum { WORDS_MOST = 40000, ENDS_MOST = 20000 };
+enum { WORDS_MOST = 40000, ENDS_MOST = 20000, FAR_BIT = 67 };
 
 static const lasting *of;
 static size_t rows, size;
@@ -172,15 +172,15 @@ static void are_back(uint32_t kind, uint32_t dimension, uint32_t number) {
 static void come_back(const wkb_coordinates *it, uint32_t dimension) {
   static const uint32_t KINDS[] = {2, 3, 5, 6, 1, 4}, NUMBERS[] = {0, 2, 3, 4, 6, 7};
   static uint64_t row_ends[ROWS];
-  static uint8_t own[ROWS / 8 + 1];
+  static uint8_t own[ROWS / 8 + 10];
   memcpy(row_ends, ends, sizeof row_ends);
   const wkb_levels levels = {words, it->words_room, ring_ends, it->ring_room, single_ends, it->single_room,
-                             row_ends, rows, own, 0};
+                             row_ends, rows, own, FAR_BIT};
   for (int k = 0; k < 36; k++) {
     const uint32_t kind = KINDS[k / 6], number = NUMBERS[k % 6];
     const wkb_options options = {number / 4, number % 4, CALLER_SRID};
     memset(own, 0, sizeof own), clear(out, sizeof out);
-    for (size_t i = 0; i < rows; i++) own[i / 8] |= (uint8_t)(is_of(i, kind, dimension) << i % 8);
+    for (size_t i = 0; i < rows; i++) own[(i + FAR_BIT) / 8] |= (uint8_t)(is_of(i, kind, dimension) << (i + FAR_BIT) % 8);
     if (kind == WKB_KIND_POINT) quiet(levels.word_count, it->coordinates ? levels.word_count / it->coordinates : 1);
     const size_t total =
         wkb_column_from_coordinates(&levels, kind, dimension, &options, out, OUT_MOST, ends, statuses);

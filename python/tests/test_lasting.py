@@ -65,7 +65,7 @@ class Lasting(unittest.TestCase):
         cls.rows = [Row.of(it) for it in FILE.read_text().splitlines() if not it.startswith("#")]
         cls.accepted = [it for it in cls.rows if it.sums]
         rows = [data for it in cls.rows for data in (it.data, None)]
-        cls.column = Column.of([cls.rows[0].data, None, b"\2", *rows, cls.rows[0].data])[3:-1]
+        cls.column = Column.of([cls.rows[0].data, None, *65 * [b"\2"], *rows, cls.rows[0].data])[67:-1]
 
     def test_check(self):
         self.assertGreater(len(self.accepted), 1000)
@@ -165,8 +165,9 @@ class Lasting(unittest.TestCase):
             _, rows, singles, rings, numbers = self.column.coordinates(dimension)
             for kind in list(Kind)[1:7]:
                 own = [getattr(it.answer, "kind", 0) == kind and it.answer.dimension == dimension for it in self.rows]
-                bits = sum(it << 2 * i for i, it in enumerate(own)).to_bytes(len(own) // 4 + 1, "little")
-                made = column_from_coordinates(kind, numbers, rings, singles, rows, dimension=dimension, validity=bits)
+                bits = sum(it << 2 * i + 67 for i, it in enumerate(own)).to_bytes(len(own) // 4 + 10, "little")
+                made = column_from_coordinates(kind, numbers, rings, singles, rows, dimension=dimension, validity=bits,
+                                               validity_offset=67)
                 # Whatever NaNs an empty point has, those of one are written.
                 found = [row and summed(wkb.write(row)) for row in list(made.rows)[::2]]
                 self.assertEqual(found, [it.sums[4] if its else None for it, its in zip(self.rows, own)])

@@ -213,9 +213,9 @@ fn as_a_column() {
         let expected = if it.status == 0 { it.sums[8] } else { sum_of(&Bounds::EMPTY) };
         assert_eq!(sum_of(&boxes[2 * i]), expected, "{:x?}", it.input);
     }
-    // A column has no option for SRIDs of its rows.
-    for number in (0..8).filter(|it| it % 4 != 1) {
-        let written = column.write(&rows[0].options(number));
+    for number in 0..8 {
+        let Options { order, form } = rows[0].options(number);
+        let written = column.write(&Options { order, form: if number % 4 == 1 { Form::EwkbOwnSrid } else { form } });
         assert_eq!(written.statuses, statuses);
         for (row, it) in written.rows().step_by(2).zip(&rows) {
             assert_eq!(row.map(summed), it.sums.get(number).copied(), "{:x?}", it.input);
@@ -248,11 +248,11 @@ fn levels_of_a_column() {
     }
 }
 
-/// Facts of the inputs with null rows between them, of the whole column and of parts of it together.
+/// Facts of the inputs with two null rows behind each, of the whole column and of parts of it together.
 #[test]
 fn facts() {
     let rows = rows();
-    let mut expected = Facts { rows: 2 * rows.len(), null_rows: rows.len(), ..Facts::default() };
+    let mut expected = Facts { rows: 3 * rows.len(), null_rows: 2 * rows.len(), ..Facts::default() };
     for it in &rows {
         if it.status != 0 {
             expected.refused += 1;
@@ -267,7 +267,7 @@ fn facts() {
             None => expected.without_srid += 1,
         }
     }
-    let made = Rows::of(rows.iter().flat_map(|it| [Some(&it.input), None]));
+    let made = Rows::of(rows.iter().flat_map(|it| [Some(&it.input), None, None]));
     let (column, statuses) = (made.column(), made.column().check());
     for columns in [1, 2, 7] {
         let (mut all, mut each) = (Facts::default(), vec![]);
