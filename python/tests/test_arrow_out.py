@@ -336,13 +336,13 @@ class FromGeoArrow(unittest.TestCase):
 
     def test_nulls_inside(self):
         """Items inside rows may have validity, where it says that all are there."""
-        for bits, is_right in ((b"\x07", True), (b"\xff", True), (b"\x05", False)):
-            source, validity = Lists([(0, 3)], [(1.0, 2.0, 3.0, 4.0, 5.0, 6.0)]), memory_of(bits)
-            source.deep(1).buffers[0], source.deep(1).null_count = ctypes.addressof(validity), -1
-            if is_right:
-                self.assertEqual(list(column_from_coordinates(Kind.LINE_STRING, source).statuses), [0])
+        for bits, depth in itertools.product((b"\x3f", b"\xff", b"\x05"), (1, 2, 3)):
+            source, validity = Lists([(0, 3), range(4)], [(1.0, 2.0, 3.0, 4.0, 5.0, 6.0)]), memory_of(bits)
+            source.deep(depth).buffers[0], source.deep(depth).null_count = ctypes.addressof(validity), -1
+            if bits != b"\x05":
+                self.assertEqual(list(column_from_coordinates(Kind.POLYGON, source).statuses), [0])
             else:
-                self.assertRaisesRegex(ValueError, "null", column_from_coordinates, Kind.LINE_STRING, source)
+                self.assertRaisesRegex(ValueError, "null", column_from_coordinates, Kind.POLYGON, source)
 
     def test_null_rows(self):
         """Every slice of 17 rows, of which each third is null, with bits in three bytes; of points and of lists."""
