@@ -6,11 +6,11 @@
 
 /* The rows of the column, with the null ones. Levels have at most a coordinate for 16 bytes. */
 enum { ROWS = LASTING_MOST + 2, DATA_MOST = BYTES_MOST + 2 * 21, OUT_MOST = 2 * DATA_MOST, PARTS_MOST = 20000 };
-enum { WORDS_MOST = 40000, ENDS_MOST = 20000, FAR_BIT = 67 };
+enum { WORDS_MOST = 40000, ENDS_MOST = 20000, FAR = 67 };
 
 static const lasting *of;
 static size_t rows, size;
-static uint8_t data[DATA_MOST], narrow[4 * (ROWS + 1) + 1], wide[8 * (ROWS + 1) + 1], validity[ROWS / 8 + 4];
+static uint8_t data[DATA_MOST], narrow[4 * (ROWS + 1) + 1], wide[8 * (ROWS + 1) + 1], validity[ROWS / 8 + 12];
 static uint8_t statuses[ROWS + 1], out[OUT_MOST];
 static uint64_t ends[ROWS + 1], ring_ends[ENDS_MOST], single_ends[ENDS_MOST];
 static wkb_found found[ROWS + 1];
@@ -95,11 +95,11 @@ static void are_put(const uint8_t *items, size_t item, size_t room, size_t total
   expect(is_kept(items + item * put, item * (total + 1 - put)), "more was written", "");
 }
 
-/* In room for all, for all but the last item, for half of them, and in none. */
+/* In room for all, for all but the last item, for half of them, for one and in none. */
 static void are_listed(const wkb_column *column) {
-  const size_t total = wkb_column_parts(column, NULL, 0, ends, statuses), rooms[] = {total, total - 1, total / 2, 0};
+  const size_t total = wkb_column_parts(column, NULL, 0, ends, statuses), rooms[] = {total, total - 1, total / 2, 1, 0};
   expect(total < PARTS_MOST, "too many parts", "");
-  for (int k = 0; k < 4; k++) {
+  for (int k = 0; k < 5; k++) {
     clear(parts, sizeof parts);
     size_t all = wkb_column_parts(column, rooms[k] ? parts : NULL, rooms[k], ends, statuses);
     expect(all == total, "all parts", "");
@@ -175,12 +175,12 @@ static void come_back(const wkb_coordinates *it, uint32_t dimension) {
   static uint8_t own[ROWS / 8 + 10];
   memcpy(row_ends, ends, sizeof row_ends);
   const wkb_levels levels = {words, it->words_room, ring_ends, it->ring_room, single_ends, it->single_room,
-                             row_ends, rows, own, FAR_BIT};
+                             row_ends, rows, own, FAR};
   for (int k = 0; k < 36; k++) {
     const uint32_t kind = KINDS[k / 6], number = NUMBERS[k % 6];
     const wkb_options options = {number / 4, number % 4, CALLER_SRID};
     memset(own, 0, sizeof own), clear(out, sizeof out);
-    for (size_t i = 0; i < rows; i++) own[(i + FAR_BIT) / 8] |= (uint8_t)(is_of(i, kind, dimension) << (i + FAR_BIT) % 8);
+    for (size_t i = 0; i < rows; i++) own[(i + FAR) / 8] |= (uint8_t)(is_of(i, kind, dimension) << (i + FAR) % 8);
     if (kind == WKB_KIND_POINT) quiet(levels.word_count, it->coordinates ? levels.word_count / it->coordinates : 1);
     const size_t total =
         wkb_column_from_coordinates(&levels, kind, dimension, &options, out, OUT_MOST, ends, statuses);
@@ -312,7 +312,7 @@ static void are_sliced(const wkb_column *column) {
 }
 
 void what_lasts_is_as_it_was_in_columns(void) {
-  static const size_t FIRST_BITS[] = {0, 3, 11};
+  static const size_t FIRST_BITS[] = {0, 4, 75};
   fill_data();
   for (int i = 0; i < 6; i++) {
     const wkb_column column = column_from(FIRST_BITS[i / 2], i % 2);
