@@ -14,6 +14,7 @@ select wkb_canonical('\x0108000000');
 -- A literal without a type is bytes: those of a text are none of WKB, and the hint says how it is written.
 select wkb_kind('SRID=4326;POINT (1 2)');
 select wkb_canonical('0101000000000000000000F03F0000000000000040');
+select wkb_same(wkb, 'POINT (1 2)') from point;
 \set VERBOSITY terse
 -- What else is often taken for WKB is named, as in c/test/dump.cases.
 select wkb_fault(it) from unnest(array['\x47500001e61000000101000000000000000000f03f0000000000000040',

@@ -140,7 +140,7 @@ static void rows_of_ones_own() {
 
 // Words that are no whole number of coordinates: no row is written, whichever levels have ends.
 static void words_without_a_whole_coordinate() {
-  const std::vector<std::uint64_t> one{1};
+  const std::vector<std::uint64_t> one{1}, none{0};
   const std::uint8_t validity = 0xfe;
   for (wkb_dim dimension = WKB_DIM_XY; dimension <= WKB_DIM_XYZM; dimension++) {
     const std::size_t width = wkb::width_of(dimension);
@@ -154,6 +154,9 @@ static void words_without_a_whole_coordinate() {
       levels.ring_ends = one, levels.validity = nullptr;
       const auto line = wkb::rows_from_coordinates(levels, WKB_KIND_LINE_STRING, dimension, LITTLE);
       expect(line.statuses == wkb::statuses{WKB_STATUS_BAD_LEVELS} && line.data.empty(), "a line string of such words");
+      levels.ring_ends = {}, levels.row_ends = none;
+      const auto empty = wkb::rows_from_coordinates(levels, WKB_KIND_MULTI_POINT, dimension, LITTLE);
+      expect(empty.statuses == line.statuses, "a row of no points beside such words");
     }
   }
 }
