@@ -44,8 +44,9 @@ def texts(*patterns):
     return {path: text_of(path) for path in paths(*patterns)}
 
 
+@functools.lru_cache(maxsize=None)
 def program(crate, name=None):
-    """The path of a program that was built of a crate; None if it isn't there, or is older than a source."""
+    """The path of a program of a crate, looked up once; None if it isn't built, or is older than a source."""
     built = ROOT / f"crates/{crate}/out/{name or crate}"
     below = subprocess.run([ROOT / "tools/crates", "below", crate], stdout=subprocess.PIPE, check=True).stdout.decode()
     folders = [ROOT / f"crates/{it}/{part}" for it in below.split() for part in ("src", "specs", "proofs")]
