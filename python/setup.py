@@ -1,6 +1,6 @@
 # SPDX-License-Identifier: MIT OR Apache-2.0
-"""Puts the extension `_wkb` into the package: the one that WKB_EXTENSION names, or else one that `make` builds here, in
-`native` of the source package, or else the library beside this package."""
+"""Puts the library into the package: the one that WKB_BUILT names, or else one that `make` builds here, in `native` of
+the source package, or else the sources beside this package."""
 import gzip
 import os
 import pathlib
@@ -11,8 +11,8 @@ import subprocess
 import sys
 import tarfile
 
-from setuptools import Extension, setup
-from setuptools.command.build_ext import build_ext
+from setuptools import Distribution, setup
+from setuptools.command.build_py import build_py
 from setuptools.command.sdist import sdist
 
 try:
@@ -23,15 +23,15 @@ except ImportError:
 HERE = pathlib.Path(__file__).resolve().parent
 # The processors by their numbers in the head of an ELF file.
 MACHINES = {62: "x86_64", 183: "aarch64"}
-# The tags of wheels by the C library that the extension asks for: manylinux_2_17 is any Linux with glibc 2.17 or later,
+# The tags of wheels by the C library that ours asks for: manylinux_2_17 is any Linux with glibc 2.17 or later,
 # musllinux_1_1 any with musl 1.1 or later.
 TAGS = {"libc.so.6": "manylinux_2_17_{0}.manylinux2014_{0}", "libc.so": "musllinux_1_1_{0}"}
 
 
-def of_any_linux(extension, machine):
-    """The tag where the extension asks for one of these and no other library, and for nothing newer; or None."""
+def of_any_linux(library, machine):
+    """The tag where the library asks for one of these and no other, and for nothing newer; or None."""
     try:
-        command = ["readelf", "-dVW", extension]
+        command = ["readelf", "-dVW", library]
         told = subprocess.run(command, check=True, stdout=subprocess.PIPE, encoding="utf-8").stdout
     except (OSError, subprocess.CalledProcessError):
         return None
@@ -44,35 +44,38 @@ def of_any_linux(extension, machine):
     return None
 
 
-def platform(extension, own):
-    """The tag of the systems that the extension runs on; that of this system is `own`."""
-    with open(extension, "rb") as built, open(sys.executable, "rb") as python:
+def platform(library, own):
+    """The tag of the systems that the library runs on; that of this system is `own`."""
+    with open(library, "rb") as built, open(sys.executable, "rb") as python:
         head, head_here = built.read(20), python.read(20)
     machine = MACHINES.get(struct.unpack("<18xH", head)[0]) if head.startswith(b"\x7fELF") else None
-    tag = of_any_linux(extension, machine) if machine else None
+    tag = of_any_linux(library, machine) if machine else None
     if tag is None and (head[:8], head[18:]) != (head_here[:8], head_here[18:]):
-        raise SystemExit(f"{extension} is for another system, and makes no wheel here")
+        raise SystemExit(f"{library} is for another system, and makes no wheel here")
     return tag or own
 
 
-def made(folder):
-    """The extension that `make` builds in a folder."""
-    native = next(it for it in (HERE / "native", HERE.parent / "c", HERE.parent) if it.exists())
-    place = pathlib.Path(folder).resolve() / "package" / "porchsorrel_wkb" / "_wkb.abi3.so"
-    own = [f"BUILD={place.parents[2]}", f"PACKAGE={HERE}", f"PYTHON={sys.executable}"]
-    subprocess.run(["make", "-s", "-C", os.fspath(native), *own, "extension"], check=True)
-    return place
+class Build(build_py):
+    """Copies the library beside the Python code of the package."""
+
+    def run(self):
+        super().run()
+        native = next(it for it in (HERE / "native", HERE.parent / "c", HERE.parent) if it.exists())
+        library, build = os.environ.get("WKB_BUILT"), pathlib.Path(self.build_lib).resolve().parent / "native"
+        if not library:
+            own = [f"BUILD={build}", f"PACKAGE={HERE}"]
+            subprocess.run(["make", "-s", "-C", os.fspath(native), *own, "inside"], check=True)
+            library = build / "package" / "porchsorrel_wkb" / "libwkb.so"
+        to = HERE / "src" if getattr(self, "editable_mode", False) else pathlib.Path(self.build_lib)
+        shutil.copy(library, to / "porchsorrel_wkb")
+        self.distribution.wkb_library = library
 
 
-class Build(build_ext):
-    """Copies the extension beside the Python code of the package."""
+class Binary(Distribution):
+    """What is for one system."""
 
-    def build_extension(self, ext):
-        extension = os.environ.get("WKB_EXTENSION") or made(self.build_temp)
-        place = pathlib.Path(self.get_ext_fullpath(ext.name))
-        place.parent.mkdir(parents=True, exist_ok=True)
-        shutil.copy(extension, place)
-        self.distribution.wkb_extension = extension
+    def has_ext_modules(self):
+        return True
 
 
 class Sources(sdist):
@@ -103,20 +106,12 @@ def plain(member):
 
 
 class Wheel(bdist_wheel):
-    """A wheel for CPython 3.11 and all later ones, on each system that the extension runs on."""
-
-    def finalize_options(self):
-        self.py_limited_api = "cp311"
-        super().finalize_options()
+    """A wheel for any Python, on each system that the library runs on."""
 
     def get_tag(self):
-        *python, own = super().get_tag()
-        built = getattr(self.distribution, "wkb_extension", None)
-        return (*python, platform(built, own) if built else own)
+        *_, own = super().get_tag()
+        built = getattr(self.distribution, "wkb_library", None)
+        return "py3", "none", platform(built, own) if built else own
 
 
-sources = [os.fspath(it.relative_to(HERE)) for it in sorted(HERE.glob("src/extension/*.c"))]
-setup(
-    ext_modules=[Extension("porchsorrel_wkb._wkb", sources, py_limited_api=True)],
-    cmdclass={"build_ext": Build, "bdist_wheel": Wheel, "sdist": Sources},
-)
+setup(distclass=Binary, cmdclass={"build_py": Build, "bdist_wheel": Wheel, "sdist": Sources})

@@ -1,11 +1,9 @@
 """The C library for scripts that compare pages with it: built first, in c/out, and called by the Python package."""
 import functools
 import os
-import pathlib
 import shutil
 import subprocess
 import sys
-import sysconfig
 
 from pages import ROOT
 
@@ -26,8 +24,6 @@ def build(goal):
 @functools.lru_cache(maxsize=None)
 def wkb():
     """The Python package over the library."""
-    if not pathlib.Path(sysconfig.get_path("include"), "Python.h").exists():
-        raise Absent(f"there is no Python.h of {sys.executable}")
     build("python")
     sys.path.insert(0, str(ROOT / "c/out/package"))
     import porchsorrel_wkb as package

@@ -32,7 +32,7 @@ class Sbom(unittest.TestCase):
     def test_each_file_has_its_sum(self):
         names = {it["fileName"] for it in self.sbom["files"]}
         wanted = "c/wkb.c c/wkb.hpp c/proved/x86_64.s rust/build.rs rust/src/lib.rs rust/geo/src/lib.rs "
-        wanted += "python/src/extension/calls.c postgres/wkb_postgres.c"
+        wanted += "python/src/held.c postgres/wkb_postgres.c"
         self.assertLessEqual({f"./{it}" for it in wanted.split()}, names)
         for it in self.sbom["files"]:
             content = (ROOT / it["fileName"]).read_bytes()

@@ -3,16 +3,16 @@ import array
 import ctypes
 import gc
 import itertools
-import mmap
 import pickle
 import struct
 import threading
 import unittest
+from unittest import mock
 
 import porchsorrel_wkb as wkb
 from capsules import Again, Arrow, Array, Lists, Schema, address_of, memory_of, pointers
-from samples import BIG_POINT, ISO_POLYGON, POINT, POLYGON, ROWS, STATUSES, numpy
-from porchsorrel_wkb import Column, Dimension, Form, Kind, Order, Status, column_from_coordinates
+from samples import BIG_POINT, EMPTY_POINT, ISO_POLYGON, POINT, POLYGON, ROWS, STATUSES, numpy
+from porchsorrel_wkb import Column, Dimension, Form, Kind, Order, Status, _results, column_from_coordinates
 
 try:
     import shapely
@@ -144,17 +144,12 @@ class Encodings(unittest.TestCase):
             self.assertEqual(read(it)[2], "geoarrow.wkb" if form == Form.ISO else None)
 
     def test_wide(self):
-        """From 2**31 on an end doesn't fit 32 bits. The data is memory that nothing touches."""
-        flags = mmap.MAP_PRIVATE | mmap.MAP_ANONYMOUS
-        numbers = numpy.array if numpy else lambda it: array.array("q", it)
-        with mmap.mmap(-1, 2**36, flags=flags, prot=mmap.PROT_READ) as memory, memoryview(memory) as data:
-            words = data.cast("d")
-            for end, forms in ((2**31 - 1, (b"z", b"+l")), (2**31, (b"Z", b"+L"))):
-                rows = wkb.ColumnEncodings(bytes(1), numbers([0, end]), data)
-                lines = Column.of([LINE]).coordinates()._replace(ring_offsets=numbers([0, end]), coordinates=words)
-                capsules = rows.__arrow_c_array__(asked_for(b"z")), lines.__arrow_c_array__()
-                self.assertEqual([structs_of(it)[0].format for it in capsules], [*forms])
-            del rows, lines, capsules, words
+        """From so many bytes or items on an end doesn't fit 32 bits; here from 21 bytes, or 2 coordinates, on."""
+        for most, forms in ((22, (b"z", b"+l")), (21, (b"Z", b"+l")), (2, (b"Z", b"+L"))):
+            with mock.patch.object(_results, "NARROW", most):
+                capsules = Column.of([POINT]).write(), Column.of([LINE]).coordinates()
+                asked = capsules[0].__arrow_c_array__(asked_for(b"z")), capsules[1].__arrow_c_array__()
+            self.assertEqual([structs_of(it)[0].format for it in asked], [*forms])
 
     def test_there_and_back(self):
         written = Column.of(ROWS).write()
@@ -170,34 +165,22 @@ class Encodings(unittest.TestCase):
 class Released(unittest.TestCase):
     """What is handed out keeps what it shows, and lets it go once."""
 
-    def setUp(self):
-        self.data = bytearray(POINT)
-        self.it = wkb.ColumnEncodings(array.array("B", [0]), array.array("q", [0, 21]), self.data)
-
-    def is_held(self):
-        try:
-            self.data.append(1)
-        except BufferError:
-            return True
-        del self.data[-1]
-        return False
-
     def test_moved(self):
         """A consumer moves the structs, and releases them after the capsules' end, from any thread."""
-        capsules = self.it.__arrow_c_array__()
+        capsules = Column.of([POINT]).write().__arrow_c_array__()
         moved = [type(it).from_buffer_copy(it) for it in structs_of(capsules)]
         for it in structs_of(capsules):
             it.release = None
         del capsules
-        self.assertTrue(self.is_held())
-        self.assertEqual(items_of(*moved), [POINT])
+        gc.collect()
+        others = [Column.of([EMPTY_POINT]).write().__arrow_c_array__() for _ in range(9)]  # in memory that is free
+        self.assertEqual((items_of(*moved), len(others)), ([POINT], 9))
         for it in moved:
             release = ctypes.CFUNCTYPE(None, ctypes.c_void_p)(it.release)
             thread = threading.Thread(target=release, args=(ctypes.addressof(it),))
             thread.start()
             thread.join()
             self.assertIsNone(it.release)
-        self.assertFalse(self.is_held())
 
     def test_moved_child(self):
         """A child that is moved lives on when its parent is released."""

@@ -1,5 +1,4 @@
 """The calls for one geometry."""
-import gc
 import pickle
 import struct
 import sys
@@ -185,7 +184,6 @@ class Records(unittest.TestCase):
         for record in (*self.ALL, wkb.Fault(1, 2, 0, 0, 0, Status.SHORT_HEADER)):
             for name in ("count", "x", "offset", "other"):
                 self.assertRaises(AttributeError, setattr, record, name, 0)
-            self.assertFalse(gc.is_tracked(record))
 
     def test_keys(self):
         again = wkb.check(POLYGON), wkb.parts(POLYGON)[1], wkb.bounds(LINE), wkb.bounds(LINE).x
@@ -199,21 +197,7 @@ class Records(unittest.TestCase):
             values = values_of(record)
             made = type(record)(**values)
             self.assertEqual((made, repr(made), values_of(made)), (record, repr(record), values))
-            for name in values:
-                self.assertRaises(TypeError, type(record), **dict(values, **{name: "1"}))
             self.assertRaises(TypeError, type(record))
-
-    def test_numbers(self):
-        """A record has no number that its struct can't have, or that has no name."""
-        part, fault = values_of(wkb.parts(POINT)[0]), values_of(wkb.Fault(0, 0, 9, 5, 0, Status.SHORT_POINT))
-        for values, name, number in ((part, "count", 2**70), (part, "srid", -1), (part, "srid", 2**32),
-                                     (fault, "code", 2**32), (part, "kind", -1)):
-            make = wkb.Part if values is part else wkb.Fault
-            self.assertRaises(OverflowError, make, **dict(values, **{name: number}))
-        for values, name, number in ((part, "kind", 8), (part, "dimension", 4), (part, "order", 2),
-                                     (fault, "status", 256)):
-            make = wkb.Part if values is part else wkb.Fault
-            self.assertRaisesRegex(ValueError, "no such number", make, **dict(values, **{name: number}))
 
 
 class Pickling(unittest.TestCase):

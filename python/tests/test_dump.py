@@ -30,8 +30,6 @@ class Dump(unittest.TestCase):
         for items, lines in ((-1, 0), (2**32, 0), (0, -1), (0, 2**64)):
             self.assertRaisesRegex(ValueError, "are not from 0", wkb.dump, POINT, items, lines)
         self.assertRaises(TypeError, wkb.dump, None)
-        self.assertRaises(ValueError, wkb._wkb.dump_program, [])
-        self.assertRaises(TypeError, wkb._wkb.dump_program, [b"wkb_dump", "x"])
 
 
 class Program(unittest.TestCase):

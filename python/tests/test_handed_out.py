@@ -5,7 +5,6 @@ import gc
 import unittest
 import weakref
 
-import porchsorrel_wkb as wkb
 from capsules import Again, Arrow, Lists, Records
 from samples import POINT, ROWS, numpy
 from porchsorrel_wkb import Column, Dimension, Kind, column_from_coordinates
@@ -85,31 +84,6 @@ class Changed(unittest.TestCase):
         self.assertEqual(list(column_from_coordinates(Kind.LINE_STRING, flat).rows), [self.LINE_BYTES])
         self.refused(levels._replace(coordinates=numpy.zeros((1, 5))), text="5 numbers")
 
-    def test_guards(self):
-        """The extension by itself takes no array that isn't whole."""
-        offsets, words = memoryview(array.array("q", [0, 1])), memoryview(array.array("d", [0]))
-        leaf = b"g", b"", None, 0, 1, 0, (None, words), ()
-        numbers = memoryview(array.array("d", 9 * [0]))
-        longer = b"g", b"", None, 0, 2, 0, (None, memoryview(array.array("d", [0, 0]))), ()
-        for node in (
-            (b"Z", b"", None, 0, 1, 0, (None, offsets), ()),
-            (b"Z", b"", None, 0, 1, 0, (None, None, words), ()),
-            (b"+w:0", b"", None, 0, 1, 0, (None,), (leaf,)),
-            (b"+w:2", b"", None, 0, 1, 0, (None,), (leaf,)),
-            (b"+l", b"", None, 0, -1, 0, (None, offsets), (leaf,)),
-            (b"+l", b"", None, 0, 1, 0, (None, offsets), (leaf[:4],)),
-            (b"+s", b"", None, 0, 2, 0, (None,), (leaf,)),
-            (b"+s", b"", None, 0, 2, 0, (None,), (leaf, longer)),
-            (b"+s", b"", None, 0, 2, 0, (None,), (longer, leaf)),
-            (b"+s", b"", None, 0, 1, 0, (None,), 9 * (leaf,)),
-            (b"g", b"", None, 0, 2**62, 0, (None, words), ()),
-            (b"g", b"", None, 0, 1, 0, 4 * (words,), ()),
-            (b"g", b"", None, 0, 9, 0, (memoryview(b"1"), numbers), ()),
-            (b"Z", b"", None, 0, 2, 0, (None, memoryview(array.array("q", [0, 1, 1]))[:2], words), ()),
-        ):
-            with self.subTest(node[0]), self.assertRaises((ValueError, IndexError)):
-                wkb._wkb.export(node, True)
-
 
 class Held(unittest.TestCase):
     """What an array that has gone out holds."""
@@ -118,7 +92,7 @@ class Held(unittest.TestCase):
     def test_own(self):
         """Of the package's own memory no object of Python is held."""
         result = Column.of(ROWS).write()
-        capsules, watched = result.__arrow_c_array__(), weakref.ref(result.data.base)
+        capsules, watched = result.__arrow_c_array__(), weakref.ref(result.data)
         del result
         gc.collect()
         self.assertIsNone(watched())

@@ -10,14 +10,13 @@ import unittest
 
 import porchsorrel_wkb as wkb
 from samples import POINT
-from porchsorrel_wkb import Column, Kind, Order, _wkb, collect, column_from_coordinates
+from porchsorrel_wkb import Column, Kind, Order, collect, column_from_coordinates
 
 COUNT = 100_000
 # A collection of points, whose parts are read one by one.
 LONG = struct.pack("<BII", 1, 7, COUNT) + COUNT * POINT
 COLUMN = Column.of(COUNT * [POINT])
 LEVELS = memoryview(COLUMN.coordinates().coordinates).toreadonly()
-ROOMS = None, None, None, bytearray(8 * COUNT + 8), bytearray(COUNT)
 # The same memory where another thread may write it.
 WRITABLE, NUMBERS = bytearray(LONG), bytearray(LEVELS)
 COPY = Column(bytearray(COLUMN._data), COLUMN._offsets, offset_size=8)
@@ -87,8 +86,7 @@ def calls(data, column, levels):
 
 class Lock(unittest.TestCase):
     def test_given_back(self):
-        for call in (*calls(LONG, COLUMN, LEVELS), lambda: wkb.same(POINT, LONG),
-                     lambda: _wkb.column_coordinates(COLUMN._arguments(), 0, ROOMS)):
+        for call in (*calls(LONG, COLUMN, LEVELS), lambda: wkb.same(POINT, LONG)):
             self.assertEqual(order_of(call, 1_000), ["begin", "meanwhile", "end"])
 
     def test_kept_over_what_may_change(self):

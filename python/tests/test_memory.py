@@ -4,6 +4,7 @@ This file is also the program that rejects, in a process of its own, so that a c
 """
 import array
 import contextlib
+import ctypes
 import gc
 import itertools
 import subprocess
@@ -70,7 +71,7 @@ CALLS = {
     "same": lambda: wkb.same(POINT, POLYGON),
     "same with a refusal": lambda: wkb.same(POINT, b"\1"),
     "parts": lambda: list(wkb.parts(COLLECTION)),
-    "a part that is not there": lambda: wkb._wkb.read_record(wkb.Part, TABLE._memory, 9),
+    "a part that is not there": lambda: TABLE[9],
     "coordinates": lambda: wkb.coordinates(POLYGON, TABLE[1]),
     "a dump": lambda: wkb.dump(POLYGON),
     "statuses": lambda: wkb.status_text(40),
@@ -96,7 +97,6 @@ CALLS = {
     "coordinates there and back": lambda: column_from_coordinates(Kind.MULTI_POINT, Column.of([POINTS]).coordinates()),
     "a record": lambda: wkb.Range(1.0, 2.0, 3),
     "the values of a record": lambda: (repr(TABLE[0]), hash(TABLE[0]), TABLE[0] == TABLE[1], TABLE[0].__reduce__()),
-    "a record of wrong values": lambda: wkb.Fault(0, 0, 0, 0, 0, 256),
 }
 ALL = {name: (lambda make=make: ready(make()), take) for name, (make, take) in GIVEN.items()}
 ALL.update((name, (tuple, lambda _, call=call: call())) for name, call in CALLS.items())
@@ -146,6 +146,11 @@ class References(unittest.TestCase):
                 found = [*self.growths(*of)]
                 self.assertLess(len(found), TRIES, found)
 
+    def test_none(self):
+        """Where there is no memory for a result, this is an error."""
+        for size in (2**62, 2**63):
+            self.assertRaises(MemoryError, wkb._buffers.new_memory, size)
+
     def test_losses_are_seen(self):
         """What keeps an object, a reference or some memory at each call."""
         kept = []
@@ -164,8 +169,12 @@ def refuse_each(make, call):
             call(made)
         except MemoryError:
             count, last = count + 1, number
-        except (TypeError, ValueError, IndexError, OSError):
+        except (TypeError, ValueError, IndexError, OSError, BufferError):
             pass
+        except ctypes.ArgumentError as error:  # which ctypes makes of any error in the conversion of an argument
+            if "MemoryError" not in str(error):
+                raise
+            count, last = count + 1, number
         except SystemError as error:
             # CPython may lose an error between two functions in Python. Of one in C it says "<built-in function".
             if not str(error).startswith(("<function ", "error return without exception set")):
@@ -195,8 +204,6 @@ class Memory(unittest.TestCase):
         self.assertEqual(ran.returncode, 0, ran.stdout[-300:] + ran.stderr[-3000:])
         counts = {name: int(count) for count, name in (line.split(" ", 1) for line in ran.stdout.splitlines())}
         self.assertEqual([*counts], [*REFUSED])
-        without = [name for name, count in counts.items() if not count]
-        self.assertEqual(without, ["well formed", "same"], "which allocate nothing")
         self.assertGreater(sum(counts.values()), 1000)
 
 

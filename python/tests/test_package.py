@@ -1,5 +1,4 @@
 """The package beside wkb.h, its extension, other processes, and the example of the pages."""
-import ctypes
 import importlib.util
 import inspect
 import io
@@ -17,7 +16,7 @@ from unittest import mock
 
 import porchsorrel_wkb as wkb
 from samples import ISO_POLYGON
-from porchsorrel_wkb import Status, _records, _wkb
+from porchsorrel_wkb import Status, _library, _records
 
 try:
     import docutils.core
@@ -46,7 +45,7 @@ class Header(unittest.TestCase):
         self.assertEqual(list(self.fields("wkb_range", types)), _records.RANGE)
         for record, known in _records.FIELDS.items():
             self.assertEqual(list(self.fields(f"wkb_{record.__name__.lower()}", types)), known)
-            self.assertEqual(_records.SIZES[record], sum(8 if it[-1] == "8" else 4 for it in _flat(known)))
+            self.assertEqual(_records.STRUCTS[record].size, sum(8 if it[-1] == "8" else 4 for it in _flat(known)))
 
     def test_numbers(self):
         for numbers in (Status, wkb.Kind, wkb.Dimension, wkb.Order, wkb.Form):
@@ -86,7 +85,7 @@ class Names(unittest.TestCase):
         """The docstring of each class with fields says what each is."""
         for name in self.PUBLIC:
             it = getattr(wkb, name)
-            for field in getattr(it, "_fields", getattr(it, "__match_args__", ())):
+            for field in getattr(it, "_fields", ()):
                 self.assertRegex(it.__doc__, rf"\n *:ivar {field}: \w", name)
         for form in wkb.Form:
             self.assertRegex(wkb.Form.__doc__, rf":cvar {form.name}: \w")
@@ -104,32 +103,31 @@ class Names(unittest.TestCase):
     def test_version(self):
         written = re.search(r'^version = "(.*)"$', (TOP / "python/pyproject.toml").read_text(), re.MULTILINE)
         self.assertEqual(wkb.__version__, written.group(1))
-        with mock.patch.object(_wkb, "VERSION", 1123004):
+        with mock.patch.object(_library, "_VERSION", lambda: 1123004):
             self.assertEqual(wkb.version(), (1, 123, 4))
 
 
 class Inside(unittest.TestCase):
-    """The library is inside the extension, and no other library is looked for."""
+    """The library is inside the package, and no other library is looked for."""
 
     def test_environment(self):
-        """The package works anywhere, whatever WKB_LIBRARY names, and without ctypes, whose functions it would
-        share with other packages."""
+        """The package works anywhere, whatever WKB_LIBRARY names, and whatever types others give the functions of
+        ctypes.pythonapi, which it leaves as they are."""
         with tempfile.TemporaryDirectory() as folder:
             shutil.copytree(pathlib.Path(wkb.__file__).parent, f"{folder}/porchsorrel_wkb",
                             ignore=shutil.ignore_patterns("__pycache__"))
             environment = dict(os.environ, PYTHONPATH=folder, WKB_LIBRARY=f"{folder}/none.so")
-            program = ("import sys; sys.modules['ctypes'] = sys.modules['numpy'] = None\n"
+            program = ("import ctypes, re, sys; sys.modules['numpy'] = None\n"
+                       "own = [getattr(ctypes.pythonapi, it) for it in "
+                       "re.findall(r'\\bPy[A-Z]\\w+_\\w+', ''.join(open(it).read() for it in sys.argv[1:]))]\n"
+                       "for it in own: it.argtypes, it.restype = [ctypes.c_double], ctypes.c_char\n"
                        "import porchsorrel_wkb as wkb\n"
-                       "print(wkb.__file__, *wkb.Column.from_arrow(wkb.Column.of([b'']).write()).check())")
-            ran = subprocess.run([sys.executable, "-c", program], env=environment, stdout=subprocess.PIPE, check=True)
+                       "print(wkb.__file__, *wkb.Column.from_arrow(wkb.Column.of([b'']).write()).check())\n"
+                       "assert own and all(it.argtypes == [ctypes.c_double] for it in own)")
+            sources = map(str, pathlib.Path(folder).glob("*/_*.py"))
+            ran = subprocess.run([sys.executable, "-c", program, *sources], env=environment, stdout=subprocess.PIPE,
+                                 check=True)
             self.assertEqual(ran.stdout.decode(), f"{folder}/porchsorrel_wkb/__init__.py 16\n")
-
-    def test_names(self):
-        """The extension shows its first function alone, so that a program may have another such library."""
-        extension = ctypes.CDLL(_wkb.__file__)
-        self.assertTrue(extension.PyInit__wkb)
-        for name in ("wkb_check", "wkb_version", "wkb_raw_check"):
-            self.assertFalse(hasattr(extension, name))
 
 
 class Tags(unittest.TestCase):

@@ -40,7 +40,7 @@ What the numbers mean, as enums of integers::
                                     the result of a call or of a row
     Kind, Dimension, Order, Form    POINT.., XY.., BIG and LITTLE, ISO..
 
-Records are Found, Fault, Part, Range and Box: immutable, comparable and hashable. Table is a sequence of Part or
+Records are Found, Fault, Part, Range and Box, which are named tuples. Table is a sequence of Part or
 Box, and becomes a structured array by numpy.asarray. The column calls return ColumnFound, ColumnBounds, ColumnParts,
 ColumnEncodings and ColumnCoordinates, which are compared as a whole, and Facts; geoparquet returns a GeoParquet.
 Bounds, encodings and coordinates are arrays for packages of Arrow, and `rows` of ColumnEncodings is a sequence of bytes
@@ -63,6 +63,7 @@ The library is inside this package: version() is that of its wkb.h. help(wkb.wri
 from ._calls import bounds as bounds
 from ._calls import check as check
 from ._calls import coordinates as coordinates
+from ._calls import dump as dump
 from ._calls import parts as parts
 from ._calls import same as same
 from ._calls import view as view
@@ -81,7 +82,6 @@ from ._errors import Refused as Refused
 from ._geoparquet import GeoParquet as GeoParquet
 from ._geoparquet import geoparquet as geoparquet
 from ._levels import column_from_coordinates as column_from_coordinates
-from ._library import dump as dump
 from ._library import status_text as status_text
 from ._library import version as version
 from ._records import Box as Box

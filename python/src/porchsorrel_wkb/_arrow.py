@@ -1,10 +1,13 @@
 # SPDX-License-Identifier: MIT OR Apache-2.0
 """Columns over Arrow's memory, as other packages hand it out in capsules."""
+import ctypes
+import itertools
 import struct
 import sys
-from typing import Any, Iterator, NamedTuple, Optional, Protocol, Tuple
+from typing import Any, Iterator, NamedTuple, Optional, Protocol, Tuple, Type, TypeVar
 
-from . import _wkb
+from ._buffers import new_memory
+from ._library import POINTER, call_of, python_call
 from ._rows import Pieces, object_of, pieces_of
 
 
@@ -20,65 +23,136 @@ class ArrowStream(Protocol):
     def __arrow_c_stream__(self, requested_schema: Any = None) -> Any: ...
 
 
-class Schema(NamedTuple):
-    """The fields of Arrow's `ArrowSchema`, in the capsule that owns it."""
+_pointer_of = python_call("PyCapsule_GetPointer", POINTER, ctypes.py_object, ctypes.c_char_p)
+_show = python_call("PyMemoryView_FromMemory", ctypes.py_object, POINTER, ctypes.c_ssize_t, ctypes.c_int)
+_READ_ONLY = 0x100
+_FILL = ctypes.CFUNCTYPE(ctypes.c_int, POINTER, POINTER)
+_TEXT = ctypes.CFUNCTYPE(ctypes.c_char_p, POINTER)
+Struct = TypeVar("Struct", bound="_Struct")
 
-    format: Optional[bytes]
-    n_children: int
-    dictionary: bool  # whether it has one
-    release: bool  # whether it isn't released
-    capsule: Any
+
+def _owner(kind: str) -> Any:
+    """Return a class of the addresses of structs, each of which is released with the last reference to the object."""
+    def end(self: int, end: Any = call_of(f"held_end_{kind}", None, POINTER).locked) -> None:
+        end(self)
+
+    return type("Owner", (int,), {"__slots__": (), "__del__": end})  # the collector doesn't know of such objects
+
+
+class _Struct(ctypes.Structure):
+    """One of Arrow's structs, whose memory lives by its owner."""
+
+    NAME: bytes
+    Owner: Any
+    owner: Any = None
+
+    @classmethod
+    def new(cls: Type[Struct]) -> Struct:
+        """Return a struct of the package's own."""
+        it = cls.from_address(new_memory(ctypes.sizeof(cls)))
+        ctypes.memset(ctypes.addressof(it), 0, ctypes.sizeof(it))
+        it.owner = cls.Owner(ctypes.addressof(it))
+        return it
+
+    @classmethod
+    def in_capsule(cls: Type[Struct], capsule: Any) -> Struct:
+        """Return the struct in a capsule."""
+        it = cls.from_address(_pointer_of(capsule, cls.NAME))
+        it.owner = capsule
+        return it
+
+    @classmethod
+    def taken(cls: Type[Struct], capsule: Any) -> Struct:
+        """Return a struct of the package's own, to which that of a capsule is moved."""
+        given, it = cls.in_capsule(capsule), cls.new()
+        moved = bytes(given)
+        given.release = None
+        ctypes.memmove(ctypes.addressof(it), moved, len(moved))
+        return it
+
+    def child(self: Struct, number: int) -> Struct:
+        """Return a child, which lives by its parent."""
+        place = self.children[number] if 0 <= number < self.n_children and self.children else None
+        expect(place is not None, f"array has no child {number}")
+        it = type(self).from_address(place)
+        it.owner = self
+        expect(it.release, "array is released already")
+        return it
+
+
+_CHILDREN = [("children", ctypes.POINTER(POINTER)), ("dictionary", POINTER), ("release", POINTER), ("data", POINTER)]
+
+
+class Schema(_Struct):
+    """Arrow's `ArrowSchema`. Of a released one nothing is read but that it is."""
+
+    NAME, Owner = b"arrow_schema", _owner("schema")
+    _fields_ = [("_format", ctypes.c_char_p), ("_name", POINTER), ("_metadata", POINTER), ("flags", ctypes.c_int64),
+                ("n_children", ctypes.c_int64), *_CHILDREN]
+
+    @property
+    def format(self) -> Optional[bytes]:
+        return self._format if self.release else None
 
     def name(self, most: int) -> str:
         """Return the name, of a longer one so many bytes."""
-        return _wkb.schema_name(self.capsule, most).decode(errors="replace")
+        if not self.release or not self._name:
+            return ""
+        text = (ctypes.c_char * most).from_address(self._name)
+        return b"".join(itertools.takewhile(b"\0".__ne__, text)).decode(errors="replace")
+
+    def value_of(self, key: bytes) -> Optional[bytes]:
+        """Return the value of a key in its metadata, where no text before it is too long."""
+        at, found = self._metadata if self.release else None, None
+        if not at:
+            return None
+        for number in range(2 * ctypes.c_int32.from_address(at).value):
+            at += 4
+            size = ctypes.c_int32.from_address(at).value
+            if not 0 <= size <= MOST_METADATA:
+                return None
+            if number % 2 and found == key:
+                return ctypes.string_at(at + 4, size)
+            found = ctypes.string_at(at + 4, size) if size == len(key) else None
+            at += size
+        return None
 
     def extension(self) -> bytes:
         """Return the name of a type that is an extension of Arrow's, else nothing."""
-        return _wkb.schema_metadata(self.capsule, NAME_KEY, MOST_METADATA) or b""
+        return self.value_of(NAME_KEY) or b""
 
     def metadata(self) -> Optional[bytes]:
         """Return what a type of GeoArrow says of its rows, such as their CRS; None of another type."""
         if not self.extension().startswith((b"geoarrow.", b"ogc.wkb")):
             return None
-        text = _wkb.schema_metadata(self.capsule, METADATA_KEY, MOST_METADATA)
+        text = self.value_of(METADATA_KEY)
         if text:
             object_of(text.decode(errors="replace"))
         return text or None
 
 
-class Array(NamedTuple):
-    """The fields of Arrow's `ArrowArray`, in the capsule that owns it."""
+class Array(_Struct):
+    """Arrow's `ArrowArray`."""
 
-    length: int
-    null_count: int
-    offset: int
-    n_buffers: int
-    n_children: int
-    buffers: bool  # whether it has a list of them
-    dictionary: bool
-    release: bool
-    capsule: Any
+    NAME, Owner = b"arrow_array", _owner("array")
+    _fields_ = [*((name, ctypes.c_int64) for name in ("length", "null_count", "offset", "n_buffers", "n_children")),
+                ("buffers", ctypes.POINTER(POINTER)), *_CHILDREN]
 
     def buffer(self, place: int, size: int) -> Optional[memoryview]:
-        """Return so many bytes of a buffer, which are there as long as the capsule lives; None if there is none."""
-        return _wkb.array_buffer(self.capsule, place, size)
+        """Return so many bytes of a buffer, which are there as long as the array lives; None if there is none."""
+        at = self.buffers[place] if 0 <= place < self.n_buffers and self.buffers else None
+        return _show(at, size, _READ_ONLY) if at and 0 <= size <= sys.maxsize - at else None
 
 
-def schema_of(capsule: Any) -> Schema:
-    it = Schema(*_wkb.schema_fields(capsule), capsule)
-    expect(it.release, "array is released already")
-    return it
+class Stream(_Struct):
+    """Arrow's `ArrowArrayStream`."""
 
-
-def array_of(capsule: Any) -> Array:
-    return Array(*_wkb.array_fields(capsule), capsule)
+    NAME, Owner = b"arrow_array_stream", _owner("stream")
+    _fields_ = [(name, POINTER) for name in ("get_schema", "get_next", "get_last_error", "release", "data")]
 
 
 # The keys of a type that is an extension of Arrow's. Texts that are longer are not looked at.
 NAME_KEY, METADATA_KEY, MOST_METADATA = b"ARROW:extension:name", b"ARROW:extension:metadata", 1 << 24
-# The kinds of structs of `_wkb`.
-SCHEMA, ARRAY, STREAM = range(3)
 # The types of rows, and the bytes of an offset: those of binary views have none.
 OFFSET_SIZES = {b"z": 4, b"Z": 8, b"vz": 0}
 # A view has so many bytes. A row of up to SHORT bytes is in the view itself; of a longer one it says where it is.
@@ -111,6 +185,7 @@ def expect(holds: Any, text: str) -> None:
 
 
 def check_schema(it: Schema) -> None:
+    expect(it.release, "array is released already")
     expect(it.format is not None, "array has no format")
     expect(0 <= it.n_children <= MOST_PARTS, f"array can't have {it.n_children} children")
 
@@ -138,24 +213,12 @@ def is_all_set(it: Array, first: int, count: int) -> bool:
     return (bits >> first % 8) + 1 & (1 << count) - 1 == 0
 
 
-def schema_child(of: Schema, number: int) -> Schema:
-    child = _wkb.child(of.capsule, False, number)
-    expect(child is not None, f"array has no child {number}")
-    return schema_of(child)
-
-
-def array_child(of: Array, number: int) -> Array:
-    child = _wkb.child(of.capsule, True, number)
-    expect(child is not None, f"array has no child {number}")
-    return array_of(child)
-
-
 def _number_of(name: str, schema: Schema) -> int:
     """Return which child of records has this name. None is looked at that comes after it."""
     names, most = [], max(4 * len(name) + 1, SHOWN)  # a character has at most four bytes
     if schema.format == b"+s" and not schema.dictionary:
         for number in range(schema.n_children):
-            found = schema_child(schema, number).name(most)
+            found = schema.child(number).name(most)
             if found == name:
                 return number
             if number < SHOWN:
@@ -185,7 +248,7 @@ def _column_of(schema: Schema, name: Optional[str]) -> _Column:
     if name is None:
         return _Column(None, 0, _offset_size_of(schema), schema.metadata())
     number = _number_of(name, schema)
-    child = schema_child(schema, number)
+    child = schema.child(number)
     return _Column(number, schema.n_children, _offset_size_of(child), child.metadata())
 
 
@@ -206,7 +269,7 @@ def _pieces_in(it: Array, column: _Column) -> Pieces:
         check_array(it, column.children, OF_RECORDS)
         if it.null_count and has_validity(it) and not is_all_set(it, first, rows):
             raise ValueError("records of the Arrow array are null as a whole")
-        it = array_child(it, column.child)
+        it = it.child(column.child)
         expect(first + rows <= it.length, f"array has records of which a column has {it.length} rows only")
         first += it.offset
     check_array(it, 0, OF_OFFSETS if size else OF_VIEWS)
@@ -255,7 +318,8 @@ def taken(array: ArrowArray) -> Tuple[Schema, Array]:
         hint = "; chunks_from_arrow takes what has chunks" if hasattr(array, "__arrow_c_stream__") else ""
         raise TypeError(f"{type(array).__name__} has no method __arrow_c_array__{hint}")
     schema_capsule, capsule = array.__arrow_c_array__()
-    schema, it = schema_of(_wkb.take(schema_capsule, SCHEMA)), array_of(_wkb.take(capsule, ARRAY))
+    schema, it = Schema.taken(schema_capsule), Array.taken(capsule)
+    expect(schema.release, "array is released already")
     expect(schema.n_children == it.n_children, "array has other children than its schema")
     return schema, it
 
@@ -265,23 +329,27 @@ def chunks_of_arrow(stream: ArrowStream, name: Optional[str]) -> Iterator[Pieces
     if not hasattr(stream, "__arrow_c_stream__"):
         hint = "; from_arrow takes one array" if hasattr(stream, "__arrow_c_array__") else ""
         raise TypeError(f"{type(stream).__name__} has no method __arrow_c_stream__{hint}")
-    capsule = _wkb.take(stream.__arrow_c_stream__(), STREAM)
-    return _chunks(capsule, _column_of(schema_of(_next(capsule, False)), name))
+    source = Stream.taken(stream.__arrow_c_stream__())
+    return _chunks(source, _column_of(_next(source, source.get_schema, Schema), name))
 
 
-def _next(capsule: Any, is_array: bool) -> Any:
+def _next(stream: Stream, function: Any, kind: Type[Struct]) -> Struct:
     """Return the next array of a stream, or its schema."""
-    found = _wkb.stream_next(capsule, is_array)
-    if isinstance(found, tuple):
-        code, text = found
-        raise OSError(code, (text or b"the Arrow stream failed").decode(errors="replace"))
-    return found
+    expect(function, "stream lacks a function")
+    expect(stream.release, "stream is released already")
+    it, place = kind.new(), ctypes.addressof(stream)
+    code = _FILL(function)(place, ctypes.addressof(it))
+    if code == 0:
+        return it
+    ctypes.memset(ctypes.addressof(it), 0, ctypes.sizeof(it))  # of a failure nothing else is said
+    text = _TEXT(stream.get_last_error)(place) if stream.get_last_error else None
+    raise OSError(code, (text or b"the Arrow stream failed").decode(errors="replace"))
 
 
-def _chunks(capsule: Any, column: _Column) -> Iterator[Pieces]:
-    """Yield the arrays of a stream, which lives as long as its capsule."""
+def _chunks(stream: Stream, column: _Column) -> Iterator[Pieces]:
+    """Yield the arrays of a stream."""
     while True:
-        array = array_of(_next(capsule, True))
+        array = _next(stream, stream.get_next, Array)
         if not array.release:
             return
         pieces = [_pieces_in(array, column)]

@@ -1,23 +1,48 @@
 # SPDX-License-Identifier: MIT OR Apache-2.0
 """The calls for one geometry."""
-from typing import List, Optional, Tuple, Union
+import ctypes
+import struct
+from typing import Any, List, NoReturn, Optional, Tuple, Union
 
-from . import _wkb
-from ._buffers import Buffer, Numbers, view_of
-from ._enums import Form, Order
-from ._records import Box, Found, Part, Table
-from ._wkb import bounds as _bounds
-from ._wkb import check as _check
-from ._wkb import coordinates as _coordinates
-from ._wkb import parts as _parts
-from ._wkb import same as _same
-from ._wkb import well_formed as _well_formed
-from ._wkb import write as _write
+from ._buffers import Buffer, Inputs, Numbers, bytes_in, over, view_of
+from ._enums import Form, Kind, Order, Status, is_refusal, make_options
+from ._errors import Refused, no_such
+from ._library import (
+    BOUNDS, CHECK, DUMP, DUMP_OPTIONS, FAULT, OPTIONS, OTHER, PARTS, PUT, SAME, WRITE, address_of, python_call,
+    status_text,
+)
+from ._records import Box, Fault, Found, Part, Table, box_in, found_in, record_in
+
+# Results go into memory of this size first: so many bytes of an encoding, or parts.
+SMALL, FEW = 4096, 64
+PART_SIZE = SMALL // FEW
+_Small, _Record, _Fault = ctypes.c_char * SMALL, ctypes.c_char * 96, ctypes.c_char * FAULT.size
+_new_bytes = python_call("PyBytes_FromStringAndSize", ctypes.py_object, ctypes.c_void_p, ctypes.c_ssize_t)
+
+
+def _refuse(data: Buffer, which: int = 1) -> NoReturn:
+    """Raise why an input is rejected, the first or the second one, and what it is if it is no WKB."""
+    fault = _Fault()
+    with Inputs() as inputs:
+        at, size = inputs.place(data)
+        status = inputs.choose(CHECK, size)(at, size, None, fault)
+        other = OTHER(fault, at, size)
+    _expect_same(is_refusal(status))
+    raise Refused(record_in(Fault, fault), which, status_text(status), other.decode())
+
+
+def _expect_same(holds: bool) -> None:
+    """Raise an error if a second call finds something else than the first one."""
+    if not holds:
+        raise RuntimeError("the input has changed during the call")
 
 
 def check(data: Buffer) -> Found:
     """Return what is at the start of the bytes. Raise `Refused` if it isn't a geometry."""
-    return _check(data)
+    found = _Record()
+    if over(CHECK, data, found, None):
+        _refuse(data)
+    return found_in(found)
 
 
 def well_formed(data: Buffer) -> bool:
@@ -25,12 +50,16 @@ def well_formed(data: Buffer) -> bool:
 
     No bytes raise an error. Those of a GeoPackage or of SpatiaLite, and hexadecimal text, are no geometry.
     """
-    return _well_formed(data)
+    found = _Record()
+    return not over(CHECK, data, found, None) and found_in(found).size == view_of(data).nbytes
 
 
 def bounds(data: Buffer) -> Box:
     """Return the bounds of the geometry at the start of the bytes."""
-    return _bounds(data)
+    box = _Record()
+    if over(BOUNDS, data, box, None):
+        _refuse(data)
+    return box_in(box)
 
 
 def write(
@@ -42,17 +71,65 @@ def write(
     form takes one. With the default options, two geometries of one value have the same encoding, whatever their byte
     orders and SRIDs are.
     """
-    return _write(data, order, form, srid)
+    options = OPTIONS.pack(*make_options(order, form, srid))
+    out, size = _Small(), ctypes.c_size_t()
+    status = over(WRITE, data, options, out, SMALL, ctypes.byref(size), None)
+    if status == Status.OK:
+        return out[: size.value]  # type: ignore[return-value]
+    if status != Status.NO_ROOM:
+        _refuse(data)
+    room, made = size.value, _new_bytes(None, size.value)
+    status = over(WRITE, data, options, address_of(made), room, ctypes.byref(size), None)
+    _expect_same(status == Status.OK and size.value == room)
+    return made  # type: ignore[no-any-return]
 
 
 def same(first: Buffer, second: Buffer) -> bool:
     """Return whether both begin with geometries of one value: SRIDs aside, and coordinates compared by their bits."""
-    return _same(first, second)
+    equal, which = ctypes.c_uint32(), ctypes.c_uint32()
+    with Inputs() as inputs:
+        ours, theirs = inputs.place(first), inputs.place(second)
+        call = inputs.choose(SAME, ours[1] + theirs[1])
+        status = call(*ours, *theirs, ctypes.byref(equal), None, ctypes.byref(which))
+    if status:
+        _refuse(second if which.value == 2 else first, which.value)
+    return equal.value == 1
 
 
 def parts(data: Buffer) -> Table[Part]:
     """Return the parts of the geometry at the start of the bytes, in preorder: itself, and its rings and members."""
-    return Table(Part, _parts(data))
+    few, count = _Small(), ctypes.c_size_t()
+    status = over(PARTS, data, few, FEW, ctypes.byref(count), None)
+    if status == Status.OK:
+        return Table(Part, few[: count.value * PART_SIZE])
+    if status != Status.NO_ROOM:
+        _refuse(data)
+    room, made = count.value, bytearray(count.value * PART_SIZE)
+    status = over(PARTS, data, address_of(made), room, ctypes.byref(count), None)
+    _expect_same(status == Status.OK and count.value == room)
+    return Table(Part, made)
+
+
+def _words_of(data: Buffer, view: memoryview, part: Union[Part, Found]) -> Tuple[int, int]:
+    """Return the bytes where the coordinates of a part begin and end, if the bytes of the data, which the view shows,
+    have such a part where it says: its header and count are right, and no byte is missing.
+    """
+    if not isinstance(part, (Part, Found)):
+        raise TypeError(f"a Part of parts(data) or the Found of check(data) is expected, and not {type(part)!r}")
+    begin, width = part.begin if isinstance(part, Part) else 0, part.dimension.width
+    is_there = 0 <= begin <= view.nbytes and part.kind <= Kind.LINE_STRING
+    if is_there and part.kind == Kind.RING:
+        count = int.from_bytes(view[begin : begin + 4], "big" if part.order == Order.BIG else "little")
+        room = (view.nbytes - begin - 4) // 8 // width
+        is_there = part.offset == begin + 4 and part.count == count and 0 <= count <= room
+    elif is_there:
+        found = _Record()
+        is_there = not over(CHECK, view[begin:] if begin else data, found, None)
+        it = found_in(found) if is_there else part
+        is_there = is_there and (begin + it.offset, *it[4:]) == (part.offset, part.count, *part[-4:])
+    if not is_there:
+        no_such(part)
+    return part.offset, part.offset + 8 * width * part.count
 
 
 def coordinates(data: Buffer, part: Union[Part, Found]) -> List[Tuple[float, ...]]:
@@ -61,7 +138,9 @@ def coordinates(data: Buffer, part: Union[Part, Found]) -> List[Tuple[float, ...
     The part is one that `parts` has found in these bytes, or `check` if it is a point or a line string. Raise
     `ValueError` where the bytes have no such part at its place.
     """
-    return _coordinates(data, part)
+    with bytes_in(data) as held, held.cast("B") as view:
+        begin, end = _words_of(data, view, part)
+        return list(struct.iter_unpack(f"{'<>'[part.order == Order.BIG]}{part.dimension.width}d", view[begin:end]))
 
 
 def view(data: Buffer, part: Union[Part, Found]) -> Numbers:
@@ -72,7 +151,32 @@ def view(data: Buffer, part: Union[Part, Found]) -> Numbers:
     """
     import numpy
 
-    place = _wkb.place_of_words(data, part)
+    view = view_of(data).cast("B")
+    place = _words_of(data, view, part)
     order = ">" if part.order == Order.BIG else "<"
-    words = view_of(data).cast("B")[place[0] : place[1]]
-    return numpy.frombuffer(words, order + "f8").reshape(-1, part.dimension.width)
+    return numpy.frombuffer(view[slice(*place)], order + "f8").reshape(-1, part.dimension.width)
+
+
+def dump(data: Buffer, items: int = 3, lines: int = 1000) -> str:
+    """Return what the bytes of a geometry say, line by line, and where and why they are rejected, if they are.
+
+    The bytes may have the header of a GeoPackage's blob before the geometry. Of a longer list so many coordinates,
+    rings or members are shown, and after so many lines only what leads to the rejected part, and the end; 0 is all.
+    `python -m porchsorrel_wkb` prints the same of a file or of hexadecimal text.
+    """
+    if not 0 <= items < 2**32 or not 0 <= lines < 2**64:
+        raise ValueError(f"items={items} and lines={lines} are not from 0 to 2**32 and 2**64")
+    put, failed = [], []
+
+    def take(_: Any, line: int, size: int) -> int:
+        try:
+            put.append(ctypes.string_at(line, size))
+        except BaseException as error:
+            failed.append(error)
+        return len(failed)
+
+    with Inputs() as inputs:
+        DUMP(*inputs.place(data), DUMP_OPTIONS.pack(items, lines), PUT(take), None, None)
+    if failed:
+        raise failed[0]
+    return b"".join(put).decode()

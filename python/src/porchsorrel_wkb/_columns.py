@@ -1,21 +1,26 @@
 # SPDX-License-Identifier: MIT OR Apache-2.0
 """The calls for columns of geometries."""
+import ctypes
 import operator
 import sys
 from typing import Any, Dict, Iterable, Iterator, List, Optional, Tuple
 
-from . import _wkb
 from ._arrow import ArrowArray, ArrowStream, chunks_of_arrow, pieces_of_arrow
-from ._buffers import Buffer, Numbers, has_numpy, less_the_least, new_numbers, new_offsets, numbers_in, view_of
+from ._buffers import (
+    Buffer, Inputs, Numbers, has_numpy, less_the_least, let_go, new_memory, new_numbers, new_offsets, numbers_in,
+    view_of,
+)
 from ._enums import Dimension, Form, Kind, Order, Status, is_refusal, make_options
 from ._errors import Refused
-from ._records import SIZES, Box, Fault, Found, Part, Table
+from ._library import (
+    CHECK, COLLECT, COLUMN_BOUNDS, COLUMN_CHECK, COLUMN_COORDINATES, COLUMN_FOUND, COLUMN_PARTS, COLUMN_STRUCT,
+    COLUMN_WRITE, COORDINATES, OPTIONS, ROWS_FACTS, ROWS_KINDS, Call, address_of,
+    status_text,
+)
+from ._records import STRUCTS, Box, Fault, Found, Part, Table, record_in
 from ._results import ColumnBounds, ColumnCoordinates, ColumnEncodings, ColumnFound, ColumnParts, Facts
 from ._rows import Pieces, object_of, pieces_of
 
-# The calls of `_wkb.column`.
-CHECK, BOUNDS, PARTS, WRITE, ROOM, KINDS, COLLECT, FIND, FAULTS = range(9)
-NO_OPTIONS, NO_RESULTS = (0, 0, 0), (None, None, None)
 # The statuses that are none.
 NO_REFUSALS = bytes(it for it in range(256) if not is_refusal(it))
 # The bytes of a word and of an offset.
@@ -205,18 +210,44 @@ class Column:
             object_of(text)
         self._metadata = None if text is None else text.encode()
 
-    def _arguments(self) -> Tuple[Buffer, Buffer, Optional[Buffer], int, int, int]:
-        """Return the column as `_wkb` takes it."""
-        return self._data, self._offsets, self._validity, self._offset_size, self._first, self._rows
+    def _place(self, inputs: Inputs) -> bytes:
+        """Return the column as the library takes it, while its buffers are held. They may have got shorter since."""
+        end, size = self._first + self._rows, self._offset_size
+        bits = None
+        if self._validity is not None:
+            bits, held = inputs.place(self._validity)
+            if held < (end + 7) // 8:
+                raise ValueError(f"{held} bytes of validity hold fewer than {end} bits")
+        data, offsets = inputs.place(self._data), inputs.place(self._offsets)
+        if end and offsets[1] // size < end + 1:
+            raise ValueError(f"{offsets[1] // size} offsets are left, too few for {end} rows")
+        place = offsets[0] + self._first * size
+        return COLUMN_STRUCT.pack(*data, place, size, bits or 0, self._first, self._rows)
+
+    def _call(self, call: Call, *more: Any) -> Any:
+        """Make a call over the column."""
+        with Inputs() as inputs:
+            column = self._place(inputs)
+            return inputs.choose(call)(column, *more)
+
+    def _shown(self, inputs: Inputs) -> Tuple[memoryview, memoryview]:
+        """Return the bytes and the offsets of the rows, while their buffers are held."""
+        self._place(inputs)
+        size, view = self._offset_size, inputs.view(self._offsets).cast("B")
+        places = view[self._first * size : (self._first + self._rows + 1) * size]
+        offsets = (places if self._rows else memoryview(bytes(size))).cast("i" if size == 4 else "q")
+        return inputs.view(self._data).cast("B"), offsets
 
     def _room(self) -> int:
         """Return how many bytes the rows have at most. The buffers are tested, as each call tests them."""
-        return _wkb.column(ROOM, self._arguments(), NO_OPTIONS, NO_RESULTS)
+        with Inputs() as inputs:
+            data, offsets = self._shown(inputs)
+            return min(max(offsets[-1] - offsets[0], 0), data.nbytes)
 
     def check(self) -> Numbers:
         """Return the status of each row."""
         statuses = new_numbers("u1", self._rows)
-        _wkb.column(CHECK, self._arguments(), NO_OPTIONS, (None, None, statuses))
+        self._call(COLUMN_CHECK, statuses)
         return statuses
 
     def faults(self) -> Dict[int, Fault]:
@@ -224,40 +255,50 @@ class Column:
 
         A row that is OK, null, or has bad offsets is not in it.
         """
-        statuses = self.check()
-        rows = [i for i, status in enumerate(bytes(view_of(statuses))) if is_refusal(status)]
-        table = new_numbers("u1", len(rows) * SIZES[Fault])
-        expect_same(_wkb.column(FAULTS, self._arguments(), NO_OPTIONS, (table, None, statuses)) == len(rows))
-        return dict(zip(rows, Table(Fault, table)))
+        statuses = bytes(view_of(self.check()))
+        faults, fault = {}, ctypes.create_string_buffer(STRUCTS[Fault].size)
+        with Inputs() as inputs:
+            data, offsets = self._shown(inputs)
+            at, size = address_of(data), data.nbytes
+            for i, status in enumerate(statuses):
+                if is_refusal(status):
+                    begin, end = offsets[i : i + 2]
+                    expect_same(0 <= begin <= end <= size and CHECK.locked(at + begin, end - begin, None, fault) >= 32)
+                    faults[i] = record_in(Fault, fault)
+        return faults
 
     def bounds(self) -> ColumnBounds:
         """Return the bounds of each row."""
-        statuses, boxes = new_numbers("u1", self._rows), new_numbers("u1", self._rows * SIZES[Box])
-        _wkb.column(BOUNDS, self._arguments(), NO_OPTIONS, (boxes, None, statuses))
+        statuses, boxes = new_numbers("u1", self._rows), new_numbers("u1", self._rows * STRUCTS[Box].size)
+        self._call(COLUMN_BOUNDS, boxes, statuses)
         return ColumnBounds._made(statuses, Table(Box, boxes), _metadata=self._metadata)
 
     def found(self) -> ColumnFound:
         """Return what is at the start of each row: kind, dimension, SRID, byte order, size and counts."""
-        statuses, table = new_numbers("u1", self._rows), new_numbers("u1", self._rows * SIZES[Found])
-        _wkb.column(FIND, self._arguments(), NO_OPTIONS, (table, None, statuses))
+        statuses, table = new_numbers("u1", self._rows), new_numbers("u1", self._rows * STRUCTS[Found].size)
+        self._call(COLUMN_FOUND, table, statuses)
         return ColumnFound(statuses, Table(Found, table))
 
     def facts(self) -> Facts:
         """Return what the rows have together: types and SRIDs that occur, the bounds of all, and how many are there."""
         statuses, found = self.found()
-        types, box, srids = _wkb.facts(statuses, found._memory, self.bounds().boxes._memory)
+        types, box = ctypes.c_uint32(), ctypes.create_string_buffer(STRUCTS[Box].size)
+        boxes = self.bounds().boxes._memory
+        count = ROWS_FACTS.free(statuses, self._rows, found._memory, boxes, ctypes.byref(types), box)
         held = bytes(view_of(statuses))
         refused = len(held.translate(None, NO_REFUSALS))
-        pairs = [(kind, dimension) for dimension in Dimension for kind in Kind if types >> 8 * dimension + kind & 1]
-        return Facts(len(held), held.count(Status.OK), held.count(Status.NULL_ROW), refused, pairs, srids, box)
+        bits = types.value
+        pairs = [(kind, dimension) for dimension in Dimension for kind in Kind if bits >> 8 * dimension + kind & 1]
+        return Facts(len(held), held.count(Status.OK), held.count(Status.NULL_ROW), refused, pairs,
+                     {it.srid for it in found[:count]}, record_in(Box, box))
 
     def parts(self) -> ColumnParts:
         """Return the parts of each row in preorder."""
         statuses, offsets = new_numbers("u1", self._rows), new_offsets(self._rows)
-        count = _wkb.column(PARTS, self._arguments(), NO_OPTIONS, (None, offsets, statuses))
-        table = new_numbers("u1", count * SIZES[Part])
-        again = _wkb.column(PARTS, self._arguments(), NO_OPTIONS, (table, offsets, statuses))
-        expect_same(again == count)
+        ends = view_of(offsets)[1:], statuses
+        count = self._call(COLUMN_PARTS, None, 0, *ends)
+        table = new_numbers("u1", count * STRUCTS[Part].size)
+        expect_same(self._call(COLUMN_PARTS, table, count, *ends) == count)
         return ColumnParts(statuses, offsets, Table(Part, table))
 
     def write(
@@ -266,11 +307,12 @@ class Column:
         """Return the one encoding of each row in this order and form, as `wkb.write` has it."""
         options = make_options(order, form, srid)
         statuses, offsets = new_numbers("u1", self._rows), new_offsets(self._rows)
+        ends = view_of(offsets)[1:], statuses
         needed, room = self._room() + SRID_SIZE * self._rows, -1
         while room < needed:
             room = needed
             data = new_numbers("u1", room)
-            needed = _wkb.column(WRITE, self._arguments(), options, (data, offsets, statuses))
+            needed = self._call(COLUMN_WRITE, OPTIONS.pack(*options), data, room, *ends)
         held = statuses, offsets, data[: offsets[-1]]
         return ColumnEncodings._made(*held, _form=int(options[1]), _metadata=self._metadata)
 
@@ -282,16 +324,26 @@ class Column:
         width, room = dimension.width, [self._room() // least for least in LEAST_SIZES]
         while True:
             sizes = room[0] * width, room[1] + 1, room[2] + 1
-            blocks = tuple(_wkb.new_block(WORD_SIZE * size) for size in sizes)
-            found = _wkb.column_coordinates(self._arguments(), dimension, (*blocks, row_offsets, statuses))
+            places: List[int] = []
+            try:
+                places.extend(new_memory(WORD_SIZE * size) for size in sizes)
+                ends = [place + WORD_SIZE for place in (*places[1:], address_of(row_offsets))]
+                to = places[0], sizes[0], ends[0], room[1], ends[1], room[2], ends[2], 0, 0, 0
+                out = bytearray(COORDINATES.pack(*to))
+                self._call(COLUMN_COORDINATES, dimension, out, statuses)
+            except BaseException:
+                let_go(places)
+                raise
+            found = COORDINATES.unpack(out)[7:]
             if all(map(operator.le, found, room)):
                 break
+            let_go(places)
             room = list(found)
-        words = numbers_in(blocks[0], "f8", found[0] * width)
-        ring_offsets = numbers_in(blocks[1], "i8", found[1] + 1)
-        single_offsets = numbers_in(blocks[2], "i8", found[2] + 1)
+        words = numbers_in(places[0], "f8", found[0] * width)
+        ring_offsets, single_offsets = (numbers_in(places[i], "i8", found[i] + 1) for i in (1, 2))
+        ring_offsets[0] = single_offsets[0] = 0
         rows = words.reshape(-1, width) if has_numpy else words
-        kinds = _wkb.column(KINDS, self._arguments(), NO_OPTIONS, (None, None, statuses))
+        kinds = self._call(ROWS_KINDS, statuses)
         known = {"_kinds": kinds, "_dimension": dimension, "_metadata": self._metadata}
         return ColumnCoordinates._made(statuses, row_offsets, single_offsets, ring_offsets, rows, **known)
 
@@ -311,17 +363,19 @@ def collect(
     kind, dimension, options = Kind(kind), Dimension(dimension), make_options(order, form, srid)
     if kind < Kind.MULTI_POINT:
         raise ValueError(f"a {kind.name} has no geometries as members")
-    told, found = bytearray(SIZES[Fault]), column._room() + FRONT_SIZE
-    status = Status.NO_ROOM
+    fault, size, row = ctypes.create_string_buffer(STRUCTS[Fault].size), ctypes.c_size_t(), ctypes.c_size_t()
+    status, size.value = Status.NO_ROOM, column._room() + FRONT_SIZE
     while status == Status.NO_ROOM:
-        data = new_numbers("u1", found)
-        found = _wkb.column(COLLECT, column._arguments(), options, (data, told, None), kind, dimension)
-        fault = _wkb.read_record(Fault, told, 0)
-        status = fault.status
+        data = new_numbers("u1", size.value)
+        results = data, size.value, ctypes.byref(size), fault, ctypes.byref(row)
+        status = column._call(COLLECT, kind, dimension, OPTIONS.pack(*options), *results)
     if status == Status.OK:
-        return bytes(view_of(data)[:found])
-    text = _wkb.status_text(status)
-    raise ValueError(text) if status < Status.NULL_ROW else Refused(fault, 1, text, "", found)
+        return bytes(view_of(data)[: size.value])
+    text = status_text(status)
+    if status < Status.NULL_ROW:
+        raise ValueError(text)
+    told = record_in(Fault, fault) if is_refusal(status) else Fault(0, 0, 0, 0, 0, Status(status))
+    raise Refused(told, 1, text, "", row.value)
 
 
 def expect_same(holds: bool) -> None:

@@ -4,8 +4,8 @@ from typing import TYPE_CHECKING, NoReturn, Optional, Union
 
 from ._enums import Kind, Status
 
-if TYPE_CHECKING:  # the extension, which has these, takes this module at its start
-    from ._wkb import Fault, Found, Part
+if TYPE_CHECKING:
+    from ._records import Fault, Found, Part
 
 
 class Refused(ValueError):

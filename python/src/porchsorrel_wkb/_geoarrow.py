@@ -4,8 +4,7 @@ import array
 from typing import Any, List, NamedTuple, Optional, Tuple
 
 from ._arrow import (
-    Array, Schema, array_child, borrowed, check_array, check_schema, expect, has_validity, is_all_set,
-    schema_child, taken,
+    Array, Schema, borrowed, check_array, check_schema, expect, has_validity, is_all_set, taken,
 )
 from ._buffers import Buffer, has_numpy, new_numbers
 from ._enums import Dimension, Kind
@@ -55,9 +54,9 @@ def _check(it: _Window, children: int, buffers: range, depth: int) -> None:
 
 def _inner(it: _Window, number: int, first: int, count: int) -> _Window:
     """Return some items of a child, counted from its first."""
-    child = array_child(it.array, number)
+    child = it.array.child(number)
     expect(child.offset >= 0, f"array can't begin with item {child.offset}")
-    return _Window(schema_child(it.schema, number), child, child.offset + first, count)
+    return _Window(it.schema.child(number), child, child.offset + first, count)
 
 
 def _less(offsets: memoryview, least: int) -> Buffer:
@@ -106,7 +105,7 @@ def _coordinates(it: _Window, depth: int) -> Tuple[Any, str]:
     if form in (b"+w:2", b"+w:3", b"+w:4"):
         _check(it, 1, VALIDITY, depth)
         width = int(form[3:])
-        name = schema_child(it.schema, 0).name(8)
+        name = it.schema.child(0).name(8)
         return _words(it, 0, width * it.first, width * it.rows), name if len(name) == width else "xyzm"[:width]
     if form == b"+s" and 2 <= it.schema.n_children <= 4:
         width = it.schema.n_children
@@ -115,7 +114,7 @@ def _coordinates(it: _Window, depth: int) -> Tuple[Any, str]:
         for i in range(width):
             numbers = _words(it, i, it.first, it.rows)
             words[i::width] = numbers if has_numpy else array.array("d", numbers)
-            held += schema_child(it.schema, i).name(8)
+            held += it.schema.child(i).name(8)
         return words, held
     raise TypeError(f"an Arrow array of format {_format(it)} has no coordinates: lists of 2 to 4, or records of them")
 

@@ -2,9 +2,9 @@
 """What GeoParquet says of a column of geometries."""
 from typing import Any, Dict, List, NamedTuple, Optional
 
-from . import _wkb
 from ._columns import Column
 from ._enums import Dimension, Kind, Status
+from ._library import ROWS_NOT_ISO, status_text
 from ._results import ColumnBounds, Facts
 from ._rows import object_of
 
@@ -68,14 +68,14 @@ def _expect_rows(column: Column, facts: Facts) -> None:
     statuses, offsets, table = column.parts()
     for i, status in enumerate(bytes(statuses) if facts.accepted + facts.nulls < facts.rows else b""):
         if status not in (Status.OK, Status.NULL_ROW):
-            raise ValueError(f"row {i} is rejected: {column.faults().get(i) or _wkb.status_text(status)}")
+            raise ValueError(f"row {i} is rejected: {column.faults().get(i) or status_text(status)}")
     for i, found in enumerate(column.found().found if facts.srids - {None} else ()):
         if found.srid is not None:
             raise ValueError(f"row {i} has SRID {found.srid}, and GeoParquet takes none: {WAY_OUT}")
     for kind, dimension in facts.types:
         if dimension not in SIGNS:
             raise ValueError(f"a {kind.name} is {dimension.name}, and GeoParquet {VERSION} has no m")
-    row = _wkb.first_not_iso(column._arguments(), statuses, offsets, table._memory)
+    row = column._call(ROWS_NOT_ISO, statuses, offsets, table._memory)
     if row < len(column):
         raise ValueError(f"row {row} is EWKB, or has bytes behind its geometry: {WAY_OUT}")
 

@@ -1,15 +1,16 @@
 # SPDX-License-Identifier: MIT OR Apache-2.0
 """Rows that are written from coordinates in levels."""
 import array
+import ctypes
 import operator
 from typing import Optional, Tuple, Union
 
-from . import _wkb
 from ._arrow import ArrowArray
-from ._buffers import Buffer, has_numpy, new_numbers, new_offsets, view_of
+from ._buffers import Buffer, Inputs, has_numpy, new_numbers, new_offsets, view_of
 from ._columns import check_validity, code_of, expect_same, size_of_offsets
 from ._enums import Dimension, Form, Kind, Order, make_options
 from ._geoarrow import Levels, levels_of_arrow
+from ._library import COLUMN_FROM_COORDINATES, LEVELS, OPTIONS
 from ._results import ColumnEncodings
 
 # The bytes of a word, and of an end as the library takes it.
@@ -64,13 +65,37 @@ def _write(kind: Kind, options: Tuple[int, int, int], it: Levels) -> ColumnEncod
         rows = _items(level, rows)
     if it.validity is not None:
         check_validity(it.validity, it.first + rows)
-    given = (it.coordinates, *it.offsets, it.validity, it.first)
     statuses, offsets = new_numbers("u1", rows), new_offsets(rows)
-    size = _wkb.column_from_coordinates(given, kind, it.dimension, options, (None, offsets, statuses))
-    data = new_numbers("u1", size)
-    again = _wkb.column_from_coordinates(given, kind, it.dimension, options, (data, offsets, statuses))
+    ends = view_of(offsets)[1:], statuses
+    with Inputs() as inputs:
+        levels, call = _place(inputs, it, rows), inputs.choose(COLUMN_FROM_COORDINATES)
+        size = call(levels, kind, it.dimension, OPTIONS.pack(*options), None, 0, *ends)
+        data = new_numbers("u1", size)
+        again = call(levels, kind, it.dimension, OPTIONS.pack(*options), data, size, *ends)
     expect_same(again == size)
     return ColumnEncodings._made(statuses, offsets, data, _form=int(options[1]), _metadata=it.metadata)
+
+
+def _place(inputs: Inputs, it: Levels, rows: int) -> bytes:
+    """Return levels as the library takes them, while their buffers are held. They may have got shorter since."""
+    at, size = inputs.aligned(it.coordinates)
+    packed, below = [at, size // WORD_SIZE], size // WORD_SIZE // it.dimension.width
+    for offsets in it.offsets:
+        place = 0
+        if offsets is not None:
+            place, size = inputs.aligned(offsets)
+            below = max(size // WORD_SIZE - 1, 0)
+            first = ctypes.c_int64.from_address(place).value if size >= WORD_SIZE else 0
+            if first != 0:
+                raise ValueError(f"the offsets of a level begin with 0, and not with {first}")
+            place = place + WORD_SIZE if below else 0
+        packed += place, below
+    if below != rows:
+        raise ValueError(f"{below} rows are left of {rows}")
+    bits, size = (0, 0) if it.validity is None else inputs.place(it.validity)
+    if it.validity is not None and 8 * size < it.first + rows:
+        raise ValueError(f"{size} bytes of validity hold fewer than {it.first + rows} bits")
+    return LEVELS.pack(*packed, bits, it.first)
 
 
 def column_from_coordinates(

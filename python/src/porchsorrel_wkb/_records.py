@@ -1,15 +1,117 @@
 # SPDX-License-Identifier: MIT OR Apache-2.0
 """The structs of wkb.h as Python has them, and tables of them."""
+import ctypes
 import enum
 import html
-from itertools import repeat
-from typing import Any, Dict, Iterator, List, Optional, Sequence, Tuple, Type, TypeVar, Union, overload
+import struct
+from functools import partial
+from typing import Any, Dict, Iterator, List, NamedTuple, Optional, Sequence, Tuple, Type, TypeVar, Union, overload
 
-from . import _wkb
-from ._wkb import Box, Fault, Found, Part, Range
+from ._enums import Dimension, Kind, Order, Status
+from ._library import FAULT, FAULT_TEXT, TEXT_ROOM
 
-# Pickles name the records' types in this module.
-__all__ = ["Box", "Fault", "Found", "Part", "Range", "Table"]
+
+class Found(NamedTuple):
+    """The geometry at the start of some bytes.
+
+    :ivar size: how many bytes it has; the bytes after them were not looked at
+    :ivar parts: how many parts it has: itself, and its rings and members at every level
+    :ivar coordinates: how many all parts have; each point has one, an empty point one of NaNs
+    :ivar offset: the byte where its own coordinates, rings or members begin
+    :ivar count: how many of these it has; a point has one coordinate
+    :ivar srid: the SRID of EWKB; None if there is none
+    :ivar kind: the kind, a `Kind`
+    :ivar dimension: the dimension, a `Dimension`
+    :ivar order: the byte order, an `Order`
+    """
+
+    size: int
+    parts: int
+    coordinates: int
+    offset: int
+    count: int  # type: ignore[assignment]
+    srid: Optional[int]
+    kind: Kind
+    dimension: Dimension
+    order: Order
+
+
+class Fault(NamedTuple):
+    """The part that is rejected, and why. `str` of it says this in one line.
+
+    :ivar part: how many parts come before it, in preorder: 0 is the whole geometry
+    :ivar offset: the byte where it begins, counted from the start of the input
+    :ivar end: of a status from 48 on: how many bytes it needs; else 0
+    :ivar len: of a status from 48 on: how many bytes there are, from its own first one on; else 0
+    :ivar code: of CODE_OUT_OF_RANGE: all bits of the code; else 0
+    :ivar status: why it is rejected, a `Status`
+    """
+
+    part: int
+    offset: int
+    end: int
+    len: int
+    code: int
+    status: Status
+
+    def __str__(self) -> str:
+        text = ctypes.create_string_buffer(TEXT_ROOM)
+        FAULT_TEXT(FAULT.pack(*self), text, TEXT_ROOM)
+        return text.value.decode()
+
+
+class Part(NamedTuple):
+    """A geometry, or a ring of a polygon. Its rings or members follow it in the table, each followed by its own.
+
+    :ivar begin: its first byte, counted from the start of the input
+    :ivar end: one past its last byte
+    :ivar offset: the byte where its coordinates, rings or members begin
+    :ivar count: how many of these it has; a point has one coordinate, an empty point one of NaNs
+    :ivar next: the index of the part after its own rings and members
+    :ivar srid: the SRID of EWKB; None if there is none
+    :ivar kind: the kind, a `Kind`
+    :ivar dimension: the dimension, a `Dimension`
+    :ivar order: the byte order, an `Order`
+    """
+
+    begin: int
+    end: int
+    offset: int
+    count: int  # type: ignore[assignment]
+    next: int
+    srid: Optional[int]
+    kind: Kind
+    dimension: Dimension
+    order: Order
+
+
+class Range(NamedTuple):
+    """The range of an ordinate over all coordinates that have one. NaNs are left out.
+
+    :ivar least: the least number; infinity where the count is 0
+    :ivar greatest: the greatest number; minus infinity where the count is 0
+    :ivar count: how many numbers there are
+    """
+
+    least: float
+    greatest: float
+    count: int  # type: ignore[assignment]
+
+
+class Box(NamedTuple):
+    """The bounds of a geometry: z of coordinates that have a z, m of those that have an m.
+
+    :ivar x: the range of x
+    :ivar y: the range of y
+    :ivar z: the range of z
+    :ivar m: the range of m
+    """
+
+    x: Range
+    y: Range
+    z: Range
+    m: Range
+
 
 Fields = List[Tuple[str, Any]]
 
@@ -29,7 +131,50 @@ FIELDS: Dict[Any, Fields] = {
     Part: fields("i8", "begin end offset count next") + TYPE,
     Box: [(axis, RANGE) for axis in "xyzm"],
 }
-SIZES: Dict[Any, int] = {Found: 64, Fault: 40, Part: 64, Box: 96}
+# The same of struct, and what is made of the numbers in one.
+_GEOMETRY, _BOX = struct.Struct("=5Q6I"), struct.Struct("=" + 4 * "2dQ")
+STRUCTS: Dict[Any, struct.Struct] = {Found: _GEOMETRY, Fault: FAULT, Part: _GEOMETRY, Box: _BOX}
+_new: Any = tuple.__new__  # of a named tuple, without a call of its own
+_KINDS, _DIMENSIONS, _ORDERS = tuple(Kind), tuple(Dimension), tuple(Order)
+
+
+def _made(record: Any, it: Any) -> Any:
+    """Return the record with these five numbers, and this type of a geometry."""
+    first, second, third, fourth, fifth, srid, has_srid, kind, dimension, _, order = it
+    try:
+        named = _KINDS[kind], _DIMENSIONS[dimension], _ORDERS[order]
+    except IndexError:
+        raise ValueError("a kind, a dimension or an order has no such number") from None
+    return _new(record, (first, second, third, fourth, fifth, srid if has_srid else None, *named))
+
+
+def _fault(it: Any) -> Fault:
+    return Fault(it[0], it[1], it[2], it[3], it[4], Status(it[5]))
+
+
+def _box(it: Any) -> Any:
+    return _new(Box, [_new(Range, it[i : i + 3]) for i in (0, 3, 6, 9)])
+
+
+_MADE: Dict[Any, Any] = {Found: partial(_made, Found), Part: partial(_made, Part), Fault: _fault, Box: _box}
+
+
+def record_in(record: Any, memory: Any, place: int = 0) -> Any:
+    """Return the record whose struct is at some place."""
+    return _MADE[record](STRUCTS[record].unpack_from(memory, place))
+
+
+def found_in(memory: Any) -> Found:
+    """Return what the struct at the start of some memory says."""
+    found: Found = _made(Found, _GEOMETRY.unpack_from(memory))
+    return found
+
+
+def box_in(memory: Any) -> Box:
+    """Return what the struct at the start of some memory says."""
+    box: Box = _box(_BOX.unpack_from(memory))
+    return box
+
 
 # A table shows so many rows.
 SHOWN = 5
@@ -57,7 +202,7 @@ class Table(Sequence[Record]):
         self._memory = memory
 
     def __len__(self) -> int:
-        return memoryview(self._memory).nbytes // SIZES[self._record]
+        return memoryview(self._memory).nbytes // STRUCTS[self._record].size
 
     @overload
     def __getitem__(self, index: int) -> Record: ...
@@ -72,11 +217,13 @@ class Table(Sequence[Record]):
         return self._at(place) if isinstance(place, int) else [self._at(i) for i in place]
 
     def __iter__(self) -> Iterator[Record]:
-        records: Iterator[Record] = map(_wkb.read_record, repeat(self._record), repeat(self._memory), range(len(self)))
-        return records
+        whole = memoryview(self._memory).cast("B")[: len(self) * STRUCTS[self._record].size]
+        return map(_MADE[self._record], STRUCTS[self._record].iter_unpack(whole))
 
     def _at(self, index: int) -> Record:
-        record: Record = _wkb.read_record(self._record, self._memory, index)
+        if index >= len(self):
+            raise IndexError("there is no such record")
+        record: Record = record_in(self._record, self._memory, index * STRUCTS[self._record].size)
         return record
 
     def __array__(self, dtype: Any = None, copy: Optional[bool] = None) -> Any:

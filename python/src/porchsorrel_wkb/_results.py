@@ -2,13 +2,14 @@
 """What the calls for columns return, and its ways out: rows of bytes, and arrays of Arrow."""
 import array
 import functools
+import io
 import itertools
 import math
+import operator
 from typing import (
     Any, Iterable, Iterator, List, NamedTuple, Optional, Sequence, Set, Tuple, Type, TypeVar, Union, overload,
 )
 
-from . import _wkb
 from ._buffers import Numbers, new_numbers, view_of
 from ._enums import Dimension, Form, Kind
 from ._export import (
@@ -183,7 +184,13 @@ class Rows(Sequence[Optional[bytes]]):
         """Return the rows from one up to another one."""
         if end <= first:
             return []
-        return _wkb.split(self._of.data, self._of.offsets, self._of.statuses, first, end)
+        places = view_of(self._of.offsets)[first : end + 1].tolist()
+        data = io.BytesIO(view_of(self._of.data)[max(places[0], 0) : max(places[-1], 0)])
+        rows: List[Optional[bytes]] = list(map(data.read, map(operator.sub, places[1:], places)))
+        for i, status in enumerate(bytes(view_of(self._of.statuses)[first:end])):
+            if status:
+                rows[i] = None
+        return rows
 
     def __repr__(self) -> str:
         return f"<{len(self)} encodings>"

@@ -1,11 +1,12 @@
 # SPDX-License-Identifier: MIT OR Apache-2.0
 """Columns of rows that aren't in one piece."""
+import io
+import itertools
 import json
-from typing import Any, Dict, Iterable, List, NamedTuple, Optional
+import struct
+from typing import Any, Dict, Iterable, List, NamedTuple, Optional, Tuple
 
-from . import _wkb
-from ._buffers import Buffer, view_of
-
+from ._buffers import Buffer, has_numpy, view_of
 
 class Pieces(NamedTuple):
     """What a column is made of."""
@@ -55,11 +56,32 @@ def pieces_of(rows: Iterable[Optional[Buffer]]) -> Pieces:
 
         for i in numpy.flatnonzero(column.isna()).tolist():
             items[i] = None
-    joined = _wkb.join(items)
-    if joined is None:
-        joined = _wkb.join([row if row is None else _bytes_of_row(i, row) for i, row in enumerate(items)])
-    assert joined is not None  # each row is bytes or None
-    return Pieces(*joined, rows=len(items), metadata=metadata)
+    try:
+        data, offsets, validity = *_joined(items), None
+    except (TypeError, ValueError, BufferError):  # one is None, or no bytes, or not in one piece
+        held = [b"" if row is None else _bytes_of_row(i, row) for i, row in enumerate(items)]
+        data, offsets, validity = *_joined(held), bits_of([row is not None for row in items])
+    return Pieces(data, offsets, validity, rows=len(items), metadata=metadata)
+
+
+def _joined(rows: List[Any]) -> Tuple[bytes, bytes]:
+    """Return the bytes of all rows, and their offsets of 64 bits. Raise `TypeError` if one is no bytes, or not as
+    long as its bytes."""
+    out = io.BytesIO()
+    out.writelines(rows)  # in a fifth of the time of bytes.join, which takes 80 bytes for each
+    data = out.getvalue()
+    if has_numpy:
+        import numpy
+
+        offsets = numpy.zeros(len(rows) + 1, "i8")
+        numpy.cumsum(numpy.frombuffer(struct.pack(f"={len(rows)}q", *map(len, rows)), "i8"), out=offsets[1:])
+        end, packed = int(offsets[-1]), offsets.tobytes()
+    else:
+        packed = struct.pack(f"={len(rows) + 1}q", *itertools.accumulate(map(len, rows), initial=0))
+        (end,) = struct.unpack("=q", packed[-8:])
+    if end != len(data):
+        raise TypeError
+    return data, packed
 
 
 def object_of(metadata: str) -> Dict[str, Any]:
