@@ -54,7 +54,7 @@ def flat(numbers):
 
 def values_of(record):
     """The values of a record by their names."""
-    return {name: getattr(record, name) for name in record.__match_args__}
+    return {name: getattr(record, name) for name in record._fields}
 
 
 def changed(record, **values):

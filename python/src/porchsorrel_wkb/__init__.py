@@ -1,7 +1,7 @@
 # SPDX-License-Identifier: MIT OR Apache-2.0
 """WKB and EWKB, read and written by a library compiled from formally verified sources.
 
-The package itself is tested, and not proved. It needs CPython 3.11 or later.
+The package itself is tested, and not proved. It needs CPython 3.8 or later.
 
 One geometry, at the start of a blob::
 

@@ -248,7 +248,7 @@ class Table(Sequence[Record]):
 
     def _repr_html_(self) -> str:
         """Return the first rows as a notebook shows them."""
-        names = self._record.__match_args__
+        names = self._record._fields
         head = "".join(f"<th>{name}</th>" for name in names)
         rows = "".join(
             "<tr>" + "".join(f"<td>{html.escape(_shown(getattr(it, name)))}</td>" for name in names) + "</tr>"
