@@ -1,0 +1,53 @@
+// SPDX-License-Identifier: MIT OR Apache-2.0
+//! Well-Known Binary: the reader, the writer and the canonical form, by the code of formally verified sources.
+//!
+//! `tools/erase` makes the modules of this crate of proved sources, by leaving out what only the prover reads. So no
+//! call panics on any bytes, and each returns what its contract says (docs/PROMISES.md), provided that rustc and `rt`,
+//! a page of allocation and number formats, mean what Rattle and its std do: that is tested, not proved.
+#![forbid(unsafe_code)]
+#![no_std]
+// What only clauses and lemmas name is still declared.
+#![allow(dead_code, unused_imports, unused_variables)]
+
+extern crate alloc;
+#[cfg(feature = "std")]
+extern crate std;
+
+mod rt;
+
+mod wkb;
+mod wkb_abi;
+mod wkb_bounds;
+mod wkb_c;
+mod wkb_check;
+mod wkb_geom;
+mod wkb_levels;
+mod wkb_plain;
+mod wkb_read;
+mod wkb_rewrite;
+mod wkb_sink;
+mod wkb_view;
+mod wkb_write;
+
+pub use rt::{AllocError, TryClone};
+pub use wkb::*;
+
+/// The calls of `c/wkb_raw.h` over slices, and what crosses them.
+#[doc(hidden)]
+pub mod raw {
+    pub use crate::wkb_abi::column::Column;
+    pub use crate::wkb_abi::fault::WkbFault;
+    pub use crate::wkb_abi::found::Found;
+    pub use crate::wkb_abi::level_column::LevelColumn;
+    pub use crate::wkb_abi::level_slices::LevelSlices;
+    pub use crate::wkb_abi::options::Options;
+    pub use crate::wkb_abi::parts::Part;
+    pub use crate::wkb_abi::totals::Totals;
+    pub use crate::wkb_bounds::Bounds;
+    pub use crate::wkb_c::*;
+}
+
+/// The example of the README.
+#[cfg(doctest)]
+#[doc = include_str!("../README.md")]
+mod readme {}

@@ -1,0 +1,282 @@
+// SPDX-License-Identifier: MIT OR Apache-2.0
+//! What the sources take from Rattle's std, byteorder and thiserror, over core and alloc: allocation that may fail,
+//! numbers in bytes, a writer, and the texts of the errors.
+
+pub use alloc::vec::Vec;
+
+use crate::wkb_geom::error::{General, Overflow, WkbError};
+use core::fmt;
+
+/// An allocation failed.
+#[derive(Debug, Clone, Copy, PartialEq, Eq)]
+pub struct AllocError;
+
+impl fmt::Display for AllocError {
+    fn fmt(&self, f: &mut fmt::Formatter<'_>) -> fmt::Result {
+        f.write_str("out of memory")
+    }
+}
+
+/// A copy, which may take memory.
+pub trait TryClone: Sized {
+    fn try_clone(&self) -> Result<Self, AllocError>;
+}
+
+impl<T: TryClone> TryClone for Vec<T> {
+    fn try_clone(&self) -> Result<Vec<T>, AllocError> {
+        let mut copy = Vec::try_with_room(self.len())?;
+        for item in self {
+            copy.push_reserved(item.try_clone()?);
+        }
+        Ok(copy)
+    }
+}
+
+impl TryClone for usize {
+    fn try_clone(&self) -> Result<usize, AllocError> {
+        Ok(*self)
+    }
+}
+
+/// The calls of a vector that take memory.
+pub trait TryVec<T>: Sized {
+    fn try_with_room(n: usize) -> Result<Self, AllocError>;
+    fn try_push(&mut self, item: T) -> Result<(), AllocError>;
+    /// For an item that there is room for.
+    fn push_reserved(&mut self, item: T);
+    fn try_extend_from_slice(&mut self, items: &[T]) -> Result<(), AllocError>
+    where
+        T: Copy;
+    fn try_resize(&mut self, n: usize, item: T) -> Result<(), AllocError>
+    where
+        T: Copy;
+    fn from_slice(items: &[T]) -> Result<Self, AllocError>
+    where
+        T: Copy;
+}
+
+impl<T> TryVec<T> for Vec<T> {
+    #[inline]
+    fn try_with_room(n: usize) -> Result<Vec<T>, AllocError> {
+        let mut items = Vec::new();
+        items.try_reserve_exact(n).map_err(|_| AllocError)?;
+        Ok(items)
+    }
+
+    #[inline]
+    fn try_push(&mut self, item: T) -> Result<(), AllocError> {
+        self.try_reserve(1).map_err(|_| AllocError)?;
+        self.push_reserved(item);
+        Ok(())
+    }
+
+    #[inline(always)]
+    fn push_reserved(&mut self, item: T) {
+        if self.len() < self.capacity() {
+            self.push(item);
+        }
+    }
+
+    #[inline]
+    fn try_extend_from_slice(&mut self, items: &[T]) -> Result<(), AllocError>
+    where
+        T: Copy,
+    {
+        self.try_reserve(items.len()).map_err(|_| AllocError)?;
+        self.extend_from_slice(items);
+        Ok(())
+    }
+
+    #[inline]
+    fn try_resize(&mut self, n: usize, item: T) -> Result<(), AllocError>
+    where
+        T: Copy,
+    {
+        self.try_reserve(n.saturating_sub(self.len())).map_err(|_| AllocError)?;
+        self.resize(n, item);
+        Ok(())
+    }
+
+    #[inline]
+    fn from_slice(items: &[T]) -> Result<Vec<T>, AllocError>
+    where
+        T: Copy,
+    {
+        let mut copy = Vec::try_with_room(items.len())?;
+        copy.extend_from_slice(items);
+        Ok(copy)
+    }
+}
+
+/// A vector of so many equal items.
+#[inline]
+pub fn try_filled<T: Copy>(item: T, n: usize) -> Result<Vec<T>, AllocError> {
+    let mut items = Vec::try_with_room(n)?;
+    items.resize(n, item);
+    Ok(items)
+}
+
+macro_rules! try_vec {
+    ($item:expr; $n:expr) => {
+        crate::rt::try_filled($item, $n)
+    };
+}
+pub(crate) use try_vec;
+
+impl From<AllocError> for io::Error {
+    fn from(_: AllocError) -> io::Error {
+        io::Error::from(io::ErrorKind::OutOfMemory)
+    }
+}
+
+#[cfg(feature = "std")]
+pub use std::io;
+
+/// The part of std's `io` that a sink needs.
+#[cfg(not(feature = "std"))]
+pub mod io {
+    use core::fmt;
+
+    #[derive(Debug, Clone, Copy, PartialEq, Eq)]
+    #[non_exhaustive]
+    pub enum ErrorKind {
+        UnexpectedEof,
+        WriteZero,
+        OutOfMemory,
+        Other,
+    }
+
+    #[derive(Debug)]
+    pub struct Error(ErrorKind);
+
+    pub type Result<T> = core::result::Result<T, Error>;
+
+    impl Error {
+        pub fn kind(&self) -> ErrorKind {
+            self.0
+        }
+    }
+
+    impl From<ErrorKind> for Error {
+        fn from(kind: ErrorKind) -> Error {
+            Error(kind)
+        }
+    }
+
+    impl fmt::Display for Error {
+        fn fmt(&self, f: &mut fmt::Formatter<'_>) -> fmt::Result {
+            f.write_str(match self.0 {
+                ErrorKind::UnexpectedEof => "end of input",
+                ErrorKind::WriteZero => "write zero",
+                ErrorKind::OutOfMemory => "out of memory",
+                ErrorKind::Other => "other error",
+            })
+        }
+    }
+
+    pub trait Write {
+        fn write(&mut self, bytes: &[u8]) -> Result<usize>;
+    }
+}
+
+/// The part of the crate byteorder that the sources use.
+pub mod byteorder {
+    pub trait ByteOrder {
+        fn read_u32(bytes: &[u8]) -> u32;
+        fn read_u64(bytes: &[u8]) -> u64;
+        fn write_u32(bytes: &mut [u8], n: u32);
+        fn write_u64(bytes: &mut [u8], n: u64);
+    }
+
+    pub enum BigEndian {}
+    pub enum LittleEndian {}
+
+    macro_rules! order {
+        ($name:ident, $from:ident, $to:ident) => {
+            impl ByteOrder for $name {
+                #[inline(always)]
+                fn read_u32(bytes: &[u8]) -> u32 {
+                    u32::$from(bytes[..4].try_into().unwrap())
+                }
+
+                #[inline(always)]
+                fn read_u64(bytes: &[u8]) -> u64 {
+                    u64::$from(bytes[..8].try_into().unwrap())
+                }
+
+                #[inline(always)]
+                fn write_u32(bytes: &mut [u8], n: u32) {
+                    bytes[..4].copy_from_slice(&n.$to());
+                }
+
+                #[inline(always)]
+                fn write_u64(bytes: &mut [u8], n: u64) {
+                    bytes[..8].copy_from_slice(&n.$to());
+                }
+            }
+        };
+    }
+
+    order!(BigEndian, from_be_bytes, to_be_bytes);
+    order!(LittleEndian, from_le_bytes, to_le_bytes);
+}
+
+impl fmt::Display for General {
+    fn fmt(&self, f: &mut fmt::Formatter<'_>) -> fmt::Result {
+        let (name, data, end, len) = match *self {
+            General::UnsupportedDimensions(n) => {
+                return write!(f, "Unsupported number of dimensions: {n}");
+            }
+            General::CodeOutOfRange(code) => {
+                return write!(f, "WKB type code out of range. Got: {code}");
+            }
+            General::InvalidByteOrder => return f.write_str("Invalid byte order"),
+            General::ShortPoint { end, len } => ("Point", "geometry", end, len),
+            General::ShortLineString { end, len } => ("LineString", "geometry", end, len),
+            General::ShortLinearRing { end, len } => ("LinearRing", "data", end, len),
+            General::ShortMultiPoint { end, len } => ("MultiPoint", "geometry", end, len),
+        };
+        write!(
+            f,
+            "Invalid buffer length for {name}: {data} would end at byte {end}, but buffer length is {len}."
+        )
+    }
+}
+
+impl fmt::Display for Overflow {
+    fn fmt(&self, f: &mut fmt::Formatter<'_>) -> fmt::Result {
+        f.write_str(match self {
+            Overflow::Count => "count does not fit 32 bits",
+            Overflow::Size => "size does not fit usize",
+        })
+    }
+}
+
+impl fmt::Display for WkbError {
+    fn fmt(&self, f: &mut fmt::Formatter<'_>) -> fmt::Result {
+        match self {
+            WkbError::IncorrectType(what) => write!(f, "Incorrect type passed to operation: {what}"),
+            WkbError::NotYetImplemented(what) => write!(f, "Not yet implemented: {what}"),
+            WkbError::General(general) => write!(f, "General error: {general}"),
+            WkbError::NestingDepthExceeded(most) => {
+                write!(f, "WKB nesting depth exceeds the maximum of {most}")
+            }
+            WkbError::IOError(e) if e.kind() == io::ErrorKind::UnexpectedEof => f.write_str("end of input"),
+            WkbError::IOError(e) => e.fmt(f),
+            WkbError::OverflowError(overflow) => overflow.fmt(f),
+            WkbError::Memory(e) => e.fmt(f),
+        }
+    }
+}
+
+#[cfg(feature = "std")]
+impl std::error::Error for General {}
+
+#[cfg(feature = "std")]
+impl std::error::Error for Overflow {}
+
+#[cfg(feature = "std")]
+impl std::error::Error for AllocError {}
+
+#[cfg(feature = "std")]
+impl std::error::Error for WkbError {}
