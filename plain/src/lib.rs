@@ -9,6 +9,9 @@
 // What only clauses and lemmas name is still declared.
 #![allow(dead_code, unused_imports, unused_variables)]
 
+#[cfg(not(target_pointer_width = "64"))]
+compile_error!("the sources are proved for a usize of 64 bits, and no other");
+
 extern crate alloc;
 #[cfg(feature = "std")]
 extern crate std;

@@ -166,7 +166,7 @@ pub mod io {
     impl fmt::Display for Error {
         fn fmt(&self, f: &mut fmt::Formatter<'_>) -> fmt::Result {
             f.write_str(match self.0 {
-                ErrorKind::UnexpectedEof => "end of input",
+                ErrorKind::UnexpectedEof => "unexpected end of file",
                 ErrorKind::WriteZero => "write zero",
                 ErrorKind::OutOfMemory => "out of memory",
                 ErrorKind::Other => "other error",
@@ -261,7 +261,6 @@ impl fmt::Display for WkbError {
             WkbError::NestingDepthExceeded(most) => {
                 write!(f, "WKB nesting depth exceeds the maximum of {most}")
             }
-            WkbError::IOError(e) if e.kind() == io::ErrorKind::UnexpectedEof => f.write_str("end of input"),
             WkbError::IOError(e) => e.fmt(f),
             WkbError::OverflowError(overflow) => overflow.fmt(f),
             WkbError::Memory(e) => e.fmt(f),

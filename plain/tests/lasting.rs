@@ -88,11 +88,11 @@ fn lasting() {
     assert_eq!(accepted, 1574);
 }
 
-/// The texts of refusals, as of the program `wkb_hex`.
+/// The texts of refusals.
 #[test]
 fn texts() {
     let text = |bytes: &[u8]| read_wkb(bytes).unwrap_err().to_string();
-    assert_eq!(text(&[1]), "end of input");
+    assert_eq!(text(&[1]), "unexpected end of file");
     assert_eq!(text(&[2]), "General error: Invalid byte order");
     assert_eq!(text(&[1, 8, 0, 0, 0]), "General error: WKB type code out of range. Got: 8");
     let deep: Vec<u8> = [1, 7, 0, 0, 0, 1, 0, 0, 0].repeat(129);
