@@ -4,7 +4,7 @@
 //! `tools/erase` makes the modules of this crate of proved sources, by leaving out what only the prover reads. So no
 //! call panics on any bytes, and each returns what its contract says (docs/PROMISES.md), provided that rustc and `rt`,
 //! a page of allocation and number formats, mean what Rattle and its std do: that is tested, not proved.
-#![forbid(unsafe_code)]
+#![cfg_attr(not(calls), forbid(unsafe_code))]
 #![no_std]
 // What only clauses and lemmas name is still declared.
 #![allow(dead_code, unused_imports, unused_variables)]
@@ -49,6 +49,13 @@ pub mod raw {
     pub use crate::wkb_bounds::Bounds;
     pub use crate::wkb_c::*;
 }
+
+// The calls of C in one crate with the rest, for `assembly`.
+#[cfg(calls)]
+#[path = "../c/src/lib.rs"]
+mod calls;
+#[cfg(calls)]
+extern crate self as porchsorrel_wkb;
 
 /// The example of the README.
 #[cfg(doctest)]
