@@ -1,6 +1,6 @@
 //! Encodes coordinates of one's own: a point, a column of line strings, which are collected into one geometry, and a
 //! polygon with a hole.
-use porchsorrel_wkb::{encode_point, Dimension, Kind, Levels, NotCollected, Options, Rows};
+use porchsorrel_wkb::columns::{encode_point, Dimension, Kind, Levels, NotCollected, Options, Rows};
 
 fn print(what: &str, encoding: &[u8]) {
     let hex: String = encoding.iter().map(|byte| format!("{byte:02x}")).collect();

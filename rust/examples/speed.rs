@@ -1,5 +1,7 @@
 //! Prints how long calls take over 1,000 geometries of a shape, the shortest of many rounds, as rows of docs/SPEED.md.
-use porchsorrel_wkb::{bounds, check, encode_point, write_into, Dimension, Form, Kind, Levels, Options, Order, Reader};
+use porchsorrel_wkb::columns::{
+    bounds, check, encode_point, write_into, Dimension, Form, Kind, Levels, Options, Order, Reader,
+};
 use std::time::Instant;
 
 const ROUNDS: usize = 300;

@@ -1,6 +1,6 @@
 //! Finds what occurs in a column of a million line strings, by one thread and by as many as the machine has processors;
 //! or by as many as its arguments say, each in turn.
-use porchsorrel_wkb::{Column, Dimension, Facts, Kind, Levels, Options, Rows};
+use porchsorrel_wkb::columns::{Column, Dimension, Facts, Kind, Levels, Options, Rows};
 use std::num::NonZeroUsize;
 use std::thread;
 use std::time::Instant;

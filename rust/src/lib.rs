@@ -1,169 +1,60 @@
 // SPDX-License-Identifier: MIT OR Apache-2.0
-#![doc = include_str!("../README.md")]
+//! Well-Known Binary: the reader, the writer and the canonical form, by the code of formally verified sources.
+//!
+//! `tools/erase` makes the modules of this crate of proved sources, by leaving out what only the prover reads. So no
+//! call panics on any bytes, and each returns what its contract says (docs/PROMISES.md), provided that rustc and `rt`,
+//! a page of allocation and number formats, mean what Rattle and its std do: that is tested, not proved.
+#![cfg_attr(not(calls), forbid(unsafe_code))]
 #![no_std]
-#![deny(missing_docs, unsafe_code, unsafe_op_in_unsafe_fn)]
+
+#[cfg(not(target_pointer_width = "64"))]
+compile_error!("the sources are proved for a usize of 64 bits, and no other");
 
 extern crate alloc;
 #[cfg(feature = "std")]
 extern crate std;
 
-mod collect;
-mod column;
-mod facts;
-mod geometry;
-mod levels;
-mod raw;
-mod status;
-mod types;
+pub mod columns;
+mod rt;
 
-pub use collect::NotCollected;
-pub use column::{Column, Coordinates, Encodings, Rows};
-pub use facts::{Facts, FoundRows};
-pub use geometry::{Geometry, Members, Part, Reader, View, Words};
-pub use levels::{encode_point, Levels};
-pub use status::{Refused, Status};
-pub use types::{Bounds, Dimension, Form, Kind, Options, Order, Range};
+mod wkb;
+mod wkb_abi;
+mod wkb_bounds;
+mod wkb_c;
+mod wkb_check;
+mod wkb_geom;
+mod wkb_levels;
+mod wkb_plain;
+mod wkb_read;
+mod wkb_rewrite;
+mod wkb_sink;
+mod wkb_view;
+mod wkb_write;
 
-use alloc::vec::Vec;
-use core::fmt;
+pub use rt::{AllocError, TryClone};
+pub use wkb::*;
 
-/// The geometry at the start of an input.
-#[derive(Clone, Copy, Debug, Eq, PartialEq)]
-pub struct Found {
-    /// How many bytes it has; those after them were not looked at.
-    pub size: usize,
-    /// How many parts: itself, and its rings and members at every level.
-    pub parts: usize,
-    /// How many coordinates these have; each point has one, an empty point one of NaNs.
-    pub coordinates: usize,
-    /// Where its own coordinates, rings or members begin.
-    pub offset: usize,
-    /// How many of these it has.
-    pub count: usize,
-    /// Its own SRID.
-    pub srid: Option<u32>,
-    /// What it is.
-    pub kind: Kind,
-    /// Its own dimension, which members of a collection may differ in.
-    pub dimension: Dimension,
-    /// The order of its own numbers.
-    pub order: Order,
+/// What the calls of C take and return.
+#[cfg(calls)]
+mod raw {
+    pub use crate::wkb_abi::column::Column;
+    pub use crate::wkb_abi::fault::WkbFault;
+    pub use crate::wkb_abi::found::Found;
+    pub use crate::wkb_abi::level_column::LevelColumn;
+    pub use crate::wkb_abi::level_slices::LevelSlices;
+    pub use crate::wkb_abi::options::Options;
+    pub use crate::wkb_abi::parts::Part;
+    pub use crate::wkb_abi::totals::Totals;
+    pub use crate::wkb_bounds::Bounds;
+    pub use crate::wkb_c::*;
 }
 
-impl Found {
-    fn of(found: &raw::Found) -> Found {
-        Found {
-            size: found.size as usize,
-            parts: found.parts as usize,
-            coordinates: found.coordinates as usize,
-            offset: found.offset as usize,
-            count: found.count as usize,
-            srid: (found.has_srid == 1).then_some(found.srid),
-            kind: Kind::of(found.kind),
-            dimension: Dimension::of(found.dimension),
-            order: Order::of(found.order),
-        }
-    }
-}
+// The calls of C in one crate with the rest, for `assembly`.
+#[cfg(calls)]
+#[path = "../calls.rs"]
+mod calls;
 
-/// The version of the C library: a million times the major one, a thousand times the minor one, and the patch.
-#[must_use]
-pub fn version() -> u32 {
-    raw::version()
-}
-
-/// Whether a geometry of the grammar is at the start of the input, with at most 128 collections inside one another.
-/// Nothing is allocated.
-///
-/// # Errors
-///
-/// The first fault of the input.
-pub fn check(bytes: &[u8]) -> Result<Found, Refused> {
-    let (mut found, mut fault) = (raw::Found::default(), raw::Fault::default());
-    if raw::check(bytes, &mut found, &mut fault) == 0 {
-        Ok(Found::of(&found))
-    } else {
-        Err(Refused::of(fault))
-    }
-}
-
-/// The bounds of the input's geometry. Nothing is allocated.
-///
-/// # Errors
-///
-/// As [`check`] rejects the input.
-pub fn bounds(bytes: &[u8]) -> Result<Bounds, Refused> {
-    let (mut bounds, mut fault) = (Bounds::EMPTY, raw::Fault::default());
-    if raw::bounds(bytes, &mut bounds, &mut fault) == 0 {
-        Ok(bounds)
-    } else {
-        Err(Refused::of(fault))
-    }
-}
-
-/// The one encoding of the input's geometry under the options.
-///
-/// # Errors
-///
-/// As [`check`] rejects the input.
-pub fn write(bytes: &[u8], options: &Options) -> Result<Vec<u8>, Refused> {
-    let mut out = Vec::new();
-    write_into(bytes, options, &mut out)?;
-    Ok(out)
-}
-
-/// The same in a vector that keeps its memory. Of a rejected input nothing is left in it.
-///
-/// # Errors
-///
-/// As [`check`] rejects the input.
-pub fn write_into(bytes: &[u8], options: &Options, out: &mut Vec<u8>) -> Result<(), Refused> {
-    out.clear();
-    // An encoding is at most four bytes longer than its geometry, which may be a small part of a long input.
-    let most = if bytes.len() > 1 << 16 { check(bytes)?.size } else { bytes.len() };
-    out.reserve(most + 4);
-    let mut fault = raw::Fault::default();
-    match raw::write(bytes, &options.raw(), out, &mut fault) {
-        0 => Ok(()),
-        status => {
-            assert!(Status::of(status).is_refusal(), "there is room, and the options mean something");
-            Err(Refused::of(fault))
-        }
-    }
-}
-
-/// Which input of [`same`] is rejected, and why.
-#[derive(Clone, Copy, Debug, Eq, PartialEq)]
-pub enum RefusedInput {
-    /// The first one is rejected, whatever the second is.
-    First(Refused),
-    /// The first one is a geometry, and the second one is rejected.
-    Second(Refused),
-}
-
-impl fmt::Display for RefusedInput {
-    fn fmt(&self, f: &mut fmt::Formatter<'_>) -> fmt::Result {
-        match self {
-            RefusedInput::First(why) => write!(f, "the first input: {why}"),
-            RefusedInput::Second(why) => write!(f, "the second input: {why}"),
-        }
-    }
-}
-
-#[cfg(feature = "std")]
-impl std::error::Error for RefusedInput {}
-
-/// Whether both inputs begin with geometries of one value: the same kinds, dimensions and coordinates, bit for bit,
-/// whatever their SRIDs and byte orders are. Nothing is allocated.
-///
-/// # Errors
-///
-/// As [`check`] rejects the first input, or else the second.
-pub fn same(a: &[u8], b: &[u8]) -> Result<bool, RefusedInput> {
-    let (mut equal, mut which, mut fault) = (0, 0, raw::Fault::default());
-    match (raw::same(a, b, &mut equal, &mut fault, &mut which), which) {
-        (0, _) => Ok(equal == 1),
-        (_, 1) => Err(RefusedInput::First(Refused::of(fault))),
-        _ => Err(RefusedInput::Second(Refused::of(fault))),
-    }
-}
+/// The example of the README.
+#[cfg(doctest)]
+#[doc = include_str!("../README.md")]
+mod readme {}

@@ -1,5 +1,5 @@
 //! What the calls have beside the answers of lasting.rs: texts, statuses, what outputs keep, and rows that are refused.
-use porchsorrel_wkb::*;
+use porchsorrel_wkb::columns::*;
 
 const POINT: &[u8] = b"\x01\x01\0\0\0\0\0\0\0\0\0\xf0\x3f\0\0\0\0\0\0\0\x40";
 
@@ -25,8 +25,6 @@ fn classes() {
     assert!(!Status::INCORRECT_TYPE.is_short() && !Status::NESTING_DEPTH_EXCEEDED.is_short());
     assert!(!Status::OK.is_short() && !Status::NULL_ROW.is_short() && !Status::BAD_LEVELS.is_short());
     assert_eq!((Status::NULL_ROW.number(), Status::NULL_ROW.text()), (16, "the row is null"));
-    let numbers = env!("CARGO_PKG_VERSION").split('.').map(|it| it.parse::<u32>().unwrap());
-    assert_eq!(version(), numbers.fold(0, |all, it| 1000 * all + it));
 }
 
 #[test]
@@ -44,7 +42,7 @@ fn written_and_read_again() {
 /// Each status of `c/wkb.h` is one of this crate, but those that no call of the crate returns.
 #[test]
 fn statuses_are_those_of_the_header() {
-    let ours = include_str!("../src/status.rs");
+    let ours = include_str!("../src/columns/status.rs");
     let mut count = 0;
     let rests = include_str!("../../c/wkb.h").lines().filter_map(|line| line.strip_prefix("  WKB_STATUS_"));
     for (name, rest) in rests.filter_map(|it| it.split_once(" = ")) {

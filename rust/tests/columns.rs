@@ -1,6 +1,6 @@
 //! Columns that lasting.rs doesn't have: bits and offsets that begin anywhere, are bad or are none; words that are no
 //! whole coordinates; facts of zeros of both signs, and of more rows than are taken at once.
-use porchsorrel_wkb::*;
+use porchsorrel_wkb::columns::*;
 
 fn point(x: f64, y: f64, order: Order) -> Vec<u8> {
     encode_point(&[x, y], Dimension::Xy, &Options { order, form: Form::Iso })

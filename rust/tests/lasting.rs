@@ -1,5 +1,5 @@
 //! The inputs of c/test/lasting.rows, whose answers are those of a model: one by one, and as a column with null rows.
-use porchsorrel_wkb::*;
+use porchsorrel_wkb::columns::*;
 
 const KINDS: [Kind; 7] = [
     Kind::Point,

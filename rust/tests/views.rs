@@ -1,5 +1,5 @@
 //! Views of parts, their members and words, and what prints.
-use porchsorrel_wkb::*;
+use porchsorrel_wkb::columns::*;
 
 fn point(words: &[f64], dimension: Dimension) -> Vec<u8> {
     encode_point(words, dimension, &Options { order: Order::BigEndian, form: Form::Iso })

@@ -1,6 +1,6 @@
 //! Times calls of both crates over files of `checks/hosts/cost_inputs.py`: prints the call, the file, and the
 //! processor's seconds of the shorter of two runs. Usage: `cost PART_OF_A_NAME FILE..`
-use porchsorrel_wkb::{bounds, check, same, write, Column, Dimension, Kind, Levels, Options, Reader};
+use porchsorrel_wkb::columns::{bounds, check, same, write, Column, Dimension, Kind, Levels, Options, Reader};
 use porchsorrel_wkb_geo::{geometry_size, read_wkb, write_geometry};
 use std::{env, fs, hint::black_box};
 

@@ -6,7 +6,7 @@ use geo_traits::{
     CoordTrait, GeometryTrait, GeometryType, LineStringTrait, MultiPointTrait, MultiPolygonTrait, PointTrait,
     PolygonTrait,
 };
-use porchsorrel_wkb::{Dimension, Kind, Levels, Options};
+use porchsorrel_wkb::columns::{Dimension, Kind, Levels, Options};
 use porchsorrel_wkb_geo::{read_wkb, Reader};
 
 /// A geometry of a shape.
@@ -60,7 +60,7 @@ fn by_traits(geometry: &impl GeometryTrait<T = f64>) -> f64 {
 fn main() {
     let words: Vec<String> = std::env::args().collect();
     let (input, rounds): (_, u32) = (shape(&words[2]), words[3].parse().expect("a number of rounds"));
-    let (mut parts, mut geometries) = (porchsorrel_wkb::Reader::default(), Reader::default());
+    let (mut parts, mut geometries) = (porchsorrel_wkb::columns::Reader::default(), Reader::default());
     let mut sum = || match &words[1][..] {
         "words" => {
             let geometry = parts.read(&input).expect("a geometry");

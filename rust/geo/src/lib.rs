@@ -6,7 +6,7 @@ mod read;
 mod table;
 mod write;
 
-pub use porchsorrel_wkb::{Form, Options, Order, Refused, Status};
+pub use porchsorrel_wkb::columns::{Form, Options, Order, Refused, Status};
 pub use read::{
     Coord, Geometry, GeometryCollection, LineString, MultiLineString, MultiPoint, MultiPolygon, Point, Polygon, View,
     Wkb,

@@ -6,7 +6,7 @@ use geo_traits::{
     MultiLineStringTrait, MultiPointTrait, MultiPolygonTrait, PointTrait, PolygonTrait, UnimplementedLine,
     UnimplementedRect, UnimplementedTriangle,
 };
-use porchsorrel_wkb::{Dimension, Kind, Order, Part};
+use porchsorrel_wkb::columns::{Dimension, Kind, Order, Part};
 
 /// A part of an input: its index in the table that `T` has, or lends.
 #[derive(Clone, Copy, Debug)]

@@ -1,7 +1,7 @@
 // SPDX-License-Identifier: MIT OR Apache-2.0
 //! The tables of the parts of inputs.
 use crate::{Refused, View, Wkb};
-use porchsorrel_wkb::{Kind, Part};
+use porchsorrel_wkb::columns::{Kind, Part};
 
 /// Keeps the memory of the table of parts for the next input.
 ///
@@ -21,7 +21,7 @@ use porchsorrel_wkb::{Kind, Part};
 /// ```
 #[derive(Clone, Debug, Default)]
 pub struct Reader {
-    inner: porchsorrel_wkb::Reader,
+    inner: porchsorrel_wkb::columns::Reader,
     /// The members of multi polygons and collections by their indices, those of one part after another.
     members: Vec<usize>,
     /// Where those of each part begin.

@@ -4,7 +4,7 @@ use geo_traits::{
     CoordTrait, Dimensions, GeometryCollectionTrait, GeometryTrait, GeometryType, LineStringTrait, LineTrait,
     MultiLineStringTrait, MultiPointTrait, MultiPolygonTrait, PointTrait, PolygonTrait, RectTrait, TriangleTrait,
 };
-use porchsorrel_wkb::{Dimension, Form, Kind, Levels, NotCollected, Options, Rows, Status};
+use porchsorrel_wkb::columns::{Dimension, Form, Kind, Levels, NotCollected, Options, Rows, Status};
 use std::error::Error;
 use std::fmt;
 
@@ -80,7 +80,7 @@ fn append(geometry: &impl GeometryTrait<T = f64>, options: &Options, depth: usiz
             append(&it, &of_members, depth + 1, out)?;
             count = count.checked_add(1).ok_or(NotWritten::Refused(Status::TOO_MANY_ROWS))?;
         }
-        let is_big = options.order == porchsorrel_wkb::Order::BigEndian;
+        let is_big = options.order == porchsorrel_wkb::columns::Order::BigEndian;
         out[behind - 4..behind].copy_from_slice(&if is_big { count.to_be_bytes() } else { count.to_le_bytes() });
         return Ok(());
     }

@@ -40,7 +40,7 @@ fn options(number: usize, srid: Option<u32>) -> Options {
 
 #[test]
 fn each_input() {
-    let (mut reader, mut parts, mut accepted) = (Reader::default(), porchsorrel_wkb::Reader::default(), 0);
+    let (mut reader, mut parts, mut accepted) = (Reader::default(), porchsorrel_wkb::columns::Reader::default(), 0);
     for Row { input, status, sums } in rows() {
         let (wkb, view) = (read_wkb(&input), reader.read(&input));
         if status != 0 {

@@ -1,6 +1,6 @@
 //! How often memory is asked for.
 use crate::lasting::rows;
-use porchsorrel_wkb::{check, Dimension, Kind, Options, Rows};
+use porchsorrel_wkb::columns::{check, Dimension, Kind, Options, Rows};
 use porchsorrel_wkb_geo::{geometry_size, read_wkb, Reader};
 use std::alloc::{GlobalAlloc, Layout, System};
 use std::cell::Cell;

@@ -1,6 +1,8 @@
 //! The table of names on the crate's page.
 use geo_traits::{Dimensions, GeometryTrait, GeometryType, LineStringTrait, MultiPolygonTrait, PolygonTrait};
-use porchsorrel_wkb::{check, encode_point, write_into, Column, Dimension, Found, Kind, Levels, Part, Reader, View};
+use porchsorrel_wkb::columns::{
+    check, encode_point, write_into, Column, Dimension, Found, Kind, Levels, Part, Reader, View,
+};
 use porchsorrel_wkb_geo::{
     geometry_size, read_wkb, write_geometry, Geometry, NotWritten, Options, Order, Refused, Wkb,
 };
@@ -24,7 +26,7 @@ fn each_name_is_called() -> Result<(), Box<dyn std::error::Error>> {
     let found: Found = check(&point)?;
     assert_eq!(found.size, 21);
     let mut reader = Reader::default();
-    let geometry: porchsorrel_wkb::Geometry = Reader::read(&mut reader, &point)?;
+    let geometry: porchsorrel_wkb::columns::Geometry = Reader::read(&mut reader, &point)?;
     let (view, part): (View, &Part) = (geometry.whole(), &geometry.parts()[0]);
     assert_eq!((Part::kind(part), Part::bytes(part)), (Kind::Point, 0..21));
     assert_eq!((View::words(&view).len(), View::members(&view).len()), (2, 0));
@@ -38,7 +40,7 @@ fn each_name_is_called() -> Result<(), Box<dyn std::error::Error>> {
     Ok(())
 }
 
-/// Each name of this crate or of `porchsorrel_wkb` in the table is called by the test above.
+/// Each name of this crate or of `porchsorrel_wkb::columns` in the table is called by the test above.
 #[test]
 fn each_row_is_compiled() {
     let (page, code) = (include_str!("../../README.md"), include_str!("names.rs"));

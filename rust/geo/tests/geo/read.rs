@@ -1,6 +1,6 @@
 //! Geometries by the traits, as lists of their words and parts.
 use geo_traits::*;
-use porchsorrel_wkb::{Dimension, Kind};
+use porchsorrel_wkb::columns::{Dimension, Kind};
 use porchsorrel_wkb_geo::*;
 
 use crate::lasting::rows;
@@ -60,7 +60,7 @@ pub fn list<'b, T: AsRef<Reader>>(it: &Geometry<'b, T>) -> Vec<Listed<'b>> {
 }
 
 /// The same by the parts of the crate.
-pub fn parts_of<'b>(input: &'b [u8], part: porchsorrel_wkb::View) -> Vec<Listed<'b>> {
+pub fn parts_of<'b>(input: &'b [u8], part: porchsorrel_wkb::columns::View) -> Vec<Listed<'b>> {
     let dimensions = match part.dimension() {
         Dimension::Xy => Dimensions::Xy,
         Dimension::Xyz => Dimensions::Xyz,

@@ -1,6 +1,6 @@
 //! What is written of geometries that no input has, or that are rejected.
 use geo_traits::*;
-use porchsorrel_wkb::{check, write, Kind};
+use porchsorrel_wkb::columns::{check, write, Kind};
 use porchsorrel_wkb_geo::*;
 
 /// A coordinate with words of one's own.

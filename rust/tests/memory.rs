@@ -25,7 +25,11 @@ impl Failing {
 
 unsafe impl GlobalAlloc for Failing {
     unsafe fn alloc(&self, layout: Layout) -> *mut u8 {
-        if self.fails() { std::ptr::null_mut() } else { System.alloc(layout) }
+        if self.fails() {
+            std::ptr::null_mut()
+        } else {
+            System.alloc(layout)
+        }
     }
 
     unsafe fn dealloc(&self, place: *mut u8, layout: Layout) {
@@ -33,7 +37,11 @@ unsafe impl GlobalAlloc for Failing {
     }
 
     unsafe fn realloc(&self, place: *mut u8, layout: Layout, size: usize) -> *mut u8 {
-        if self.fails() { std::ptr::null_mut() } else { System.realloc(place, layout, size) }
+        if self.fails() {
+            std::ptr::null_mut()
+        } else {
+            System.realloc(place, layout, size)
+        }
     }
 }
 
@@ -73,7 +81,7 @@ fn each_allocation_fails() {
     assert!(tried(|| canonical(&input, &options).map(drop)) == 1);
     assert!(tried(|| canonical_with_srid(&input, Endianness::LittleEndian).map(drop)) == 1);
     let wkb = read_wkb(&input).unwrap();
-    assert!(tried(|| Ok(drop(wkb.try_clone()?))) > 5);
+    assert!(tried(|| wkb.try_clone().map(drop).map_err(WkbError::from)) > 5);
     assert!(tried(|| to_vec(&wkb, &options).map(drop)) == 1);
     let grown = tried(|| {
         let mut sink = VecSink::new();

@@ -66,8 +66,14 @@ fn lasting() {
         accepted += 1;
         assert_eq!(status, 0);
         let srid = (numbers[6] == 1).then_some(numbers[5] as u32);
-        assert_eq!((found.bytes as u64, found.parts as u64, found.coordinates as u64), (numbers[0], numbers[1], numbers[2]));
-        assert_eq!((found.srid, u64::from(found.wkb_type.kind()), u64::from(found.order.byte())), (srid, numbers[7], numbers[10]));
+        assert_eq!(
+            (found.bytes as u64, found.parts as u64, found.coordinates as u64),
+            (numbers[0], numbers[1], numbers[2])
+        );
+        assert_eq!(
+            (found.srid, u64::from(found.wkb_type.kind()), u64::from(found.order.byte())),
+            (srid, numbers[7], numbers[10])
+        );
         let wkb = read_wkb(&input).unwrap().try_clone().unwrap();
         assert_eq!((wkb.buf(), wkb.srid()), (&input[..found.bytes], srid));
         for (order, sums) in [Endianness::BigEndian, Endianness::LittleEndian].iter().zip(sums.chunks(4)) {
@@ -99,6 +105,8 @@ fn texts() {
     assert_eq!(text(&deep), "WKB nesting depth exceeds the maximum of 128");
     let short = "Invalid buffer length for Point: geometry would end at byte 21, but buffer length is 5.";
     assert_eq!(text(&[1, 1, 0, 0, 0]), format!("General error: {short}"));
-    assert_eq!(text(&[1, 4, 0, 0, 0, 1, 0, 0, 0, 1, 2, 0, 0, 0, 0, 0, 0, 0, 0, 0, 0, 0, 0, 0, 0, 0, 0, 0, 0, 0]),
-        "Incorrect type passed to operation: multi geometry member");
+    assert_eq!(
+        text(&[1, 4, 0, 0, 0, 1, 0, 0, 0, 1, 2, 0, 0, 0, 0, 0, 0, 0, 0, 0, 0, 0, 0, 0, 0, 0, 0, 0, 0, 0]),
+        "Incorrect type passed to operation: multi geometry member"
+    );
 }

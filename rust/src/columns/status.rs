@@ -1,6 +1,7 @@
 // SPDX-License-Identifier: MIT OR Apache-2.0
 //! Why an input is rejected, and what became of the rows of a column.
-use crate::raw;
+use crate::wkb_abi::fault::WkbFault;
+use alloc::vec::Vec;
 use core::fmt;
 
 /// What became of an input or of a row. The constants are those of this version; later ones add more inside the
@@ -47,6 +48,10 @@ impl Status {
         Status(number as u8)
     }
 
+    pub(crate) fn all(numbers: Vec<u8>) -> Vec<Status> {
+        numbers.into_iter().map(Status).collect()
+    }
+
     /// The number of `wkb_status` in `c/wkb.h`.
     #[must_use]
     pub fn number(self) -> u8 {
@@ -79,7 +84,26 @@ impl Status {
     /// The text of the status, in one line.
     #[must_use]
     pub fn text(self) -> &'static str {
-        raw::status_text(self.0.into())
+        match self {
+            Status::OK => "ok",
+            Status::NO_ROOM => "the output buffer is too small",
+            Status::TOO_MANY_ROWS => "there are more rows than a count of four bytes holds",
+            Status::NULL_ROW => "the row is null",
+            Status::BAD_OFFSETS => {
+                "the row's offsets are negative, decrease or pass the end of the data, or it begins before a row ends"
+            }
+            Status::BAD_LEVELS => "the row's levels don't fit its kind or each other",
+            Status::SHORT_HEADER => "the input ends inside a header or before a count",
+            Status::INVALID_BYTE_ORDER => "a byte order is neither 0 nor 1",
+            Status::CODE_OUT_OF_RANGE => "unknown geometry type code",
+            Status::INCORRECT_TYPE => "a member has the wrong kind, dimension or SRID for its multi geometry",
+            Status::NESTING_DEPTH_EXCEEDED => "a collection is inside 128 others",
+            Status::SHORT_POINT => "the input ends inside a point",
+            Status::SHORT_LINE_STRING => "the input ends inside a line string",
+            Status::SHORT_MULTI_POINT => "the input ends inside a multi point",
+            Status::SHORT_LINEAR_RING => "the input ends inside a ring",
+            _ => "the call failed",
+        }
     }
 }
 
@@ -98,7 +122,7 @@ impl fmt::Display for Status {
 /// The first fault of an input, and where it is. The text says all of it.
 ///
 /// ```
-/// use porchsorrel_wkb::{check, Status};
+/// use porchsorrel_wkb::columns::{check, Status};
 ///
 /// // A collection of two points, the second of which is cut off after its x: 13 bytes of 21.
 /// let mut input = b"\x01\x07\0\0\0\x02\0\0\0".to_vec();
@@ -131,7 +155,7 @@ pub struct Refused {
 }
 
 impl Refused {
-    pub(crate) fn of(fault: raw::Fault) -> Refused {
+    pub(crate) fn of(fault: &WkbFault) -> Refused {
         let status = Status::of(fault.status);
         Refused {
             status,
@@ -141,19 +165,44 @@ impl Refused {
             code: (status == Status::CODE_OUT_OF_RANGE).then_some(fault.code),
         }
     }
+}
 
-    fn fault(&self) -> raw::Fault {
-        let (end, len) = self.ends.unwrap_or_default();
-        let (code, status) = (self.code.unwrap_or_default(), self.status.0.into());
-        raw::Fault { part: self.part, offset: self.offset as u64, end, len, code, status }
-    }
+/// The name of a code that isn't read, by OGC 06-103r4, whatever its dimension and its SRID.
+fn unread_kind(code: u32) -> Option<&'static str> {
+    const FIRST: u32 = 8;
+    const NAMES: [&str; 10] = [
+        "a circular string",
+        "a compound curve",
+        "a curve polygon",
+        "a multi curve",
+        "a multi surface",
+        "a curve",
+        "a surface",
+        "a polyhedral surface",
+        "a TIN",
+        "a triangle",
+    ];
+    let number = code & 0x1fff_ffff;
+    let kind = (number % 1000).checked_sub(FIRST).filter(|_| number < 4000)?;
+    NAMES.get(kind as usize).copied()
 }
 
 impl fmt::Display for Refused {
     fn fmt(&self, f: &mut fmt::Formatter<'_>) -> fmt::Result {
-        let mut out = [0u8; raw::FAULT_TEXT_ROOM];
-        let len = raw::fault_text(&self.fault(), &mut out);
-        f.write_str(out.get(..len).and_then(|text| core::str::from_utf8(text).ok()).unwrap_or_default())
+        f.write_str(self.status.text())?;
+        if let Some(code) = self.code {
+            write!(f, " {code}")?;
+            if let Some(name) = unread_kind(code) {
+                write!(f, ", {name}, which this library does not read")?;
+            }
+        }
+        if self.status.is_refusal() {
+            write!(f, ", at byte {} (part {})", self.offset, self.part)?;
+        }
+        match self.ends {
+            Some((end, len)) => write!(f, ": it needs {end} bytes and has {len}"),
+            None => Ok(()),
+        }
     }
 }
 

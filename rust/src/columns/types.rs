@@ -1,6 +1,6 @@
 // SPDX-License-Identifier: MIT OR Apache-2.0
 //! What geometries are made of: kinds, dimensions, orders, and what is written besides the geometry itself.
-use crate::raw;
+use crate::{wkb_abi, wkb_bounds};
 use core::fmt;
 
 /// The kind of a geometry, or a ring of a polygon, by its number in the codes.
@@ -51,7 +51,16 @@ impl Kind {
     /// The name in lower case, such as `linestring`.
     #[must_use]
     pub fn text(self) -> &'static str {
-        raw::kind_text(self as u32)
+        match self {
+            Kind::Ring => "ring",
+            Kind::Point => "point",
+            Kind::LineString => "linestring",
+            Kind::Polygon => "polygon",
+            Kind::MultiPoint => "multipoint",
+            Kind::MultiLineString => "multilinestring",
+            Kind::MultiPolygon => "multipolygon",
+            Kind::GeometryCollection => "geometrycollection",
+        }
     }
 }
 
@@ -139,19 +148,18 @@ impl Default for Options {
 }
 
 impl Options {
-    pub(crate) fn raw(&self) -> raw::Options {
+    pub(crate) fn numbers(&self) -> wkb_abi::options::Options {
         let (form, srid) = match self.form {
             Form::Iso => (0, 0),
             Form::EwkbOwnSrid => (1, 0),
             Form::EwkbWithSrid(srid) => (2, srid),
             Form::EwkbWithoutSrid => (3, 0),
         };
-        raw::Options { order: self.order as u32, form, srid }
+        wkb_abi::options::Options { order: self.order as u32, form, srid }
     }
 }
 
 /// The range of an ordinate over all coordinates that have one. NaNs are left out, and -0 is below +0.
-#[repr(C)]
 #[derive(Clone, Copy, Debug, PartialEq)]
 pub struct Range {
     /// Infinity where `count` is 0.
@@ -166,6 +174,11 @@ impl Range {
     /// The range of no number.
     pub const EMPTY: Range = Range { least: f64::INFINITY, greatest: f64::NEG_INFINITY, count: 0 };
 
+    fn of(range: wkb_bounds::Range) -> Range {
+        let (least, greatest) = (f64::from_bits(range.least), f64::from_bits(range.greatest));
+        Range { least, greatest, count: range.count }
+    }
+
     fn add(&mut self, other: &Range) {
         // No end is a NaN, and of the others -0 is below +0 in this order.
         if other.least.total_cmp(&self.least).is_lt() {
@@ -179,7 +192,6 @@ impl Range {
 }
 
 /// The bounds of a geometry, over all its rings: z of coordinates that have a z, m of those that have an m.
-#[repr(C)]
 #[derive(Clone, Copy, Debug, PartialEq)]
 pub struct Bounds {
     /// Of every coordinate's first word.
@@ -195,6 +207,11 @@ pub struct Bounds {
 impl Bounds {
     /// The bounds of a geometry without coordinates.
     pub const EMPTY: Bounds = Bounds { x: Range::EMPTY, y: Range::EMPTY, z: Range::EMPTY, m: Range::EMPTY };
+
+    pub(crate) fn of(bounds: wkb_bounds::Bounds) -> Bounds {
+        let [x, y, z, m] = [bounds.x, bounds.y, bounds.z, bounds.m].map(Range::of);
+        Bounds { x, y, z, m }
+    }
 
     /// Widens the bounds by others, so that they are those of both geometries together.
     pub fn add(&mut self, other: &Bounds) {

@@ -1,29 +1,30 @@
 // SPDX-License-Identifier: MIT OR Apache-2.0
 //! A geometry as the table of its parts.
-use crate::{check, raw, Dimension, Found, Kind, Order, Refused};
+use super::{check, Dimension, Found, Kind, Order, Refused};
+use crate::wkb_abi::fault::NO_FAULT;
+pub use crate::wkb_abi::parts::Part;
+use crate::wkb_c::wkb_raw_parts;
 use alloc::vec::Vec;
+use core::fmt;
 use core::iter::FusedIterator;
 use core::ops::{Deref, Range};
 use core::slice::ChunksExact;
 
-/// A geometry, or a ring of a polygon. Its rings or members follow it in the table, each followed by its own.
-#[repr(C)]
-#[derive(Clone, Copy, Debug, Eq, PartialEq)]
-pub struct Part {
-    begin: u64,
-    end: u64,
-    offset: u64,
-    count: u64,
-    next: u64,
-    srid: u32,
-    has_srid: u32,
-    kind: u32,
-    dimension: u32,
-    width: u32,
-    order: u32,
-}
-
 impl Part {
+    const NONE: Part = Part {
+        begin: 0,
+        end: 0,
+        offset: 0,
+        count: 0,
+        next: 0,
+        srid: 0,
+        has_srid: 0,
+        kind: 0,
+        dimension: 0,
+        width: 0,
+        order: 0,
+    };
+
     /// What it is.
     #[must_use]
     pub fn kind(&self) -> Kind {
@@ -88,18 +89,43 @@ impl Part {
             order: found.order as u32,
         }
     }
+
+    fn places(&self) -> [u64; 5] {
+        [self.begin, self.end, self.offset, self.count, self.next]
+    }
+
+    fn numbers(&self) -> [u32; 6] {
+        [self.srid, self.has_srid, self.kind, self.dimension, self.width, self.order]
+    }
+}
+
+impl PartialEq for Part {
+    fn eq(&self, other: &Part) -> bool {
+        (self.places(), self.numbers()) == (other.places(), other.numbers())
+    }
+}
+
+impl Eq for Part {}
+
+impl fmt::Debug for Part {
+    fn fmt(&self, f: &mut fmt::Formatter<'_>) -> fmt::Result {
+        let mut text = f.debug_struct("Part");
+        text.field("kind", &self.kind()).field("dimension", &self.dimension()).field("order", &self.order());
+        text.field("srid", &self.srid()).field("count", &self.count()).field("offset", &self.offset());
+        text.field("bytes", &self.bytes()).field("next", &self.next()).finish()
+    }
 }
 
 /// Keeps the memory of a table of parts for the next input.
 ///
 /// ```
-/// use porchsorrel_wkb::Reader;
+/// use porchsorrel_wkb::columns::Reader;
 ///
 /// let line = [0, 0, 0, 0, 2, 0, 0, 0, 1, 0x3f, 0xf0, 0, 0, 0, 0, 0, 0, 0x40, 0, 0, 0, 0, 0, 0, 0];
 /// let mut reader = Reader::default();
 /// let geometry = reader.read(&line)?;
 /// assert_eq!(geometry.whole().words().collect::<Vec<_>>(), [1.0, 2.0]);
-/// # Ok::<(), porchsorrel_wkb::Refused>(())
+/// # Ok::<(), porchsorrel_wkb::columns::Refused>(())
 /// ```
 #[derive(Clone, Debug, Default)]
 pub struct Reader {
@@ -130,9 +156,10 @@ impl Reader {
     }
 
     fn fill(&mut self, bytes: &[u8], many: usize) {
-        self.table.reserve(many);
-        let status = raw::parts(bytes, &mut self.table, &mut raw::Fault::default());
-        assert_eq!((status, self.table.len()), (0, many), "an accepted input has as many parts as the check says");
+        self.table.resize(many, Part::NONE);
+        let (mut count, mut fault) = (0, NO_FAULT);
+        let status = wkb_raw_parts(bytes, &mut self.table, &mut count, &mut fault);
+        assert_eq!((status, count), (0, many as u64), "an accepted input has as many parts as the check says");
     }
 }
 
@@ -180,7 +207,7 @@ impl<'t, 'b> Geometry<'t, 'b> {
 /// dereferences to.
 ///
 /// ```
-/// use porchsorrel_wkb::{Kind, Reader};
+/// use porchsorrel_wkb::columns::{Kind, Reader};
 ///
 /// // A multi point of (1, 2) and (3, 4).
 /// let mut input = vec![1, 4, 0, 0, 0, 2, 0, 0, 0];
@@ -193,7 +220,7 @@ impl<'t, 'b> Geometry<'t, 'b> {
 /// assert_eq!((points.kind(), points.members().len()), (Kind::MultiPoint, 2));
 /// let x: Vec<f64> = points.members().filter_map(|it| it.words().next()).collect();
 /// assert_eq!(x, [1.0, 3.0]);
-/// # Ok::<(), porchsorrel_wkb::Refused>(())
+/// # Ok::<(), porchsorrel_wkb::columns::Refused>(())
 /// ```
 #[derive(Clone, Copy, Debug)]
 pub struct View<'t, 'b> {

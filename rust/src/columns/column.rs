@@ -1,6 +1,10 @@
 // SPDX-License-Identifier: MIT OR Apache-2.0
 //! Columns of encodings, as Arrow has them.
-use crate::{raw, Bounds, Dimension, Options, Status};
+use super::{Bounds, Dimension, Options, Status};
+use crate::wkb_abi::column::Column as Bytes;
+use crate::wkb_abi::level_slices::LevelSlices;
+use crate::wkb_abi::totals::Totals;
+use crate::wkb_c;
 use alloc::vec;
 use alloc::vec::Vec;
 use core::ops::Range;
@@ -47,11 +51,6 @@ pub struct Encodings {
 }
 
 impl Encodings {
-    /// Results of so many rows, and no data yet.
-    pub(crate) fn of(rows: usize) -> Encodings {
-        Encodings { data: vec![], ends: vec![0; rows], statuses: vec![Status::OK; rows] }
-    }
-
     /// The encoding of a row, where it has one.
     ///
     /// # Panics
@@ -87,7 +86,7 @@ impl Encodings {
 /// too, of NaNs.
 ///
 /// ```
-/// use porchsorrel_wkb::{Dimension, Rows};
+/// use porchsorrel_wkb::columns::{Dimension, Rows};
 ///
 /// let mut line = vec![1, 2, 0, 0, 0, 2, 0, 0, 0];
 /// line.extend([1.0, 2.0, 3.0, 4.0].iter().flat_map(|word: &f64| word.to_le_bytes()));
@@ -166,7 +165,7 @@ impl<'a> Column<'a> {
     /// overlaps one of another column isn't bad here, as with [`slice`](Column::slice).
     ///
     /// ```
-    /// use porchsorrel_wkb::{Facts, Rows};
+    /// use porchsorrel_wkb::columns::{Facts, Rows};
     ///
     /// let rows = Rows::of(vec![Some(b"\x01\x02\0\0\0\0\0\0\0"); 1000]);
     /// let mut all = Facts::default();
@@ -200,53 +199,88 @@ impl<'a> Column<'a> {
         }
     }
 
-    pub(crate) fn raw(&self) -> raw::Column<'a> {
-        raw::Column::of(self.data, self.offsets, self.validity)
+    /// Calls with the column as the proved calls take it, with a copy of its offsets as bytes.
+    pub(crate) fn with_bytes<T>(&self, call: impl FnOnce(&Bytes<'_>) -> T) -> T {
+        fn bytes<N: Copy, const SIZE: usize>(offsets: &[N], bytes_of: fn(N) -> [u8; SIZE]) -> Vec<u8> {
+            let mut bytes = vec![0; SIZE * offsets.len()];
+            bytes.chunks_exact_mut(SIZE).zip(offsets).for_each(|(to, it)| to.copy_from_slice(&bytes_of(*it)));
+            bytes
+        }
+        let (offsets, offset_size) = match self.offsets {
+            Offsets::Small(offsets) => (bytes(offsets, i32::to_le_bytes), 4),
+            Offsets::Large(offsets) => (bytes(offsets, i64::to_le_bytes), 8),
+        };
+        let (validity, validity_offset) = self.validity.unwrap_or_default();
+        call(&Bytes { bytes: self.data, offsets: &offsets, offset_size, validity, validity_offset })
     }
 
-    /// What [`check`](crate::check) finds of each row.
+    /// What [`check`](super::check) finds of each row.
     #[must_use]
     pub fn check(&self) -> Vec<Status> {
-        raw::column_check(&self.raw())
+        let mut statuses = vec![0; self.rows()];
+        self.with_bytes(|column| wkb_c::wkb_raw_column_check(column, &mut statuses));
+        Status::all(statuses)
     }
 
-    /// What [`bounds`](crate::bounds) finds of each row: those of no coordinate where it has none.
+    /// What [`bounds`](super::bounds) finds of each row: those of no coordinate where it has none.
     #[must_use]
     pub fn bounds(&self) -> (Vec<Bounds>, Vec<Status>) {
-        raw::column_bounds(&self.raw())
+        let (mut bounds, mut statuses) = (vec![crate::wkb_bounds::Bounds::empty(); self.rows()], vec![0; self.rows()]);
+        self.with_bytes(|column| wkb_c::wkb_raw_column_bounds(column, &mut bounds, &mut statuses));
+        (bounds.into_iter().map(Bounds::of).collect(), Status::all(statuses))
     }
 
-    /// What [`write`](crate::write) makes of each row.
+    /// What [`write`](super::write) makes of each row.
     #[must_use]
     pub fn write(&self, options: &Options) -> Encodings {
-        let mut made = Encodings::of(self.rows());
         // Rows that are read don't overlap, and an encoding is at most four bytes longer than its row. Those of a slice
         // may be a small part of the data.
         let held = self.ends().and_then(|(first, last)| usize::try_from(last.saturating_sub(first)).ok());
-        made.data = vec![0; self.data.len().min(held.unwrap_or(usize::MAX)) + 4 * self.rows()];
-        let end = raw::column_write(&self.raw(), &options.raw(), &mut made);
-        made.data.truncate(end);
-        made
+        let mut data = vec![0; self.data.len().min(held.unwrap_or(usize::MAX)) + 4 * self.rows()];
+        let (mut ends, mut statuses) = (vec![0; self.rows()], vec![0; self.rows()]);
+        self.with_bytes(|column| {
+            wkb_c::wkb_raw_column_write(column, &options.numbers(), &mut data, &mut ends, &mut statuses);
+        });
+        data.truncate(ends.last().map_or(0, |end| *end as usize));
+        Encodings { data, ends, statuses: Status::all(statuses) }
     }
 
     /// The coordinates of each row. Words that the dimension doesn't name are left out, and a word that a geometry
     /// doesn't have is a NaN.
     #[must_use]
     pub fn coordinates(&self, dimension: Dimension) -> Coordinates {
-        let (row_ends, statuses) = (vec![0; self.rows()], vec![Status::OK; self.rows()]);
-        let mut made = Coordinates { row_ends, statuses, ..Coordinates::default() };
-        let [coordinates, rings, singles] = raw::column_coordinates(&self.raw(), dimension, &mut made);
-        made.words = vec![0.0; dimension.width() * coordinates];
-        (made.ring_ends, made.single_ends) = (vec![0; rings], vec![0; singles]);
-        raw::column_coordinates(&self.raw(), dimension, &mut made);
-        made
+        let (mut row_ends, mut statuses) = (vec![0; self.rows()], vec![0; self.rows()]);
+        let (mut words, mut ring_ends, mut single_ends) = (vec![], vec![], vec![]);
+        self.with_bytes(|column| {
+            let mut call = |words: &mut [u64], ring_ends: &mut [u64], single_ends: &mut [u64]| {
+                let mut totals = Totals { coordinates: 0, rings: 0, singles: 0 };
+                let mut levels = LevelSlices { words, ring_ends, single_ends };
+                let dimension = dimension as u32;
+                wkb_c::wkb_raw_column_coordinates(
+                    column,
+                    dimension,
+                    &mut levels,
+                    &mut row_ends,
+                    &mut totals,
+                    &mut statuses,
+                );
+                totals
+            };
+            let totals = call(&mut [], &mut [], &mut []);
+            words = vec![0; dimension.width() * totals.coordinates as usize];
+            ring_ends = vec![0; totals.rings as usize];
+            single_ends = vec![0; totals.singles as usize];
+            call(&mut words, &mut ring_ends, &mut single_ends);
+        });
+        let words = words.into_iter().map(f64::from_bits).collect();
+        Coordinates { words, ring_ends, single_ends, row_ends, statuses: Status::all(statuses) }
     }
 }
 
 /// Rows of one's own, as a column takes them.
 ///
 /// ```
-/// use porchsorrel_wkb::{Rows, Status};
+/// use porchsorrel_wkb::columns::{Rows, Status};
 ///
 /// let point = [1, 1, 0, 0, 0, 0, 0, 0, 0, 0, 0, 0xf0, 0x3f, 0, 0, 0, 0, 0, 0, 0, 0x40];
 /// let rows = Rows::of([Some(&point[..]), None, Some(&point[..20])]);

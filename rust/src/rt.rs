@@ -236,10 +236,7 @@ impl fmt::Display for General {
             General::ShortLinearRing { end, len } => ("LinearRing", "data", end, len),
             General::ShortMultiPoint { end, len } => ("MultiPoint", "geometry", end, len),
         };
-        write!(
-            f,
-            "Invalid buffer length for {name}: {data} would end at byte {end}, but buffer length is {len}."
-        )
+        write!(f, "Invalid buffer length for {name}: {data} would end at byte {end}, but buffer length is {len}.")
     }
 }
 

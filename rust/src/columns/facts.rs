@@ -1,26 +1,29 @@
 // SPDX-License-Identifier: MIT OR Apache-2.0
 //! What occurs in the rows of a column.
-use crate::{raw, Bounds, Column, Dimension, Found, Kind, Status};
+use super::{Bounds, Column, Dimension, Found, Kind, Status};
+use crate::wkb_abi::found::NOTHING_FOUND;
+use crate::wkb_c::wkb_raw_column_found;
 use alloc::collections::{BTreeMap, BTreeSet};
+use alloc::vec;
 use alloc::vec::Vec;
 
 /// What is found of each row.
 #[derive(Clone, Debug, Default)]
 pub struct FoundRows {
-    found: Vec<raw::Found>,
+    found: Vec<Found>,
     /// What became of each row.
     pub statuses: Vec<Status>,
 }
 
 impl FoundRows {
-    /// What [`check`](crate::check) finds of a row, where it is a geometry.
+    /// What [`check`](super::check) finds of a row, where it is a geometry.
     ///
     /// # Panics
     ///
     /// If there is no such row.
     #[must_use]
     pub fn row(&self, row: usize) -> Option<Found> {
-        self.statuses[row].is_ok().then(|| Found::of(&self.found[row]))
+        self.statuses[row].is_ok().then(|| self.found[row])
     }
 
     /// The same of each row.
@@ -33,7 +36,7 @@ impl FoundRows {
 /// What occurs in the rows of a column. Of rows that are no geometries only the numbers are kept.
 ///
 /// ```
-/// use porchsorrel_wkb::{Dimension, Kind, Rows};
+/// use porchsorrel_wkb::columns::{Dimension, Kind, Rows};
 ///
 /// let point = [1, 1, 0, 0, 0, 0, 0, 0, 0, 0, 0, 0xf0, 0x3f, 0, 0, 0, 0, 0, 0, 0, 0x40];
 /// let facts = Rows::of([Some(&point[..]), None, Some(&point[..20])]).column().facts();
@@ -103,11 +106,12 @@ impl Facts {
 }
 
 impl Column<'_> {
-    /// What [`check`](crate::check) finds of each row.
+    /// What [`check`](super::check) finds of each row.
     #[must_use]
     pub fn found(&self) -> FoundRows {
-        let (found, statuses) = raw::column_found(&self.raw());
-        FoundRows { found, statuses }
+        let (mut found, mut statuses) = (vec![NOTHING_FOUND; self.rows()], vec![0; self.rows()]);
+        self.with_bytes(|column| wkb_raw_column_found(column, &mut found, &mut statuses));
+        FoundRows { found: found.into_iter().map(Found::of).collect(), statuses: Status::all(statuses) }
     }
 
     /// What occurs in the rows. On the way it takes memory for a thousand rows, or where offsets decrease for all.

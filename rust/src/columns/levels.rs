@@ -1,16 +1,17 @@
 // SPDX-License-Identifier: MIT OR Apache-2.0
 //! Encodings of one's own coordinates.
-use crate::raw::{column_from_coordinates, Level};
-use crate::{Dimension, Encodings, Kind, Options};
+use super::{Dimension, Encodings, Kind, Options, Status};
+use crate::wkb_abi::level_column::LevelColumn;
+use crate::wkb_c::wkb_raw_column_from_coordinates;
 use alloc::vec;
 use alloc::vec::Vec;
 
-/// Rows of one kind and dimension, as [`Coordinates`](crate::Coordinates) has them. Where the ends of a level are left
+/// Rows of one kind and dimension, as [`Coordinates`](super::Coordinates) has them. Where the ends of a level are left
 /// out, item i has item i of the next level: points need no ends, line strings `ring_ends`, polygons `single_ends` too,
 /// and multi geometries `row_ends` besides what their members need.
 ///
 /// ```
-/// use porchsorrel_wkb::{check, Dimension, Kind, Levels, Options};
+/// use porchsorrel_wkb::columns::{check, Dimension, Kind, Levels, Options};
 ///
 /// // A polygon of a square and a square hole.
 /// let words = [0., 0., 10., 0., 10., 10., 0., 10., 0., 0., 2., 2., 2., 8., 8., 8., 8., 2., 2., 2.];
@@ -31,19 +32,14 @@ pub struct Levels<'a> {
     pub row_ends: Option<&'a [u64]>,
 }
 
-/// A level over one with so many items.
-fn level(ends: Option<&[u64]>, below: usize) -> Level<'_> {
-    ends.map_or(Level::Items(below), Level::Ends)
-}
-
 impl Levels<'_> {
     /// The encoding of each row. A row whose levels don't fit its kind or each other is
-    /// [`Status::BAD_LEVELS`](crate::Status::BAD_LEVELS); no row stops the others. If the words are no whole number of
+    /// [`Status::BAD_LEVELS`](super::Status::BAD_LEVELS); no row stops the others. If the words are no whole number of
     /// coordinates, all rows are that; a level without ends has an item for the rest of them as well.
     ///
-    /// Of [`Coordinates`](crate::Coordinates) leave out null and rejected rows, and collections. Otherwise a null or
+    /// Of [`Coordinates`](super::Coordinates) leave out null and rejected rows, and collections. Otherwise a null or
     /// rejected row, which has no singles, comes back as an empty multi geometry, or is
-    /// [`Status::BAD_LEVELS`](crate::Status::BAD_LEVELS) if the kind is no multi geometry. A collection comes back as
+    /// [`Status::BAD_LEVELS`](super::Status::BAD_LEVELS) if the kind is no multi geometry. A collection comes back as
     /// the geometry of this kind that its singles make, if they make one.
     ///
     /// # Panics
@@ -53,26 +49,43 @@ impl Levels<'_> {
     pub fn encode(&self, kind: Kind, dimension: Dimension, options: &Options) -> Encodings {
         assert!(!matches!(kind, Kind::Ring | Kind::GeometryCollection), "rows of a {kind:?}");
         let (whole, rest) = (self.words.len() / dimension.width(), self.words.len() % dimension.width());
-        let rings = level(self.ring_ends, whole + usize::from(rest != 0));
-        let singles = level(self.single_ends, rings.items());
-        let rows = level(self.row_ends, singles.items());
-        let levels = match rest {
-            0 => [rings, singles, rows],
-            // Without singles no row fits.
-            _ => [rings, Level::Items(0), Level::Items(rows.items())],
+        let items = |ends: Option<&[u64]>, below| ends.map_or(below, <[u64]>::len);
+        let rings = items(self.ring_ends, whole + usize::from(rest != 0));
+        let singles = items(self.single_ends, rings);
+        let rows = items(self.row_ends, singles);
+        let words: Vec<u64> = self.words.iter().map(|it| it.to_bits()).collect();
+        let mut levels = LevelColumn {
+            words: &words,
+            ring_ends: self.ring_ends.unwrap_or_default(),
+            rings: rings as u64,
+            single_ends: self.single_ends.unwrap_or_default(),
+            singles: singles as u64,
+            row_ends: self.row_ends.unwrap_or_default(),
+            rows: rows as u64,
+            validity: &[],
+            validity_offset: 0,
         };
-        let (mut made, options) = (Encodings::of(rows.items()), options.raw());
-        let size = column_from_coordinates(self.words, levels, kind, dimension, &options, &mut made);
-        made.data = vec![0; size];
-        column_from_coordinates(self.words, levels, kind, dimension, &options, &mut made);
-        made
+        if rest != 0 {
+            // Without singles no row fits.
+            (levels.single_ends, levels.singles, levels.row_ends) = (&[], 0, &[]);
+        }
+        let (mut ends, mut statuses) = (vec![0; rows], vec![0; rows]);
+        let mut call = |out: &mut [u8]| {
+            let options = options.numbers();
+            let (kind, dimension) = (kind as u32, dimension as u32);
+            wkb_raw_column_from_coordinates(&levels, kind, dimension, &options, out, &mut ends, &mut statuses);
+            ends.last().map_or(0, |end| *end as usize)
+        };
+        let mut data = vec![0; call(&mut [])];
+        call(&mut data);
+        Encodings { data, ends, statuses: Status::all(statuses) }
     }
 }
 
 /// The encoding of one point. Where each word is `f64::from_bits(0x7ff8000000000000)`, it is the empty point.
 ///
 /// ```
-/// use porchsorrel_wkb::{encode_point, Dimension, Options};
+/// use porchsorrel_wkb::columns::{encode_point, Dimension, Options};
 ///
 /// let point = encode_point(&[1.0, 2.0], Dimension::Xy, &Options::default());
 /// assert_eq!(point, b"\x01\x01\0\0\0\0\0\0\0\0\0\xf0\x3f\0\0\0\0\0\0\0\x40");

@@ -1,6 +1,8 @@
 // SPDX-License-Identifier: MIT OR Apache-2.0
 //! Rows of a column as one geometry.
-use crate::{raw, Column, Dimension, Kind, Options, Refused, Status};
+use super::{Column, Dimension, Kind, Options, Refused, Status};
+use crate::wkb_abi::fault::NO_FAULT;
+use crate::wkb_c::wkb_raw_collect;
 use alloc::vec;
 use alloc::vec::Vec;
 use core::fmt;
@@ -47,10 +49,10 @@ impl std::error::Error for NotCollected {}
 impl Column<'_> {
     /// The one encoding under the options of the geometry of this kind and dimension whose members are the geometries
     /// of all rows in order. Of a row only the value counts: its byte order and its SRID don't matter. A collection
-    /// takes rows of any kind and dimension. [`Form::EwkbOwnSrid`](crate::Form::EwkbOwnSrid) writes no SRID.
+    /// takes rows of any kind and dimension. [`Form::EwkbOwnSrid`](super::Form::EwkbOwnSrid) writes no SRID.
     ///
     /// ```
-    /// use porchsorrel_wkb::{check, Dimension, Kind, NotCollected, Options, Rows};
+    /// use porchsorrel_wkb::columns::{check, Dimension, Kind, NotCollected, Options, Rows};
     ///
     /// let point = [1, 1, 0, 0, 0, 0, 0, 0, 0, 0, 0, 0xf0, 0x3f, 0, 0, 0, 0, 0, 0, 0, 0x40];
     /// let rows = Rows::of([Some(&point), Some(&point)]);
@@ -69,22 +71,30 @@ impl Column<'_> {
     /// If the kind has no geometries as members.
     pub fn collect(&self, kind: Kind, dimension: Dimension, options: &Options) -> Result<Vec<u8>, NotCollected> {
         assert!(kind as u32 >= Kind::MultiPoint as u32, "members of a {kind:?}");
-        let (column, options, mut told) = (self.raw(), options.raw(), raw::Collected::default());
-        let mut call = |out: &mut [u8]| {
-            let status = raw::collect(&column, kind, dimension, &options, out, &mut told);
-            (Status::of(status), told.size)
-        };
-        let (mut status, needed) = call(&mut []);
-        let mut data = vec![0; needed];
-        if status == Status::NO_ROOM {
-            (status, _) = call(&mut data);
-        }
+        let (rows, kind, dimension, options) = (self.rows(), kind as u32, dimension as u32, options.numbers());
+        let (mut fault, mut row) = (NO_FAULT, 0);
+        let mut data = vec![];
+        let status = self.with_bytes(|column| {
+            let mut call = |out: &mut [u8]| {
+                let mut size = 0;
+                let (fault, row) = (&mut fault, &mut row);
+                let status = wkb_raw_collect(column, rows, kind, dimension, &options, out, &mut size, fault, row);
+                (Status::of(status), size as usize)
+            };
+            let (status, size) = call(&mut []);
+            if status != Status::NO_ROOM {
+                return status;
+            }
+            data = vec![0; size];
+            call(&mut data).0
+        });
+        let row = row as usize;
         match status {
             Status::OK => Ok(data),
             Status::TOO_MANY_ROWS => Err(NotCollected::TooManyRows),
-            Status::NULL_ROW => Err(NotCollected::NullRow(told.row)),
-            Status::BAD_OFFSETS => Err(NotCollected::BadOffsets(told.row)),
-            _ => Err(NotCollected::Refused(told.row, Refused::of(told.fault))),
+            Status::NULL_ROW => Err(NotCollected::NullRow(row)),
+            Status::BAD_OFFSETS => Err(NotCollected::BadOffsets(row)),
+            _ => Err(NotCollected::Refused(row, Refused::of(&fault))),
         }
     }
 }

@@ -1,12 +1,10 @@
 // SPDX-License-Identifier: MIT OR Apache-2.0
 //! The calls of `c/wkb_raw.h`, whose comments say what they take: pointers that are not null and aligned, each with the
 //! length of what is behind it. Nothing else of these sources is unsafe.
-#![no_std]
-#![allow(clippy::missing_safety_doc, clippy::too_many_arguments)]
 
+use crate::raw;
+use crate::raw::{Bounds, Column, Found, LevelColumn, LevelSlices, Options, Part, Totals, WkbFault};
 use core::slice::{from_raw_parts as slice, from_raw_parts_mut as slice_mut};
-use porchsorrel_wkb::raw;
-use porchsorrel_wkb::raw::{Bounds, Column, Found, LevelColumn, LevelSlices, Options, Part, Totals, WkbFault};
 
 extern "C" {
     fn abort() -> !;
@@ -214,17 +212,7 @@ pub unsafe extern "C" fn wkb_raw_collect(
     fault: &mut WkbFault,
     row: &mut u64,
 ) -> u32 {
-    raw::wkb_raw_collect(
-        &column.column(),
-        rows,
-        kind,
-        dimension,
-        options,
-        slice_mut(out, room),
-        size,
-        fault,
-        row,
-    )
+    raw::wkb_raw_collect(&column.column(), rows, kind, dimension, options, slice_mut(out, room), size, fault, row)
 }
 
 #[no_mangle]
