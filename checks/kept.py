@@ -24,7 +24,7 @@ DAYS = 60
 # What scripts and the commands of pages may read besides themselves: a command reads what stands beside each of its
 # words. One without such a word may read all.
 C, SOURCES = "c/* examples/*", "crates.txt HANDLES tools/*"
-PYTHON, RUST = "python/* LICENSE-*", "rust/* Cargo.toml LICENSE-*"
+PYTHON, RUST = "python/* LICENSE-*", "rust/* Cargo.toml LICENSE-* crates/* tools/erase"
 SYSTEMS = f"{C} checks/systems/* tools/version LICENSE-*"
 DIST = f"{PYTHON} {RUST} {SYSTEMS} {SOURCES} sqlite/* postgres/* LICENSES/* .reuse/*"
 READS = {

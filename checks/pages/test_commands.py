@@ -31,7 +31,7 @@ BIG_COLLECTIONS = "000000000700000001", "000000000700000000"
 STACK = 160
 # The places of the code that pages show.
 SOURCES = {
-    "rust": ["crates/wkb_key/src/*.rt", "crates/wkb_c[al]*s/src/*.rt", "crates/wkb/src/**/*.rt", "rust/src/*.rs",
+    "rust": ["crates/wkb_key/src/*.rt", "crates/wkb_c[al]*s/src/*.rt", "crates/wkb/src/**/*.rt", "rust/src/*.rs", "rust/src/columns/*.rs",
              "rust/**/README.md", "docs/START_RUST.md"],
     "antt": ["crates/wkb_clients/proofs/**/*.antt"],
     "c": ["c/examples/*.c", "docs/START_C.md", "README.md"],

@@ -33,7 +33,7 @@ NAMED = [
     *((page, RELEASED) for page in pages.PAGES if re.search(RELEASED, pages.text_of(page))),
 ]
 # The packages, which name the licence that .reuse/dep5 has for what they hold: the files there, and how they say it.
-LICENSED = {"Cargo.toml": "c/proved/*.s", "python/pyproject.toml": "c/proved/*.s", "rust/geo/Cargo.toml": "*"}
+LICENSED = {"Cargo.toml": "*", "python/pyproject.toml": "c/proved/*.s", "rust/geo/Cargo.toml": "*"}
 LICENSE = r'(?m)^license = .*"(.*)"'
 # What users see first of a package, which claims this and nothing more.
 CLAIM = "compiled from formally verified sources"
@@ -41,7 +41,6 @@ FACES = """
     CITATION.cff Cargo.toml c/package/package.md c/package/wkb.pc.in postgres/wkb.control python/README.md
     python/pyproject.toml python/src/porchsorrel_wkb/__init__.py rust/README.md rust/geo/Cargo.toml rust/geo/README.md
     """.split()
-# The page that names the oldest Rust of Cargo.toml.
 RUST = "README.md", r"Debian[^.]*.*\bRust ([\d.]*\d)"
 
 
