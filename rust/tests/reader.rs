@@ -57,11 +57,14 @@ fn written(wkb: &Wkb<'_>, options: &WriteOptions) -> Vec<u8> {
 fn lasting() {
     let mut accepted = 0;
     for (input, status, numbers, sums) in rows() {
-        let Ok(found) = check(&input) else {
-            assert_ne!(status, 0);
-            assert!(read_wkb(&input).is_err() && bounds(&input).is_err());
-            assert!(same(&input, &input).is_err());
-            continue;
+        let found = match check(&input) {
+            Ok(found) => found,
+            Err(_) => {
+                assert_ne!(status, 0);
+                assert!(read_wkb(&input).is_err() && bounds(&input).is_err());
+                assert!(same(&input, &input).is_err());
+                continue;
+            }
         };
         accepted += 1;
         assert_eq!(status, 0);
@@ -87,7 +90,7 @@ fn lasting() {
             let own = WriteOptions { endianness: *order, form: forms[1] };
             assert_eq!(canonical_with_srid(&input, *order).unwrap(), canonical(&input, &own).unwrap());
         }
-        let Ok(found) = bounds(&input) else { panic!() };
+        let found = bounds(&input).ok().unwrap();
         let words: Vec<u8> = [found.x, found.y, found.z, found.m].iter().flat_map(|it| words_of(*it)).collect();
         assert_eq!(sum(&words), sums[8]);
     }
