@@ -31,6 +31,8 @@ mod wkb_sink;
 mod wkb_view;
 mod wkb_write;
 
+#[cfg(not(feature = "std"))]
+pub use rt::io;
 pub use rt::{AllocError, TryClone};
 pub use wkb::*;
 

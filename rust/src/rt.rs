@@ -177,6 +177,13 @@ pub mod io {
     pub trait Write {
         fn write(&mut self, bytes: &[u8]) -> Result<usize>;
     }
+
+    impl Write for super::Vec<u8> {
+        fn write(&mut self, bytes: &[u8]) -> Result<usize> {
+            super::TryVec::try_extend_from_slice(self, bytes)?;
+            Ok(bytes.len())
+        }
+    }
 }
 
 /// The part of the crate byteorder that the sources use.

@@ -2,11 +2,15 @@
 //! Each allocation of the calls that take memory fails in turn, and each time the answer says so.
 use porchsorrel_wkb::canon::{canonical, canonical_with_srid};
 use porchsorrel_wkb::error::{WkbError, WkbResult};
+#[cfg(not(feature = "std"))]
+use porchsorrel_wkb::io;
 use porchsorrel_wkb::reader::read_wkb;
 use porchsorrel_wkb::writer::{to_vec, write_geometry, Form, VecSink, WriteOptions};
 use porchsorrel_wkb::Endianness;
 use std::alloc::{GlobalAlloc, Layout, System};
 use std::cell::Cell;
+#[cfg(feature = "std")]
+use std::io;
 
 /// How many allocations of this thread succeed before one fails.
 struct Failing;
@@ -88,7 +92,7 @@ fn each_allocation_fails() {
         let result = write_geometry(&mut sink, &wkb, &options);
         // A sink's failure is an error of `io`, of the kind `OutOfMemory`.
         match result {
-            Err(WkbError::IOError(why)) if why.kind() == std::io::ErrorKind::OutOfMemory => {
+            Err(WkbError::IOError(why)) if why.kind() == io::ErrorKind::OutOfMemory => {
                 Err(porchsorrel_wkb::AllocError.into())
             }
             result => result,
