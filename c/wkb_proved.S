@@ -3,8 +3,7 @@
  *
  *     cc -O2 -c -I FOLDER FOLDER/wkb.c FOLDER/wkb_proved.S
  *
- * For macOS, sed -E -f proved/macho.sed proved/aarch64.s >proved/aarch64-macos.s goes before. The same instructions may be
- * wrong on a system that isn't listed here, and nothing would say so. */
+ * The same instructions may be wrong on a system that isn't listed here, and nothing would say so. */
 #if defined __x86_64__ && defined __LP64__ && (defined __linux__ || defined __FreeBSD__)
 .include "proved/x86_64.s"
 #elif defined __AARCH64EL__ && defined __LP64__ && (defined __linux__ || defined __FreeBSD__)
