@@ -39,13 +39,7 @@ class Sbom(unittest.TestCase):
             found = {sum_["algorithm"]: sum_["checksumValue"] for sum_ in it["checksums"]}
             self.assertEqual(found["SHA256"], hashlib.sha256(content).hexdigest(), it["fileName"])
 
-    def test_what_contains_the_assembly_has_its_licence(self):
-        stated = re.search(r"(?m)^Files: c/proved/\*\.s$(?s:.*?)^License: (.*)$", text_of(REUSE))[1]
-        packages = {it["SPDXID"]: it for it in self.sbom["packages"]}
-        library = packages["SPDXRef-porchsorrel-wkb-c"]
-        self.assertEqual(library["licenseDeclared"], stated)
-        holders = [it["spdxElementId"] for it in self.sbom["relationships"] if it["relationshipType"] == "CONTAINS"
-                   and it["relatedSpdxElement"] == library["SPDXID"]]
-        self.assertEqual([packages[it]["licenseDeclared"] for it in holders], 3 * [stated])
-        named = {it["licenseId"] for it in self.sbom["hasExtractedLicensingInfos"]}
-        self.assertEqual({*re.findall(r"LicenseRef-[\w-]+", stated)}, named)
+    def test_each_package_has_the_licence(self):
+        stated, = {*re.findall(r"(?m)^License: (.*)$", text_of(REUSE))}
+        ours = [it for it in self.sbom["packages"] if it["name"].startswith("porchsorrel-")]
+        self.assertEqual([it["licenseDeclared"] for it in ours], 6 * [stated])

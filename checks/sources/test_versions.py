@@ -32,8 +32,8 @@ NAMED = [
     ("postgres/expected", r"(?m)^([\d.]+)\|23$"),
     *((page, RELEASED) for page in pages.PAGES if re.search(RELEASED, pages.text_of(page))),
 ]
-# The packages, which name the licence that .reuse/dep5 has for what they hold: the files there, and how they say it.
-LICENSED = {"Cargo.toml": "*", "python/pyproject.toml": "c/proved/*.s", "rust/geo/Cargo.toml": "*"}
+# The packages, which name the licence that .reuse/dep5 has for all files, and how they say it.
+LICENSED = "Cargo.toml python/pyproject.toml rust/geo/Cargo.toml".split()
 LICENSE = r'(?m)^license = .*"(.*)"'
 # What users see first of a package, which claims this and nothing more.
 CLAIM = "compiled from formally verified sources"
@@ -41,6 +41,7 @@ FACES = """
     CITATION.cff Cargo.toml c/package/package.md c/package/wkb.pc.in postgres/wkb.control python/README.md
     python/pyproject.toml python/src/porchsorrel_wkb/__init__.py rust/README.md rust/geo/Cargo.toml rust/geo/README.md
     """.split()
+# The page that names the oldest Rust of Cargo.toml.
 RUST = "README.md", r"Debian[^.]*.*\bRust ([\d.]*\d)"
 
 
@@ -75,12 +76,12 @@ class Versions(unittest.TestCase):
                     self.assertEqual({*re.findall(pattern, there[path].decode())}, {"1.10.0"}, path)
 
     def test_the_packages_have_the_licences(self):
-        stated = dict(re.findall(r"(?m)^Files: (.*)$(?s:.*?)^License: (.*)$", pages.text_of(".reuse/dep5")))
-        for path, held in LICENSED.items():
+        stated, = {*re.findall(r"(?m)^License: (.*)$", pages.text_of(".reuse/dep5"))}
+        for path in LICENSED:
             with self.subTest(path=path):
-                self.assertEqual(re.findall(LICENSE, pages.text_of(path)), [stated[held]])
+                self.assertEqual(re.findall(LICENSE, pages.text_of(path)), [stated])
         listed = re.search(r"(?m)^license:\n((?:  - .*\n)+)", pages.text_of("CITATION.cff"))[1]
-        self.assertEqual(" OR ".join(re.findall("- (.*)", listed)), stated["*"])
+        self.assertEqual(" OR ".join(re.findall("- (.*)", listed)), stated)
 
     def test_the_faces_claim_one_thing(self):
         for path in FACES:
