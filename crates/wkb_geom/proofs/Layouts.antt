@@ -1,5 +1,5 @@
 -- The layout of a member that is known to stand at the start of the bytes, by its first byte and the flag of its code.
-use Rattle.std.proofs.Common.{◌≡◌, ℕ, ◌≤◌, List, [], ◌∷◌, length, drop, Option, Some, None, Bool, true, false, refl}
+use Rattle.std.proofs.Common.{◌≡◌, ℕ, ◌≤◌, List, length, drop, Option, Some, None, Bool, true, false}
 use Rattle.std.proofs.Common.{sym, ap, ◌∙◌, arith, length-drop, Result, Ok, Err}
 use Rattle.std.specs.Prelude.{IsOk, nat_lt, ◌==◌, ◌&&◌, if◌then◌else◌, slice_index_or, not}
 use Rattle.std.proofs.lemmas.Bool.{ltb-false}
@@ -40,8 +40,7 @@ wanted : (k : ℕ) (d : Dimension) (h : Head) → IsOk (layout_wanted k d (Ok h)
 wanted k d h is = grind arith
 
 flag_of : (t : Bool) (m n : Meaning) → (if t then Some m else None) ≡ Some n → n.has_srid ≡ m.has_srid
-flag_of true m n e = let same : m ≡ n = cc in ap (λ (x : Meaning). x.has_srid) (sym same)
-flag_of false m n e = absurd cc
+flag_of t m n e = grind arith
 
 -- a meaning has the flag of its code
 flag_meant : (c : ℕ) (m : Meaning) → meaning_of c ≡ Some m → m.has_srid ≡ has_srid_flag c
@@ -68,14 +67,12 @@ by_length k d order behind short e h = grind (arith, ltb-false, by_code)
 by_order : (k : ℕ) (d : Dimension) (first : Option Endianness) (behind : List ℕ)
     → IsOk (layout_wanted k d (head_by_order first behind))
     → Known k d first behind (layout_wanted k d (head_by_order first behind))
-by_order k d None behind h = absurd cc
-by_order k d (Some order) behind h = by_length k d order behind (nat_lt (length behind) 4) refl h
+by_order k d first behind h = grind (arith, by_length)
 
 known : (k : ℕ) (d : Dimension) (bytes : List ℕ) → IsOk (member_layout k d bytes)
     → Known k d (order_of_byte (slice_index_or bytes 0 0)) (drop 1 bytes) (member_layout k d bytes)
 unfolding head_at
-known k d [] h = absurd cc
-known k d (b ∷ behind) h = by_order k d (order_of_byte b) behind h
+known k d bytes h = grind (arith, by_order)
 
 module _ (k : ℕ) (d : Dimension) (bytes : List ℕ) (is : IsOk (member_layout k d bytes)) where
   pub known_whole : 5 ≤ length bytes

@@ -1,5 +1,5 @@
 -- What codes stand for: the number is taken apart flag by flag, and what is read is the one meaning.
-use Rattle.std.proofs.Common.{◌≡◌, ◌⊎◌, ℕ, suc, ◌+◌, ◌-◌, ◌*◌, ◌/◌, ◌%◌, ◌<◌, ◌≤◌, Option, Some, None, Bool, true}
+use Rattle.std.proofs.Common.{◌≡◌, ◌⊎◌, ℕ, ◌+◌, ◌-◌, ◌*◌, ◌/◌, ◌%◌, ◌<◌, ◌≤◌, Option, Some, None, Bool, true}
 use Rattle.std.proofs.Common.{false, refl, sym, ap, ◌∙◌, subst, arith, inl, inr}
 use Rattle.std.specs.Cmp.{first_so, second_so}
 use Rattle.std.specs.Prelude.{nat_le, nat_lt, ◌&&◌, ◌||◌, if◌then◌else◌}
@@ -19,8 +19,7 @@ abbrev IsIso : ℕ → Dimension → ℕ → Type 0
 IsIso n d k = (1 ≤ k) × (k ≤ 7) × (n ≡ 1000 * thousands d + k)
 
 set_or_below : (b : Bool) (rest worth : ℕ) → (b ≡ false → rest < worth) → (bit b ≡ 1) ⊎ (rest < worth)
-set_or_below true rest worth h = inl refl
-set_or_below false rest worth h = inr (h refl)
+set_or_below b rest worth h = grind arith
 
 -- what is left once the flags are taken is what a code has below its flags
 below_flags : (c z m s z' m' s' a b n rest : ℕ) → c ≡ z * 0x80000000 + a → (z ≡ 1) ⊎ (a < 0x80000000)
@@ -54,8 +53,7 @@ no_meaning c z m s a b n ea la eb lb en ln none k d srid code =
 
 if_holds : {A : Type 0} (Q : A → Type 0) (b : Bool) (x y : A) → (b ≡ true → Q x) → (b ≡ false → Q y)
     → Q (if b then x else y)
-if_holds Q true x y f g = f refl
-if_holds Q false x y f g = g refl
+if_holds Q b x y f g = grind arith
 
 pub type_kind-type_of : (k : ℕ) (d : Dimension) → 1 ≤ k → k ≤ 7
     → (type_kind (type_of k d) ≡ k) × (type_dimension (type_of k d) ≡ d)
@@ -77,8 +75,7 @@ has_m-with : (z m : Bool) → has_m (dimension_with z m) ≡ m
 has_m-with z m = grind arith
 
 thousands-iso : (q : ℕ) → q < 4 → thousands (iso_dimension q) ≡ q
-thousands-iso (suc (suc (suc (suc q)))) h = absurd (omega arith)
-thousands-iso _ h = refl
+thousands-iso q h = grind arith
 
 all_true : (a b c : Bool) → a ≡ true → b ≡ true → c ≡ true → (a && (b && c)) ≡ true
 all_true a b c e f g = rw (e, f, g) refl
