@@ -4,4 +4,3 @@ mod ThereAndBackRows
 mod ThereAndBackEncodings
 mod ThereAndBack
 mod ThereAndBackColumns
-mod ThereAndBackExample

@@ -1,5 +1,5 @@
 -- What the two calls say of each other: a column's rows are written as levels, these are given on, and the rows come
--- back from them. `proofs/ThereAndBackExample` has a column that is given on so.
+-- back from them.
 use Rattle.std.specs.Prelude.{◌≡◌, ℕ, ◌*◌, ◌^◌, ◌<◌, ◌≤◌, List, [], ◌∷◌, length, take, map, Option, Some, None, true}
 use Rattle.std.specs.Prelude.{slice_index}
 use Rattle.wkb_geom.specs.declared.common.Dimension.{Dimension}
