@@ -66,18 +66,18 @@ mutual
 
 -- ---- the words of coordinates, taken apart again
 
-counted : (dims : Dimensions) (cs : List Coordinate) → AreCoordinates dims cs
+word_count : (dims : Dimensions) (cs : List Coordinate) → AreCoordinates dims cs
     → length (words_of cs) ≡ length cs * size dims
-counted dims [] fit = sym (zero-mul (size dims))
-counted dims (c ∷ cs) fit =
-    omega (arith, length-append c (words_of cs), fit.0.len, counted dims cs fit.1, suc-mul (length cs) (size dims))
+word_count dims [] fit = sym (zero-mul (size dims))
+word_count dims (c ∷ cs) fit =
+    omega (arith, length-append c (words_of cs), fit.0.len, word_count dims cs fit.1, suc-mul (length cs) (size dims))
 
 -- The words of coordinates are those of whole coordinates, as `LineString::new` asks for them.
 pub words_are_whole : (d : Dimension) (cs : List Coordinate) → AreCoordinates (as_dimensions d) cs
     → (0 < size (as_dimensions d)) × (length (words_of cs) % size (as_dimensions d) ≡ 0)
 words_are_whole d cs fit =
     let n = size (as_dimensions d) in
-    (omega (arith, has_two d), rw (counted (as_dimensions d) cs fit) (mul-mod_left (length cs) n))
+    (omega (arith, has_two d), rw (word_count (as_dimensions d) cs fit) (mul-mod_left (length cs) n))
 
 runs_of_words : (dims : Dimensions) (cs : List Coordinate) → AreCoordinates dims cs
     → runs (size dims) (length cs) (words_of cs) ≡ cs
@@ -91,7 +91,7 @@ pub coordinates_again : (d : Dimension) (cs : List Coordinate) → AreCoordinate
     → coordinates_in (as_dimensions d) (words_of cs) ≡ cs
 coordinates_again d cs fit =
     let some : 0 < size (as_dimensions d) = omega (arith, has_two d) in
-    rw (counted (as_dimensions d) cs fit, mul-div_cancel (length cs) some) (runs_of_words (as_dimensions d) cs fit)
+    rw (word_count (as_dimensions d) cs fit, mul-div_cancel (length cs) some) (runs_of_words (as_dimensions d) cs fit)
 
 -- ---- points that can be written
 

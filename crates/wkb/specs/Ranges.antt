@@ -12,6 +12,7 @@ use Rattle.wkb.specs.Checks.{axis_place, words_in, words_on, Bounds, AreBounds, 
 use Rattle.wkb.specs.Lawful.{x_is_there, y_is_there}
 use Rattle.wkb.specs.Reads.{list_of_values, Coord, words_seen}
 use Rattle.wkb_bounds.specs.Ordinates.{words_of_each, word_at, words_on_each}
+use Rattle.wkb_bounds.proofs.Widening.{widened-append}
 pub use Rattle.wkb.specs.Terms.{IsWithin, BringsWithin, WidenedBefore}
 
 -- ---- a range that is widened by a word
@@ -49,10 +50,6 @@ pub stays_within : (r : Range) (ws : List ℕ) (x : ℕ) → IsWithin r x → Is
 stays_within r [] x h = h
 stays_within r (w ∷ ws) x h = stays_within (with_word r w) ws x (kept_by r w x (is_nan w) h)
 
-widened_by_both : (r : Range) (xs ys : List ℕ) → widened r (xs ++ ys) ≡ widened (widened r xs) ys
-widened_by_both r [] ys = refl
-widened_by_both r (x ∷ xs) ys = widened_by_both (with_word r x) xs ys
-
 -- ---- the words that bring a number within
 
 -- A number that words bring within any range is within the range of these words.
@@ -70,10 +67,10 @@ number_within (w ∷ ws) (suc i) x at number r = number_within ws i x at number 
 
 before_others : (ws more : List ℕ) (x : ℕ) → BringsWithin ws x → BringsWithin (ws ++ more) x
 before_others ws more x h r =
-    subst (λ q. IsWithin q x) (sym (widened_by_both r ws more)) (stays_within (widened r ws) more x (h r))
+    subst (λ q. IsWithin q x) (sym (widened-append r ws more)) (stays_within (widened r ws) more x (h r))
 
 after_others : (before ws : List ℕ) (x : ℕ) → BringsWithin ws x → BringsWithin (before ++ ws) x
-after_others before ws x h r = subst (λ q. IsWithin q x) (sym (widened_by_both r before ws)) (h (widened r before))
+after_others before ws x h r = subst (λ q. IsWithin q x) (sym (widened-append r before ws)) (h (widened r before))
 
 -- What the words of one item of a list bring within, the words of all its items do, as of a polygon's rings.
 pub item_within : {A : Type 0} (f : A → List ℕ) (items : List A) (i : ℕ) (a : A) (x : ℕ) → slice_get items i ≡ Some a

@@ -24,7 +24,7 @@ use Rattle.wkb_command.specs.Calls.{IsHex, OfHex, OfTwoHexes, IsCost, AreCompare
 use Rattle.wkb_command.specs.Program.{Spells, one, two, IsOneLine, TellsError, counts, hex_line}
 use Rattle.wkb_command.specs.Program.{Says, rewritten, rewritten_with_srid, same, different, accepted, counted_refusal}
 use Rattle.wkb_command.specs.Program.{srid, no_srid, refused, second_refused, Replies, said}
-use Rattle.wkb_command.specs.Reports.{IsReport, IsReportOn, IsFailureOn, IsCut}
+use Rattle.wkb_command.specs.Reports.{IsReport, IsReportOn, IsFailureOn, HasLines}
 use Rattle.wkb_command.proofs.Spelled.{IsHex-from}
 
 -- the line for an error other than the end of the input
@@ -64,7 +64,7 @@ says_pair : (a b line : List ℕ) (e : WkbError) → IsPairRefusal a b e → Tel
 says_pair a b line e (inl h) tells = refused (λ is. cc) h tells
 says_pair a b line e (inr h) tells = second_refused h.0 h.1 tells
 
-pub fails_two : (text first second : List ℕ) (failure : HexFault) → IsCut text first second
+pub fails_two : (text first second : List ℕ) (failure : HexFault) → HasLines text first second
     → FailsOnTwo first second IsPairRefusal failure → IsFailureOn Same text failure
 fails_two text first second NotHex cut h = λ inputs spelled. h (cut.spelled inputs spelled)
 fails_two text first second (Wkb e) cut h =
@@ -82,14 +82,14 @@ pub says_rewritten_with_srid : (order : Endianness) (text items : List ℕ)
     → Replies (RewriteWithSrid order) text (hex_line items) 0
 says_rewritten_with_srid order text items h = said (one (λ is. cc) h.1) (rewritten_with_srid h.2)
 
-pub says_same : (text first second : List ℕ) (equal : Bool) (r : Result Report AllocError) → IsCut text first second
+pub says_same : (text first second : List ℕ) (equal : Bool) (r : Result Report AllocError) → HasLines text first second
     → IfOk r (IsReport (codes "same\n") 0) → equal ≡ true → OfTwoHexes first second (AreCompared equal)
     → IfOk r (IsReportOn Same text)
 says_same text first second equal r cut new is h =
     reports_line Same text _ 0 r new (rw cut.whole (said (two h.1 h.2.1) (same (rw is at h.2.2))))
 
 pub says_different : (text first second : List ℕ) (equal : Bool) (r : Result Report AllocError)
-    → IsCut text first second → IfOk r (IsReport (codes "different\n") 0) → equal ≡ false
+    → HasLines text first second → IfOk r (IsReport (codes "different\n") 0) → equal ≡ false
     → OfTwoHexes first second (AreCompared equal) → IfOk r (IsReportOn Same text)
 says_different text first second equal r cut new is h =
     reports_line Same text _ 0 r new (rw cut.whole (said (two h.1 h.2.1) (different (rw is at h.2.2))))

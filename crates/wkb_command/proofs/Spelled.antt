@@ -17,7 +17,7 @@ use Rattle.wkb_command.specs.Calls.{IsHex, IsHexOf}
 use Rattle.wkb_command.specs.declared.program.Command.{Command}
 use Rattle.wkb_command.specs.declared.program.Command.TheVariants.{Same}
 use Rattle.wkb_command.specs.Program.{Spells, one, two, line_feed, IsOneLine}
-use Rattle.wkb_command.specs.Reports.{IsCut}
+use Rattle.wkb_command.specs.Reports.{HasLines}
 
 -- ---- hex
 
@@ -82,7 +82,7 @@ spelled_around text x cases inputs (two {first} {second} hex more) =
 
 module _ (text : List ℕ) (r : Option (Bor (List ℕ) × Bor (List ℕ))) (x : Bor (List ℕ) × Bor (List ℕ))
     (cases : IsSplitOnceResult 10 text r) (is : r ≡ Some x) where
-  pub cut_of : IsCut text x.0.now x.1.now
+  pub cut_of : HasLines text x.0.now x.1.now
   cut_of =
       let at_some = rw is at cases in record {
         whole = (split_parts 10 text (Some x) at_some (lit< tt)).0;

@@ -32,14 +32,14 @@ IsFailureOn command text (Wkb e) = (line : List ℕ) → TellsError e line → R
 IsFailureOn command text Memory = Unit {0}
 
 -- a text is these lines, and what it spells for `same` is their hex
-pub record IsCut (text first second : List ℕ) : Type 0 where
+pub record HasLines (text first second : List ℕ) : Type 0 where
   pub whole : text ≡ first ++ line_feed ∷ second
   pub spelled : (inputs : List (List ℕ)) → Spells Same text inputs → IsHex first × IsHex second
 
 -- the two lines of a text, or None if it spells nothing for `same`
 abbrev pub AreTwoLines : List ℕ → Option (Bor (List ℕ) × Bor (List ℕ)) → Type 0
 AreTwoLines text result =
-    MatchOption result ((inputs : List (List ℕ)) → ¬ Spells Same text inputs) (λ x. IsCut text x.0.now x.1.now)
+    MatchOption result ((inputs : List (List ℕ)) → ¬ Spells Same text inputs) (λ x. HasLines text x.0.now x.1.now)
 
 -- the line and the status of a report, if there was memory for one
 abbrev pub IsLineOf : Result Report AllocError → List ℕ → ℕ → Type 0
