@@ -19,11 +19,11 @@ from pages import PAGES, ROOT, cells, rows_of, spans, text_of, texts
 
 PROMISES = "docs/PROMISES.md"
 README = "README.md"
-# What stands in the place of a clause's name where a function has one clause, without a name.
-UNNAMED = "its only clause"
+# What stands in the place of a clause's name where a function has one clause, without a name, and of a lemma.
+UNNAMED, LEMMA = "its only clause", "the lemma"
 NAMED = r"`[\w:<>]+`"
-# A law of std, which PROMISES names beside our clauses.
-STD = {"respects_eq"}
+# A law of std and our lemmas, which PROMISES names beside our clauses.
+LEMMAS = {"respects_eq", *re.findall(r"(\w+)[,}]", text_of("crates/wkb/specs/Known.antt"))}
 
 
 def said_of(part):
@@ -53,7 +53,7 @@ def lost_in_row(clauses, crates, first, last, above):
         owners = [it for it in named if clauses.is_name(it)] if named is not None else about or above
         own = set().union(*map(clauses.of, owners)) if owners else clauses.within(crates)
         for label in labels:
-            if label not in own | STD and not (named is None and clauses.is_name(label)):
+            if label not in own | LEMMAS and not (named is None and clauses.is_name(label)):
                 yield owners, label
 
 
@@ -152,7 +152,8 @@ def lost_statements(clauses, statements, given):
             yield f"{PROMISES}: README doesn't say `{statement}`"
         labels = set(spans(cell))
         has_labels = bool(labels) and labels <= clauses.labels[crate].get(name, set())
-        if not ((crate, name) in clauses.unnamed if cell == UNNAMED else has_labels):
+        is_named = name in LEMMAS if cell == LEMMA else cell == UNNAMED and (crate, name) in clauses.unnamed
+        if not (has_labels or is_named):
             yield f"{PROMISES}: `{name}` of {crate} has no such clause: {cell or 'none is named'}"
 
 

@@ -1,8 +1,8 @@
 """Each lemma is cited.
 
 A lemma is a definition of a file of proofs/, except the files of functions' proofs, whose names the prover reads.
-Another definition, a contract or an attribute of the code has to name it. The worked values, whose names begin with
-`worked_`, are cited by nothing on purpose: their proof is the test.
+Another definition, a contract, an attribute of the code or `Known`, which passes lemmas on to users, has to name it.
+The worked values, whose names begin with `worked_`, are cited by nothing on purpose: their proof is the test.
 """
 import collections
 import pathlib
@@ -11,6 +11,7 @@ import re
 from checks import judge
 from pages import texts
 
+KNOWN = "crates/wkb/specs/Known.antt"
 OF_FUNCTIONS = {"Answers.antt", "Invariants.antt", "Proof.antt", "Lib.antt"}
 DEFINITION = re.compile(r"(?:pub )?(?:unfoldable |abbrev |record |data )?([^\s:(){}.|]+)(?: \(.*\))* :(?: |$)")
 NAME = re.compile(r"[^\s(){}\[\],;]+")
@@ -33,7 +34,7 @@ def blocks_of(path, text):
     """[line, name, words] of each definition of a file; without a name of what stands between them, or of code."""
     suffix = pathlib.PurePath(path).suffix
     bare = COMMENT[suffix].sub("", text)
-    if suffix == ".rt":
+    if suffix == ".rt" or path == KNOWN:
         return [[0, None, words_of(bare)]]
     blocks = [[1, None, set()]]
     for number, line in enumerate(IMPORT.sub(lambda it: "\n" * it[0].count("\n"), bare).splitlines(), 1):

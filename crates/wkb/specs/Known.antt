@@ -1,5 +1,5 @@
--- Lemmas: the laws of `wkb::laws` that speak of all inputs, to be cited: a call isn't needed. Each has the name of its
--- statement in `Laws`, in small letters: `has_one_front` is `HasOneFront`.
+-- The lemmas that speak of all inputs, to be cited. Each has the name of its statement in `Laws`, in small letters:
+-- `has_one_front` is `HasOneFront`.
 pub use Rattle.wkb_laws.proofs.OneFront.{one_front_lem as has_one_front}
 pub use Rattle.wkb_laws.proofs.Rewritings.{rest_is_free_lem as rest_is_free, bytes_are_read_lem as bytes_are_read}
 pub use Rattle.wkb_laws.proofs.Rewritings.{encoding_spells_lem as encoding_spells}

@@ -1,4 +1,4 @@
--- The lemmas of `wkb::laws`, and the records that they name.
+-- The statements of the lemmas of `Known`, and the records that they name.
 use Rattle.std.specs.Prelude.{◌≡◌, ℕ, ◌≤◌, false, from_bits}
 use Rattle.std.specs.Float.{binary64, ◌≤ᶠ◌}
 use Rattle.wkb_geom.specs.Numbers.{IsWord, is_nan}

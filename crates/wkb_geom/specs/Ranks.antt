@@ -1,5 +1,5 @@
 -- The order of numbers on their words (IEEE 754, section 5.10). A number is at most another as a double wherever its
--- rank is at most the other's (`ranks_in_order` of `wkb::laws`). Minus zero is below zero, which as doubles are equal.
+-- rank is at most the other's (the lemma `ranks_in_order`). Minus zero is below zero, which as doubles are equal.
 use Rattle.std.specs.Prelude.{ℕ, ◌+◌, ◌-◌, ◌^◌, nat_lt, if◌then◌else◌}
 
 -- The rank of a word in the order of numbers: negative numbers come first, those of greater size before others, so that

@@ -1,5 +1,0 @@
-use Rattle.wkb_laws.proofs.Rewritings.{equal_encodings_with_own_srid_lem}
-use Rattle.wkb_laws.proofs.equal_encodings_with_own_srid.Goals as goal
-
-pub returns : goal.returns
-returns c = equal_encodings_with_own_srid_lem
