@@ -1,5 +1,5 @@
 -- Encodings that are appended to a sink one after another.
-use Rattle.wkb_sink.proofs.Prelude.{◌≡◌, ℕ, ◌≤◌, List, ◌++◌, length, take, drop, Option, sym, ap, ◌∙◌, append_assoc}
+use Rattle.wkb_sink.proofs.Prelude.{◌≡◌, ℕ, ◌≤◌, List, ◌++◌, length, take, drop, Option, append_assoc}
 use Rattle.wkb_sink.proofs.Prelude.{arith, length-drop, take_all, take-append-drop, ◌-◌, Appends, IsWritten}
 use Rattle.std.proofs.KnownBytes.{Appends-trans, Appends-nil}
 
@@ -12,8 +12,4 @@ written_more t p q = record { appended = Appends-trans _ _ _ _ _ p.appended q }
 -- the part that was taken, and what is left
 pub taken : (all front rest : List ℕ) (n : ℕ) → all ≡ front ++ rest → n ≤ length rest
     → all ≡ (front ++ take n rest) ++ take (length rest - n) (drop n rest)
-taken all front rest n is h =
-    is ∙ ap (λ l. front ++ l) (sym (take-append-drop n rest))
-    ∙ sym (append_assoc front (take n rest) (drop n rest))
-    ∙ ap (λ l. (front ++ take n rest) ++ l)
-    (sym (take_all (length rest - n) (drop n rest) (omega (arith, length-drop n rest))))
+taken all front rest n is h = grind (arith, take-append-drop, append_assoc, take_all, length-drop)

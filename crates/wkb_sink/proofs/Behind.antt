@@ -1,14 +1,11 @@
 -- Encodings that follow one another in a block.
-use Rattle.wkb_sink.proofs.Prelude.{ℕ, List, [], ◌++◌, sym, ap, ◌∙◌, append_assoc, append-nil, ◌≡◌, ◌+◌, refl}
+use Rattle.wkb_sink.proofs.Prelude.{ℕ, List, [], ◌++◌, sym, append_assoc, append-nil, ◌≡◌, ◌+◌, refl}
 use Rattle.wkb_sink.proofs.Prelude.{arith, length-append, subst, take}
 use Rattle.wkb_sink.proofs.Prelude.{replicate, replicate_more, flat_map-append, Endianness, number_bytes}
 use Rattle.wkb_sink.proofs.Prelude.{words_encoding, LaysAt}
 
 pub behind : {a b c : ℕ} {x y z s t : List ℕ} → LaysAt a b x y s → LaysAt b c y z t → LaysAt a c x z (s ++ t)
-behind {a = a} {x = x} {s = s} {t = t} p q = record {
-  ends = omega (arith, p.ends, q.ends, length-append s t);
-  is = q.is ∙ ap (λ l. l ++ t) p.is ∙ append_assoc (take a x) s t;
-}
+behind {a = a} {x = x} {s = s} {t = t} p q = grind (arith, length-append, append_assoc)
 
 pub last : {b c : ℕ} {y z t : List ℕ} → LaysAt b c y z t → LaysAt b c y z (t ++ [])
 last {b = b} {c = c} {y = y} {z = z} {t = t} p = subst (LaysAt b c y z) (sym (append-nil t)) p

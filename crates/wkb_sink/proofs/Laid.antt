@@ -1,4 +1,5 @@
 -- Encodings that are laid one after another.
+use Rattle.std.proofs.Common.{rules}
 use Rattle.wkb_sink.proofs.Prelude.{◌≡◌, ℕ, ◌+◌, ◌≤◌, ◌<◌, List, [], ◌++◌, Option, refl, sym, ap, ◌∙◌, subst, length}
 use Rattle.wkb_sink.proofs.Prelude.{append_assoc, append-nil, arith, length-append, Bool, true, false, Result, Ok, Err}
 use Rattle.wkb_sink.proofs.Prelude.{Appends, Stopped, LaysAt, Waiting, block_size, Progress, IsReady, IsLaid, IsShort}
@@ -9,27 +10,16 @@ use Rattle.std.specs.Prelude.{IsErrAnd, IfOk, MatchResult}
 use Rattle.std.proofs.lemmas.Result.{err_from_is_err_and}
 use Rattle.wkb_sink.specs.declared.buffered.Buffered.{Buffered}
 use Rattle.wkb_sink.specs.declared.sink.Sink.{Ghosts}
-use Rattle.std.proofs.KnownBytes.{Appends-trans, Appends-nil}
+use Rattle.std.proofs.KnownBytes.{Appends-trans}
 
 -- nothing is to be done
 pub laid_none : (a : Progress) (n : ℕ) → a.failed ≡ false → IsReady a a n
-laid_none a n works = record {
-  same = refl;
-  slice = refl;
-  size = refl;
-  works = works;
-  moved = [];
-  whole = append-nil a.block.waiting;
-  appended = Appends-nil a.appended;
-  kept = λ fits. refl;
-}
+laid_none a n works = grind (arith, append-nil)
 
 -- the room that is left by what fitted
 room_left : {a b : Progress} {s : List ℕ} {n : ℕ} → Moves a b s n → n ≤ a.block.room
     → b.block.room + length s ≡ a.block.room
-room_left {a = a} {b = b} {s = s} p fits =
-    let long = ap length (p.whole ∙ ap (λ l. l ++ b.block.waiting) (p.kept fits)) in
-    omega (arith, long, length-append a.block.waiting s, p.size)
+room_left {a = a} {b = b} {s = s} p fits = grind (arith, length-append)
 
 -- a step after another one
 moves_then : {a b c : Progress} {s t : List ℕ} {n m k : ℕ} → Moves a b s n → Moves b c t m
@@ -49,9 +39,7 @@ moves_then {a = a} {b = b} {c = c} {s = s} {t = t} p q first both = record {
 }
 
 pub laid_then : {a b c : Progress} {s t : List ℕ} → IsLaid a b s → IsLaid b c t → IsLaid a c (s ++ t)
-laid_then {s = s} {t = t} p q =
-    let long = length-append s t in
-    moves_then p q (λ fits. omega (arith, long, fits)) (λ fits. omega (arith, long, fits))
+laid_then {s = s} {t = t} p q = grind (arith, length-append, moves_then)
 
 -- what the encoding begins with was cut
 broken_first : {a b : Progress} {s : List ℕ} (t : List ℕ) → IsBroken a b s → IsBroken a b (s ++ t)
@@ -124,19 +112,7 @@ module _ {k : ℕ} {o : Option (List ℕ)} {failed : Bool} {cause : Type 0} {sli
   pub laid_now : failed ≡ false → LaysAt place end old new t → length new ≡ length old → end ≤ length old
       → IsLaid (stage k o failed cause (waiting_to slice old place))
       (stage k o failed cause (waiting_to slice new end)) t
-  laid_now works is same within = record {
-    same = refl;
-    slice = refl;
-    size =
-        let front = length-take-le place old (omega (arith, is.ends, within)) in
-        let whole = length-take-le end new (omega (arith, same, within)) in
-        omega (arith, front, whole, is.ends, within, same);
-    works = works;
-    moved = [];
-    whole = sym is.is;
-    appended = Appends-nil o;
-    kept = λ fits. refl;
-  }
+  laid_now works is same within = search (rules, length-take-le)
 
   -- or once there was room for its first n bytes
   pub laid_here : {a : Progress} {n : ℕ} → IsReady a (stage k o failed cause (waiting_to slice old place)) n
@@ -150,43 +126,21 @@ module _ {n : ℕ} {a b : Option (List ℕ)} {s f : Bool} {k m : Type 0} {w v : 
   -- bytes of what waited and of the encoding were put, and the others wait
   alone : (t : List ℕ) → IsWritten a b bytes → f ≡ false → v.slice ≡ w.slice → block_size v ≡ block_size w
       → w.waiting ++ t ≡ bytes ++ v.waiting → Moves (stage n a s k w) (stage n b f m v) t (w.room + 1)
-  alone t p works same size is = record {
-    same = refl;
-    slice = same;
-    size = size;
-    works = works;
-    moved = bytes;
-    whole = is;
-    appended = p.appended;
-    kept = λ fits. absurd (omega (arith, fits));
-  }
+  alone t p works same size is = grind arith
 
   -- all that waited was put
   pub flushed : IsWritten a b bytes → f ≡ false → bytes ≡ w.waiting → v.slice ≡ w.slice → v.waiting ≡ []
       → v.room ≡ length w.waiting + w.room → IsReady (stage n a s k w) (stage n b f m v) (w.room + 1)
-  flushed p works is same empty room =
-      let none = ap length empty in alone [] p works same (omega (arith, none, room)) (rw (is, empty) refl)
+  flushed p works is same empty room = grind arith
 
   -- what waited and the encoding were not put as a whole
   broken : (t : List ℕ) → IsBegun a b bytes → f ≡ true → m → w.waiting ++ t ≡ bytes
       → IsBroken (stage n a s k w) (stage n b f m v) t
-  broken t p stopped cause is = record {
-    same = refl;
-    stopped = stopped;
-    cause = cause;
-    front = p.front;
-    rest = p.rest;
-    whole = is ∙ p.whole;
-    left = p.left;
-    appended = p.appended;
-  }
+  broken t p stopped cause is = grind arith
 
   pub flush_cut : IsBegun a b bytes → f ≡ true → m → bytes ≡ w.waiting
       → IsShort (stage n a s k w) (stage n b f m v) (w.room + 1)
-  flush_cut p stopped cause is = record {
-    full = omega arith;
-    broken = λ large. broken [] p stopped cause (append-nil w.waiting ∙ sym is);
-  }
+  flush_cut p stopped cause is = grind (arith, broken, append-nil)
 
 -- bytes that were put past a block in which nothing waits
 module _ {old : Progress} {i n : ℕ} {a b : Option (List ℕ)} {s f : Bool} {k m : Type 0} {w : Waiting} {bytes : List ℕ}
@@ -205,23 +159,18 @@ module _ {old : Progress} {i n : ℕ} {a b : Option (List ℕ)} {s f : Bool} {k 
 
 -- after a flush there is room for n bytes, for which there was none
 pub ready_now : {a b : Progress} {m : ℕ} (n : ℕ) → IsReady a b m → a.block.room < n → IsReady a b n
-ready_now n p short =
-    moves_then p (laid_none _ 0 p.works) (λ fits. omega (arith, fits, short)) (λ fits. omega (arith, fits, short))
+ready_now n p short = grind arith
 
 -- or the sink failed
 pub short_now : {a b : Progress} {m : ℕ} (n : ℕ) (e : Stopped) (r : Result (Unit {0}) Stopped)
     → IsErrAnd r (λ y. y ≡ e) → IsShort a b m → a.block.room < n
     → MatchResult r (λ _. IsReady a b n) (λ _. IsShort a b n)
-short_now n e r is p short =
-    rw (err_from_is_err_and r is).1 (record { full = short; broken = p.broken })
+short_now n e r is p short = grind arith
 
 -- or the block is too small
 pub short_block : {a b : Progress} {m : ℕ} (n : ℕ) → IsReady a b m → b.block.waiting ≡ [] → a.block.room < n
     → b.block.room < n → n ≤ MIN_BLOCK → IsShort a b n
-short_block n p empty short left fits = record {
-  full = short;
-  broken = λ large. let none = ap length empty in absurd (omega (arith, none, p.size, left, fits, large));
-}
+short_block n p empty short left fits = grind arith
 
 -- the whole of an encoding was appended, or the sink failed
 abbrev pub Ends : Progress → Progress → List ℕ → Result (Unit {0}) Stopped → Type 0
@@ -255,34 +204,23 @@ pub ends_laid : {S : Type 0} (sink : Ghosts S) (t : List ℕ) (a : Progress) (b 
     (r : Result (Unit {0}) Stopped) → r ≡ Ok u → Ends a (progress sink b) t r
     → (a.sink ≡ b.sink.ghost_name → x ≡ b.sink.now)
     → IsWritten a.appended (sink.appended x) t × (sink.has_failed x ≡ false)
-ends_laid sink t a b x u (Ok v) is p known = rw (known (sym p.0)) (record { appended = p.1 }, p.2)
-ends_laid sink t a b x u (Err e) is p known = absurd cc
+ends_laid sink t a b x u r is p known = grind arith
 
 -- or where it failed
 pub ends_cut : {S : Type 0} (sink : Ghosts S) (t : List ℕ) (a : Progress) (b : Buffered S sink) (x : S) (e : Stopped)
     (r : Result (Unit {0}) Stopped) → r ≡ Err e → Ends a (progress sink b) t r → a.block.waiting ≡ []
     → (a.sink ≡ b.sink.ghost_name → x ≡ b.sink.now)
     → IsBegun a.appended (sink.appended x) t × (sink.has_failed x ≡ true) × sink.fails_by x b.error
-ends_cut sink t a b x e (Ok u) is p none known = absurd cc
-ends_cut sink t a b x e (Err f) is p none known =
-    let whole = ap (λ l. l ++ t) (sym none) ∙ p.whole in
-    rw (known (sym p.same))
-    (record { front = p.front; rest = p.rest; whole = whole; left = p.left; appended = p.appended }, p.stopped, p.cause)
+ends_cut sink t a b x e r is p none known = grind arith
 
 -- an encoding that fills the block
 fills : {a b : Progress} {t : List ℕ} → IsLaid a b t → a.block.waiting ≡ [] → a.block.room ≡ length t
     → (b.block.waiting ≡ t) × (b.block.room ≡ 0)
-fills {a = a} {b = b} {t = t} p none room =
-    let fits : length t ≤ a.block.room = omega (arith, room) in
-    let whole : t ≡ b.block.waiting =
-    ap (λ l. l ++ t) (sym none) ∙ p.whole ∙ ap (λ l. l ++ b.block.waiting) (p.kept fits) in
-    (sym whole, omega (arith, room, room_left p fits))
+fills {a = a} {b = b} {t = t} p none room = grind arith
 
 -- what a slice ends as, x, that such a block fills
 pub fills_slice : {a : Progress} {n : ℕ} {o : Option (List ℕ)} {failed : Bool} {cause : Type 0} {slice : ℕ}
     (t bytes : List ℕ) (place : ℕ) (x : List ℕ)
     → IsLaid a (stage n o failed cause (waiting_to slice bytes place)) t
     → a.block.waiting ≡ [] → a.block.room ≡ length t → (a.block.slice ≡ slice → x ≡ bytes) → x ≡ t
-fills_slice t bytes place x laid none room known =
-    let whole = fills laid none room in
-    known (sym laid.slice) ∙ sym (take_all place bytes (omega (arith, whole.1))) ∙ whole.0
+fills_slice t bytes place x laid none room known = grind (arith, fills, take_all)

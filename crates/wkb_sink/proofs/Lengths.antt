@@ -1,12 +1,11 @@
 -- The lengths of a header and of numbers.
-use Rattle.wkb_sink.proofs.Prelude.{◌≡◌, ℕ, ◌+◌, ◌≤◌, ◌++◌, length, Option, Some, None, arith, length-append, refl}
+use Rattle.wkb_sink.proofs.Prelude.{◌≡◌, ℕ, ◌+◌, ◌≤◌, ◌++◌, length, Option, arith, length-append}
 use Rattle.wkb_sink.proofs.Prelude.{Endianness, header_encoding, srid_encoding}
 use Rattle.byteorder.specs.Numbers.{length-bytes_high_first, length-bytes_low_first}
 use Rattle.std.specs.Prelude.{is_some}
 use Rattle.wkb_geom.specs.declared.common.Dimension.{Dimension}
 use Rattle.wkb_geom.specs.declared.common.Endianness.TheVariants.{BigEndian, LittleEndian}
 use Rattle.wkb_geom.specs.declared.common.Form.{Form}
-use Rattle.wkb_geom.specs.Encodings.{code_of, form_srid}
 use Rattle.wkb_geom.specs.Numbers.{number_bytes}
 use Rattle.wkb_geom.specs.Refusals.{srid_size}
 use Rattle.wkb_sink.specs.Options.{header_size}
@@ -18,29 +17,15 @@ length-number LittleEndian n w = length-bytes_low_first 0 n w
 
 length-srid : (order : Endianness) (srid : Option ℕ) → length (srid_encoding order srid) ≡ srid_size (is_some srid)
 unfolding srid_encoding
-length-srid order None = refl
-length-srid order (Some n) = length-number order 4 n
+length-srid order srid = grind (arith, length-number)
 
 pub length-header : (order : Endianness) (form : Form) (k : ℕ) (d : Dimension)
     → length (header_encoding order form k d) ≡ header_size form
 unfolding header_encoding
-length-header order form k d =
-    omega (
-      arith,
-      length-append (number_bytes order 4 (code_of form k d)) (srid_encoding order (form_srid form)),
-      length-number order 4 (code_of form k d),
-      length-srid order (form_srid form),
-    )
+length-header order form k d = grind (arith, length-append, srid_encoding, length-number, length-srid)
 
 -- a header and a count
 pub length-counted : (order : Endianness) (form : Form) (k : ℕ) (d : Dimension) (n : ℕ) {size : ℕ}
     → size ≡ header_size form
     → size + 4 ≤ length (header_encoding order form k d ++ number_bytes order 4 n)
-length-counted order form k d n is =
-    omega (
-      arith,
-      is,
-      length-append (header_encoding order form k d) (number_bytes order 4 n),
-      length-header order form k d,
-      length-number order 4 n,
-    )
+length-counted order form k d n is = grind (arith, length-append, header_encoding, length-header, length-number)

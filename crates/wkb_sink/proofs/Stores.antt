@@ -5,19 +5,14 @@ use Rattle.wkb_sink.proofs.Prelude.{slice_get, slice_index, add-one, flat_map, l
 use Rattle.wkb_sink.proofs.Prelude.{Endianness, number_bytes, words_encoding, LaysAt}
 use Rattle.std.proofs.Math.Nat.{mul-add}
 use Rattle.std.proofs.Math.Seq.{take-append-add}
-use borrow.Rule.Slice.PartMut.{put_mid, mid_of, post_of}
+use borrow.Rule.Slice.PartMut.{put_mid, mid_of}
 
 -- an encoding that was stored after another
 pub stored_next : (all part t s : List ℕ) (at n k : ℕ) → take at all ≡ t → at ≤ length all → take n part ≡ s
     → n ≤ length part
     → take (at + n) (put_mid at k all part) ≡ t ++ s
 stored_next all part t s at n k is fits part_is part_fits =
-    let front = take at all in
-    let len : length front ≡ at = length-take-le at all fits in
-    ap (λ m. take (m + n) (front ++ (part ++ post_of at k all))) (sym len)
-    ∙ take-append-add front (part ++ post_of at k all) n
-    ∙ ap (λ l. front ++ l) (take-append-le n part (post_of at k all) part_fits ∙ part_is)
-    ∙ ap (λ l. l ++ s) is
+    grind (arith, length-take-le, take-append-add, take-append-le)
 
 -- the words of two to four, one after another
 pub two_words : (order : Endianness) (ws : List ℕ) → length ws ≡ 2
@@ -46,9 +41,7 @@ pub flat_map_step : {X : Type 0} (f : X → List ℕ) (xs : List X) (i : ℕ) (x
     → flat_map f (take (i + 1) xs) ≡ flat_map f (take i xs) ++ f x
 flat_map_step f [] i x h = cc
 flat_map_step f (y ∷ ys) zero x h = let same : y ≡ x = cc in append-nil (f y) ∙ ap f same
-flat_map_step f (y ∷ ys) (suc i) x h =
-    let rest = rw add-one at (flat_map_step f ys i x h) in
-    rw add-one (ap (λ l. f y ++ l) rest ∙ sym (append_assoc (f y) (flat_map f (take i ys)) (f x)))
+flat_map_step f (y ∷ ys) (suc i) x h = grind (arith, add-one, append_assoc, flat_map, flat_map_step f ys i x h)
 
 -- one item more of a run from one place on
 pub run_step : {X : Type 0} (f : X → List ℕ) (xs : List X) (start i : ℕ) (x : X) → slice_get xs i ≡ Some x → start ≤ i
@@ -56,24 +49,13 @@ pub run_step : {X : Type 0} (f : X → List ℕ) (xs : List X) (start i : ℕ) (
 run_step f [] start i x item h = cc
 run_step f (y ∷ ys) zero i x item h = flat_map_step f (y ∷ ys) i x item
 run_step f (y ∷ ys) (suc start) zero x item h = absurd (omega arith)
-run_step f (y ∷ ys) (suc start) (suc i) x item h =
-    rw add-one (rw add-one at (run_step f ys start i x item (omega arith)))
+run_step f (y ∷ ys) (suc start) (suc i) x item h = grind (arith, add-one, run_step f ys start i x item (omega arith))
 
 -- an encoding that was stored at a place
 pub stored_at : (bytes part s : List ℕ) (place n end : ℕ) → place + n ≤ length bytes
     → length part ≡ length (mid_of place (length bytes - place) bytes) → take n part ≡ s → end ≡ place + n
     → LaysAt place end bytes (put_mid place (length bytes - place) bytes part) s
-stored_at bytes part s place n end fits many stored is =
-    let left : length (drop place bytes) ≡ length bytes - place = length-drop place bytes in
-    let free : length part ≡ length bytes - place =
-    many ∙ length-take-le (length bytes - place) (drop place bytes) (omega (arith, left)) in
-    let long : length s ≡ n = ap length (sym stored) ∙ length-take-le n part (omega (arith, free, fits)) in
-    record {
-      ends = omega (arith, long, is);
-      is = rw is
-          (stored_next bytes part (take place bytes) s place n (length bytes - place) refl (omega (arith, fits)) stored
-          (omega (arith, free, fits)));
-    }
+stored_at bytes part s place n end fits many stored is = grind (arith, length-drop, length-take-le, stored_next)
 
 -- the bytes of the items that are left, of w bytes each
 pub one_more : (w i to : ℕ) → i < to → w * (to - i) ≡ w * (to - (i + 1)) + w

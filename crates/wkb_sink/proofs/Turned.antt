@@ -7,8 +7,6 @@ use Rattle.std.proofs.Math.Nat.{mul-add}
 use Rattle.std.specs.List.{AllByRecursion, concat}
 use Rattle.std.proofs.lemmas.Option.{slice_get-get_or}
 use Rattle.std.proofs.Math.Seq.{drop-append-add, take-append-add}
-use Rattle.byteorder.specs.Numbers.{big_number-reads_back, little_number-reads_back}
-use Rattle.wkb_geom.specs.declared.common.Endianness.TheVariants.{BigEndian, LittleEndian}
 use Rattle.wkb_geom.specs.declared.common.Dimensions.{Dimensions}
 use Rattle.wkb_geom.specs.Dimensions.{size}
 use Rattle.wkb_geom.specs.Numbers.{number, number_bytes, IsWord}
@@ -20,8 +18,7 @@ use borrow.Rule.Slice.PartMut.{put_mid}
 read_back : (order : Endianness) (w : ℕ) (rest : List ℕ) → IsWord w
     → number order 8 (number_bytes order 8 w ++ rest) ≡ w
 unfolding number number_bytes
-read_back BigEndian w rest h = big_number-reads_back 8 w rest (omega (arith, h))
-read_back LittleEndian w rest h = little_number-reads_back 8 w rest (omega (arith, h))
+read_back order w rest h = grind arith
 
 pub words_length : (order : Endianness) (ws : List ℕ) → length (words_encoding order ws) ≡ 8 * length ws
 unfolding words_encoding
@@ -71,8 +68,7 @@ pub stored_two_more : (order : Endianness) (words all part : List ℕ) (i k : �
     → 2 * i + 1 < length words → 16 * i ≤ length all → 16 ≤ length part
     → take (16 * (i + 1)) (put_mid (16 * i) k all part) ≡ words_encoding order (take (2 * (i + 1)) words)
 stored_two_more order words all part i k behind stored more fits part_fits =
-    two_words_more order words all part i k _ _ behind (slice_get-get_or words (2 * i) 0 (omega (arith, more)))
-    (slice_get-get_or words (2 * i + 1) 0 more) stored fits part_fits
+    grind (arith, two_words_more, slice_get-get_or)
 
 -- the last of an odd number of words
 pub stored_last : (order : Endianness) (words all part : List ℕ) (i k n word : ℕ) → n ≡ 8 * length words
@@ -133,8 +129,7 @@ items_fit : {X : Type 0} (f : X → List ℕ) (k : ℕ) (xs : List X) (n : ℕ) 
     → k * n ≤ length (flat_map f xs)
 items_fit f k xs zero h within = omega arith
 items_fit f k [] (suc n) h within = absurd (omega arith)
-items_fit f k (x ∷ xs) (suc n) h within =
-    omega (arith, h.0, length-append (f x) (flat_map f xs), items_fit f k xs n h.1 (omega arith))
+items_fit f k (x ∷ xs) (suc n) h within = grind (arith, length-append, flat_map, items_fit f k xs n h.1 (omega arith))
 
 -- items of k numbers each that stand one after another in memory, and the part of these that is a run
 module _ {X : Type 0} (f : X → List ℕ) (k : ℕ) (xs : List X) {all : List ℕ} {to : ℕ}
@@ -155,8 +150,7 @@ module _ {w : ℕ} (read dims : Dimensions) (wide : w ≡ size read) (same : rea
   pub bytes_each : (order : Endianness) (cs : List (List ℕ)) → AreCoordinates dims cs
       → AllByRecursion (λ c. length (words_encoding order c) ≡ 8 * w) cs
   bytes_each order [] h = tt
-  bytes_each order (c ∷ cs) h =
-      (omega (arith, words_length order c, h.0.len, wide, ap size same), bytes_each order cs h.1)
+  bytes_each order (c ∷ cs) h = grind (arith, words_length, bytes_each order cs h.1)
 
   pub words_each : (cs : List (List ℕ)) → AreCoordinates dims cs → AllByRecursion (λ c. length c ≡ w) cs
   words_each [] h = tt
@@ -180,7 +174,6 @@ pub run_are_words : (dims : Dimensions) (cs : List (List ℕ)) (from to : ℕ) �
     → AllByRecursion IsWord (run_words cs from to)
 run_are_words dims [] zero zero h = tt
 run_are_words dims [] (suc from) zero h = tt
-run_are_words dims (c ∷ cs) zero (suc to) h =
-    are_words c (run_words cs zero to) h.0.words (run_are_words dims cs zero to h.1)
+run_are_words dims (c ∷ cs) zero (suc to) h = grind (arith, are_words, run_are_words dims cs zero to h.1)
 run_are_words dims (c ∷ cs) (suc from) (suc to) h = run_are_words dims cs from to h.1
 run_are_words dims cs from to h = tt
