@@ -3,7 +3,6 @@ use Rattle.std.proofs.Common.{◌≡◌, ◌+◌, ◌≤◌, ℕ, suc, List, [],
 use Rattle.std.proofs.Common.{arith}
 use Rattle.wkb_geom.specs.Reading.{◌⊕◌}
 use Rattle.wkb_view.specs.Prelude.{Cost, free, one_turn, Reading, costs, done, and_then, repeated, ReadError}
-use Rattle.wkb_view.specs.Prelude.read_errors
 use Rattle.wkb_view.specs.declared.counts.Counts.{Counts}
 use Rattle.wkb_view.specs.Outcome.{Spent, AtMost, CanCount, Stops, next_turn, cost_of}
 
@@ -81,8 +80,7 @@ module _ {A B : Type 0} (r : Reading A) (f : A → List ℕ → Reading B) (whol
 
   -- so where the whole can be counted, the part can
   pub part_counted : CanCount old whole.0 → CanCount mid r.0
-  part_counted fits =
-      record { turns = omega (arith, part_within.0); slots = omega (arith, part_within.1) }
+  part_counted fits = grind arith
 
 -- a part that was read leads to what follows it
 pub part_leads : {A B : Type 0} (r : Reading A) (f : A → List ℕ → Reading B) (whole : Reading B) (old mid new : Counts)

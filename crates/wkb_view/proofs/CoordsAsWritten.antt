@@ -38,14 +38,12 @@ items_stand size item f one (suc n) y h long =
 pub words_stand : (order : Endianness) (d : Dimension) (y : List ℕ) → AreBytes y → 8 * width d ≤ length y
     → words_encoding order (coordinate order d y) ≡ take (8 * width d) y
 unfolding words_encoding
-words_stand order d y h long =
-    items_stand 8 (number order 8) (number_bytes order 8) (number_stands order 8) (width d) y h long
+words_stand order d y h long = grind (arith, items_stand, number_stands)
 
 pub coordinates_stand : (order : Endianness) (d : Dimension) (n : ℕ) (y : List ℕ) → AreBytes y
     → 8 * width d * n ≤ length y
     → flat_map (words_encoding order) (coordinates order d n y) ≡ take (8 * width d * n) y
-coordinates_stand order d n y h long =
-    items_stand (8 * width d) (coordinate order d) (words_encoding order) (words_stand order d) n y h long
+coordinates_stand order d n y h long = grind (arith, items_stand, words_stand)
 
 -- a ring's coordinates are all that follows its count
 pub ring_stands : (order : Endianness) (d : Dimension) (encoding : List ℕ) → AreBytes encoding

@@ -14,7 +14,7 @@ use Rattle.wkb_geom.specs.Encodings.{form_srid, inner, form_with_flags, code_of,
 use Rattle.wkb_laws.specs.Written.{written, written_header, each_spelling}
 use Rattle.wkb_laws.proofs.Spelled.{in_full_lem}
 use Rattle.wkb_laws.proofs.EncodingBytes.{as_written}
-use Rattle.wkb_laws.proofs.Values.{same_dimension, spelled_good, lawful-geometry_of}
+use Rattle.wkb_laws.proofs.Values.{spelled_good, lawful-geometry_of}
 use Rattle.wkb_view.specs.Prelude.{Endianness, Dimension, number, Layout, Item, Spelling, Spellings, spellings}
 use Rattle.wkb_view.specs.Prelude.{spelled_in}
 use Rattle.wkb_geom.specs.Dimensions.{written_dimension}
@@ -31,19 +31,13 @@ pub record IsEncoded (bytes : List ℕ) (order : Endianness) (form : Form) (g : 
   pub writable : fault g ≡ None
 
 is_form : (has_flags : Bool) → IsForm (form_with_flags has_flags)
-is_form true = tt
-is_form false = tt
+is_form has_flags = grind arith
 
 module _ (order : Endianness) (form : Form) (has_flags : Bool) (form_is : form ≡ form_with_flags has_flags) (i : Item)
     (spells : BytesSpell i) (is : IsSpelledAsWritten order has_flags i) where
   -- those of what is spelled as it is written
   pub is_encoded : IsEncoded i.encoding order form (geometry_of i.value)
-  is_encoded =
-      let full = in_full_lem i.spelled i.value i.encoding spells in
-      rw form_is (record {
-        encoding = as_written order _ i.spelled i.value i.encoding (is_form has_flags) is.bytes full is.same;
-        writable = (spelled_good i.spelled i.value i.encoding is.bytes full).1;
-      })
+  is_encoded = grind (arith, in_full_lem, as_written, is_form, spelled_good)
 
   -- what is spelled is lawful, so fitting leaves it as it is
   pub is_encoded_fitted : IsEncoded i.encoding order form (fitted_geometry (geometry_of i.value))
@@ -57,8 +51,7 @@ module _ (order : Endianness) (form : Form) (has_flags : Bool) (form_is : form �
 pub exposes : {order : Endianness} {form : Form} {g : Geometry} (test : Bool) (buf : Bor (List ℕ))
     → (test ≡ true → IsEncoded buf.now order form g)
     → LendsEncoding order form g (then_some test buf)
-exposes true buf h = let whole = h refl in record { encoding = whole.encoding; writable = whole.writable }
-exposes false buf h = record { encoding = tt; writable = tt }
+exposes test buf h = grind arith
 
 -- ---- the spelling that is written: of the header, and of the members
 
@@ -76,8 +69,7 @@ pub header_spelled : (k : ℕ) (l : Layout) (bytes : List ℕ) (order : Endianne
     → HasWrittenHeader k l bytes order has_flags
     → spelled_in l bytes [] ss
     ≡ node (written_header order (form_with_flags has_flags) k (written_dimension (as_dimensions l.dimension))) [] ss
-header_spelled k l bytes order has_flags ss h =
-    rw (same_dimension l.dimension, h.order_is, h.plain, h.code, no_srid has_flags) refl
+header_spelled k l bytes order has_flags ss h = grind arith
 
 -- a member with this part is written with this spelling
 abbrev pub member_written : {A : Type 0} → Endianness → Bool → (Dimension → A → Value) → Dimension → A → Spelling
@@ -136,5 +128,4 @@ pub all_written : {A : Type 0} {k : ℕ} {l : Layout} {bytes : List ℕ} {order 
     → spelled_in l bytes [] (spellings ms)
     ≡ node (written_header order (form_with_flags has_flags) k (written_dimension (as_dimensions l.dimension))) []
     (each_spelling (member_written order has_flags kind l.dimension) (map part ms))
-all_written part ms header all before =
-    grind (arith, spelled_each, length-map, take_all, header_spelled, each_spelled)
+all_written part ms header all before = grind (arith, spelled_each, length-map, take_all, header_spelled, each_spelled)

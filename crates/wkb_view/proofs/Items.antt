@@ -1,10 +1,10 @@
 -- Words and coordinates at their offsets.
 use Rattle.std.proofs.Common.{◌≡◌, ℕ, zero, suc, ◌+◌, ◌-◌, ◌*◌, ◌≤◌, ◌<◌, List, length, take, drop, Some, refl, sym, ap}
-use Rattle.std.proofs.Common.{◌∙◌, get_or, arith, Bool}
+use Rattle.std.proofs.Common.{◌∙◌, get_or, arith, Bool, rules}
 use Rattle.std.specs.Prelude.{slice_get, is_none}
 use Rattle.std.proofs.lemmas.List.{drop-drop, drop-take}
 use Rattle.std.proofs.lemmas.Option.{get_or_from_slice_get}
-use Rattle.std.proofs.Math.Nat.{mul-le-mul_left, mul-le-mul_right, mul-add}
+use Rattle.std.proofs.Math.Nat.{mul-le-mul_right}
 use Rattle.wkb_geom.specs.Spellings.{header}
 use Rattle.wkb_geom.specs.Reading.{point_words_in}
 use Rattle.wkb_view.specs.Prelude.{Endianness, Dimension, number, width, number-take, length-items}
@@ -20,9 +20,7 @@ items_at size item (suc n) (suc i) xs h = grind (arith, drop-drop, items_at size
 
 pub word_at : (e : Endianness) (n i : ℕ) (xs : List ℕ) → i < n
     → get_or (items 8 (number e 8) n xs) i 0 ≡ number e 8 (drop (8 * i) xs)
-word_at e n i xs h =
-    get_or_from_slice_get (items 8 (number e 8) n xs) i (number e 8 (drop (8 * i) xs)) 0
-    (items_at 8 (number e 8) n i xs h)
+word_at e n i xs h = search (rules, get_or_from_slice_get, items_at)
 
 -- a word that was tested
 pub word_is : (e : Endianness) (d : Dimension) (n w : ℕ) (xs : List ℕ) (b : Bool) → n < width d
@@ -70,8 +68,7 @@ few_bytes d i = mul-le-mul_right i (omega (arith, (width-within d).1))
 
 -- an item below the count ends where all do, or before
 pub next_within : (size i n : ℕ) → i < n → size * i + size ≤ size * n
-next_within size i n lt =
-    let b : size * (i + 1) ≤ size * n = mul-le-mul_left size (omega arith) in omega (arith, mul-add size i 1)
+next_within size i n lt = grind arith
 
 -- ---- points that are empty, and those that are not
 
@@ -88,5 +85,4 @@ srid_is l encoding = grind arith
 
 pub coordinate_is : (l : Layout) (encoding : List ℕ) (b : Bool) → b ≡ all_nan (point_words_in l encoding)
     → point_of (point_item_of l encoding (point_words_in l encoding) b).value ≡ point_of (point_item l encoding).value
-coordinate_is l encoding b h =
-    ap (λ (c : Bool). point_of (point_item_of l encoding (point_words_in l encoding) c).value) h
+coordinate_is l encoding b h = grind arith

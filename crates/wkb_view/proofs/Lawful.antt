@@ -37,8 +37,7 @@ pub lawful_at : {C : Type 0} (read : C → List Coordinate) (dim : C → Dimensi
     → ((c : C) → AreCoordinates (as_dimensions (dim c)) (read c)) → IfSome o (λ c. dim c ≡ d)
     → option_map read o ≡ slice_get parts i
     → option_map read o ≡ slice_get (fitted_line_strings (as_dimensions d) parts) i
-lawful_at read dim d None parts i law same is = ap (option_map (fitted_line_string (as_dimensions d))) is
-    ∙ sym (slice_get-map (fitted_line_string (as_dimensions d)) parts i)
+lawful_at read dim d None parts i law same is = grind (arith, slice_get-map)
 lawful_at read dim d (Some c) parts i law same is =
     let fits =
     (line_string_fits (as_dimensions d) (read c)).same

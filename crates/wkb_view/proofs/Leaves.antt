@@ -3,7 +3,7 @@ use Rattle.std.proofs.Common.{◌≡◌, ℕ, zero, suc, ◌-◌, ◌+◌, ◌�
 use Rattle.std.proofs.Common.{take, drop, Option, Some, None, Ok, refl, sym, ap, ◌∙◌, length-take, length-drop, arith}
 use Rattle.wkb_geom.specs.Reading.{order_of_byte, head_by_order}
 use Rattle.wkb_view.specs.Prelude.{Endianness, Dimension, Layout, number, number-take, ring_end, Item, Outcome, Reading}
-use Rattle.wkb_view.specs.Prelude.{head_at, consumed, layout_wanted, member_layout}
+use Rattle.wkb_view.specs.Prelude.{head_at, consumed, member_layout}
 use Rattle.wkb_view.specs.Prelude.{member_body, member_at, then_body}
 use Rattle.wkb_view.specs.Members.{item_of, IsEncoding, IsMemberOfKind, layout_said, member_item}
 use Rattle.wkb_view.specs.Pieces.{Passed, IsRing}
@@ -36,13 +36,7 @@ found i rest = Ok (i, rest)
 pub passed_by : {P : List ℕ → Type 0} (least : ℕ) (bytes rest : List ℕ) (end : ℕ) → least ≤ end → end ≤ length bytes
     → rest ≡ drop end bytes
     → P (take end bytes) → Passed least P bytes rest
-passed_by least bytes rest end enough le rest-is form =
-    let cut : length bytes - length rest ≡ end = omega (arith, ap length rest-is, length-drop end bytes) in
-    record {
-      shorter = omega (arith, ap length rest-is, length-drop end bytes);
-      rest_is = rest-is ∙ ap (λ (k : ℕ). drop k bytes) (sym cut);
-      form = rw cut form;
-    }
+passed_by least bytes rest end enough le rest-is form = grind (arith, length-drop)
 
 pub ring_passed : (order : Endianness) (d : Dimension) (bytes rest : List ℕ) (n end : ℕ) → n ≡ number order 4 bytes
     → end ≡ ring_end d n → end ≤ length bytes
@@ -68,17 +62,7 @@ pub member_passed : (k : ℕ) (d : Dimension) (bytes : List ℕ) (l : Layout) (x
     → member_layout k d bytes ≡ Ok l
     → Passed 9 (IsEncoding k l) bytes rest → x ≡ item_of k l (consumed bytes rest)
     → (x ≡ member_item k d (consumed bytes rest)) × Passed 9 (IsMemberOfKind k d) bytes rest
-member_passed k d bytes l x rest e passed is =
-    let shorter = passed.shorter in
-    let layout : member_layout k d (consumed bytes rest) ≡ Ok l =
-    ap (layout_wanted k d) (head-take (length bytes - length rest) bytes (omega arith) (omega arith)) ∙ e in (
-      is ∙ ap (λ s. item_of k (layout_said d s) (consumed bytes rest)) (sym layout),
-      record {
-        shorter = passed.shorter;
-        rest_is = passed.rest_is;
-        form = record { layout = l; layout_is = layout; encoding_is = passed.form };
-      },
-    )
+member_passed k d bytes l x rest e passed is = grind (arith, head-take)
 
 -- a member is seen by its layout
 pub member_seen : (k : ℕ) (d : Dimension) (encoding : List ℕ) (l : Layout) → member_layout k d encoding ≡ Ok l

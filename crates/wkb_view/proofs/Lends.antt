@@ -1,5 +1,5 @@
 -- The bytes of a geometry begin with it, so its value is lawful and can be written, and the traits show it.
-use Rattle.std.proofs.Common.{◌≡◌, ◌<◌, ◌≤◌, ◌^◌, ℕ, List, [], Bool, true, false, length, refl, subst, sym, ◌∙◌, ap}
+use Rattle.std.proofs.Common.{◌≡◌, ◌<◌, ◌≤◌, ◌^◌, ℕ, List, [], Bool, length, refl, subst, sym, ◌∙◌, ap}
 use Rattle.std.proofs.Common.{append-nil, arith}
 use Rattle.wkb_geom.specs.Encodings.{IsWritable}
 use Rattle.wkb_geom.specs.Fronts.{max_nesting}
@@ -56,8 +56,7 @@ lends w bytes is spells shallow slice =
 -- ---- the views that keep what reading found in ghost fields
 
 point_whole : (l : Layout) (bytes words : List ℕ) (empty : Bool) → bytes ≡ (point_item_of l bytes words empty).encoding
-point_whole l bytes words true = refl
-point_whole l bytes words false = refl
+point_whole l bytes words empty = grind arith
 
 pub point_lends : (p : Point) → AreSlice p.buf.now → Lends (point_seen p) p.buf.now
 point_lends p slice =

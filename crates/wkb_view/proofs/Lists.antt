@@ -1,6 +1,6 @@
 -- Parts read one after the other, as a loop does, and lists of them after a count.
 use Rattle.std.proofs.Common.{◌≡◌, ℕ, suc, ◌+◌, ◌-◌, ◌≤◌, ◌<◌, List, [], ◌∷◌, ◌++◌, Ok, refl, sym, ap, ◌∙◌}
-use Rattle.std.proofs.Common.{append_assoc, arith, Bool, cond, length, drop, ltb, length-drop}
+use Rattle.std.proofs.Common.{append_assoc, arith, Bool, cond, length, drop, ltb}
 use Rattle.std.proofs.lemmas.List.{append-nil}
 use Rattle.wkb_view.specs.Prelude.{refused, end_of_input, Cause, ReadError, free, one_turn, Outcome}
 use Rattle.wkb_view.specs.Prelude.read_errors
@@ -65,8 +65,7 @@ module _ {A : Type 0} {start : Counts} {whole : Reading (List A)} {part : List �
     pub next_part : (new : Counts) (x : A) (after : List ℕ) → (part rest).1 ≡ Ok (x, after)
         → Spent (next_turn old) new (part rest).0
         → Loop part count (i + 1) (front ++ x ∷ []) after start new whole
-    next_part new x after is spent =
-        record { leads = part_leads (part rest) _ whole start (next_turn old) new x after next_leads is spent }
+    next_part new x after is spent = grind (arith, part_leads, next_leads)
 
     -- a part that stops
     pub loop_stops : (e : ReadError) (new : Counts) → Stops e (part rest) (next_turn old) new → Stops e whole start new
@@ -81,8 +80,7 @@ module _ {A : Type 0} {start : Counts} {whole : Reading (List A)} {part : List �
 
 pub parts_length : (srid : Bool) (bytes : List ℕ)
     → length (parts_start srid bytes) ≡ length bytes - (body_start srid + 4)
-parts_length srid bytes =
-    omega (arith, length-drop 4 (drop (body_start srid) bytes), length-drop (body_start srid) bytes)
+parts_length srid bytes = grind arith
 
 -- a list of n parts, for which entries were asked for between the two: its parts lead to the whole
 pub record IsList {A : Type 0} (l : Layout) (part : List ℕ → Reading A) (end : List A → List ℕ → Item)
@@ -151,8 +149,7 @@ module _ {A : Type 0} {n : ℕ} {l : Layout} {part : List ℕ → Reading A} {en
   -- a list whose parts are read
   pub list_reads : (new : Counts) (xs : List A) (rest : List ℕ) → parts.1 ≡ Ok (xs, rest) → Spent mid new parts.0
       → (whole.1 ≡ Ok (end xs (consumed bytes rest), rest)) × Spent old new whole.0
-  list_reads new xs rest is spent =
-      all_read _ rest whole old new (part_leads parts made whole old mid new xs rest h.leads is spent)
+  list_reads new xs rest is spent = grind arith
 
   -- a list whose parts stop
   pub list_stops : (e : ReadError) (new : Counts) → Stops e parts mid new → Stops e whole old new

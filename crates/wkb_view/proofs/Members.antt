@@ -1,7 +1,7 @@
 -- Members in lists.
 use Rattle.std.proofs.Common.{◌≡◌, ℕ, zero, suc, List, [], ◌∷◌, ◌++◌, map, Option, Some, None, refl, sym, ap, ◌∙◌}
 use Rattle.std.proofs.Common.{subst, ◌+◌, ◌-◌, ◌*◌, ◌≤◌, ◌<◌, length, Bor}
-use Rattle.std.proofs.Common.{take, drop, Bool, false, Result, Ok, length-drop, length-take, arith}
+use Rattle.std.proofs.Common.{take, drop, false, Result, Ok, length-drop, length-take, arith}
 use Rattle.std.specs.Prelude.{slice_get, option_map, IsOk, IfSome}
 use Rattle.std.specs.List.{AllByRecursion}
 use Rattle.std.proofs.lemmas.Option.{slice_get-map}
@@ -9,7 +9,7 @@ use Rattle.std.proofs.lemmas.List.{length-map}
 use Rattle.wkb_geom.specs.Values.{polygon}
 use Rattle.wkb_view.specs.Prelude.{Dimension, as_dimensions, Spelling, Coordinate, Listed, whole_of, Item, spellings}
 use Rattle.wkb_view.specs.Prelude.{polygon_of, Layout, Head, Cause, multi_point_end, body_start, point_of}
-use Rattle.wkb_view.specs.Prelude.{consumed, laid, head_at, layout_wanted, member_layout, list_of_spellings}
+use Rattle.wkb_view.specs.Prelude.{consumed, laid, layout_wanted, member_layout, list_of_spellings}
 use Rattle.wkb_plain.proofs.Lookups.{IsAnswered, copied_is}
 use Rattle.wkb_view.specs.Fits.{fitted_parts, fitted_line_strings, fitted_polygons}
 use Rattle.wkb_view.specs.Members.{polygon_items, IsEncoding, IsMemberOfKind, AreMembersOfKind, member_item, members_in}
@@ -144,8 +144,7 @@ member_laid k d bytes l e = e ∙ ap (λ (f : Dimension). Ok (laid l.order f l.h
 -- and that of a point is known but for the order
 pub point_laid : (d : Dimension) (bytes : List ℕ) (l : Layout) → member_layout 1 d bytes ≡ Ok l
     → member_layout 1 d bytes ≡ Ok (laid l.order d false)
-point_laid d bytes l e =
-    member_laid 1 d bytes l e ∙ ap (λ (s : Bool). Ok (laid l.order d s)) (no_srid d (head_at bytes) l e)
+point_laid d bytes l e = grind arith
 
 member_size : (d : Dimension) (encoding : List ℕ) → IsMemberOfKind 1 d encoding → length encoding ≡ stride d
 member_size d encoding m = grind arith

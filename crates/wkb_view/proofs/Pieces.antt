@@ -4,9 +4,7 @@ use Rattle.std.proofs.Common.{Some, None, refl, sym, ap, subst, ◌∙◌}
 use Rattle.std.proofs.Common.{get_or, arith, Bool, ◌/◌, ◌*◌, ◌++◌, Ok, length-append, length-drop, length-take}
 use Rattle.std.specs.Prelude.{slice_get, option_map}
 use Rattle.std.proofs.lemmas.List.{length-map, drop-drop, drop-take, take-take}
-use Rattle.std.proofs.lemmas.Nat.{le-div}
 use Rattle.std.proofs.lemmas.Option.{slice_get_past, slice_get-map}
-use Rattle.std.proofs.Math.Nat.{mul-add}
 use Rattle.wkb_view.specs.Prelude.{Reading, consumed, body_start, parts_start, repeated}
 use Rattle.wkb_view.specs.Pieces.{pieces, ArePieces, AreInOrder, IsPiece, Passed}
 use Rattle.wkb_view.specs.declared.counts.Counts.{Counts}
@@ -24,8 +22,7 @@ pub record Between (start : ℕ) (ends encoding : List ℕ) (i s t : ℕ) : Type
 between : (start : ℕ) (ends encoding : List ℕ) (i : ℕ) → AreInOrder start ends encoding → i < length ends
     → Between start ends encoding i (get_or (start ∷ ends) i 0) (get_or ends i 0)
 between start [] encoding i h lt = absurd (omega arith)
-between start (x ∷ ends) encoding zero h lt =
-    record { ordered = omega arith; within = omega arith; item = refl }
+between start (x ∷ ends) encoding zero h lt = grind arith
 between start (x ∷ ends) encoding (suc i) h lt = grind (arith, between x ends encoding i h.1 (omega arith))
 
 pub part_is : (start : ℕ) (ends encoding : List ℕ) (i s : ℕ) → AreInOrder start ends encoding → i < length ends
@@ -41,13 +38,11 @@ pieces_counted start (x ∷ ends) encoding = ap suc (pieces_counted x ends encod
 
 pub pieces_past : (start : ℕ) (ends encoding : List ℕ) (i : ℕ) → length ends ≤ i
     → None ≡ slice_get (pieces start ends encoding) i
-pieces_past start ends encoding i h =
-    sym (slice_get_past (pieces start ends encoding) i (omega (arith, pieces_counted start ends encoding)))
+pieces_past start ends encoding i h = grind (arith, slice_get_past, pieces_counted)
 
 pub parts_counted : {A : Type 0} (seen : List ℕ → A) (start : ℕ) (ends encoding : List ℕ)
     → length (map seen (pieces start ends encoding)) ≡ length ends
-parts_counted seen start ends encoding =
-    length-map (pieces start ends encoding) seen ∙ pieces_counted start ends encoding
+parts_counted seen start ends encoding = grind (arith, length-map, pieces_counted)
 
 -- ---- by the part that is handed out
 
@@ -55,24 +50,21 @@ parts_counted seen start ends encoding =
 pub in_order : (P : List ℕ → Type 0) (start : ℕ) (ends encoding : List ℕ) → ArePieces P start ends encoding
     → AreInOrder start ends encoding
 in_order P start [] encoding h = h
-in_order P start (x ∷ ends) encoding h =
-    (record { ordered = h.0.ordered; within = h.0.within; form = tt }, in_order P x ends encoding h.1)
+in_order P start (x ∷ ends) encoding h = grind (arith, in_order P x ends encoding h.1)
 
 -- the part that is handed out has the form
 pub piece_form : (P : List ℕ → Type 0) (start : ℕ) (ends encoding : List ℕ) (i : ℕ) (t : List ℕ)
     → ArePieces P start ends encoding
     → Some t ≡ slice_get (pieces start ends encoding) i → P t
 piece_form P start [] encoding i t h e = absurd cc
-piece_form P start (x ∷ ends) encoding zero t h e =
-    let same : take (x - start) (drop start encoding) ≡ t = cc in subst P same h.0.form
+piece_form P start (x ∷ ends) encoding zero t h e = grind arith
 piece_form P start (x ∷ ends) encoding (suc i) t h e = piece_form P x ends encoding i t h.1 e
 
 -- and is seen as the item at its index
 pub piece_seen : {A : Type 0} (seen : List ℕ → A) (start : ℕ) (ends encoding : List ℕ) (i : ℕ) (o : Option (List ℕ))
     → o ≡ slice_get (pieces start ends encoding) i
     → option_map seen o ≡ slice_get (map seen (pieces start ends encoding)) i
-piece_seen seen start ends encoding i o e =
-    ap (option_map seen) e ∙ sym (slice_get-map seen (pieces start ends encoding) i)
+piece_seen seen start ends encoding i o e = grind (arith, slice_get-map)
 
 -- ---- one piece more
 
@@ -90,8 +82,7 @@ pieces-push : {A : Type 0} (seen : List ℕ → A) (start : ℕ) (ends : List �
     ≡ map seen (pieces start ends encoding)
     ++ seen (take (end - last_end start ends) (drop (last_end start ends) encoding)) ∷ []
 pieces-push seen start [] end encoding = refl
-pieces-push {A = A} seen start (e ∷ ends) end encoding =
-    ap (λ (r : List A). seen (take (e - start) (drop start encoding)) ∷ r) (pieces-push seen e ends end encoding)
+pieces-push {A = A} seen start (e ∷ ends) end encoding = grind (arith, pieces-push seen e ends end encoding)
 
 ArePieces-push : (P : List ℕ → Type 0) (start : ℕ) (ends : List ℕ) (end : ℕ) (encoding : List ℕ)
     → ArePieces P start ends encoding
@@ -188,5 +179,4 @@ module _ {A : Type 0} {least : ℕ} {P : List ℕ → Type 0} {seen : List ℕ �
 -- where another part fits, its end has a slot
 pub parts_fit : (least n passed rest start all : ℕ) → 0 < least → least * n + rest + start ≤ all
     → least + passed ≤ rest → n < (all - start) / least
-parts_fit least n passed rest start all some so_far more =
-    let enough = le-div (n + 1) (all - start) least some (omega (arith, mul-add least n 1)) in omega arith
+parts_fit least n passed rest start all some so_far more = grind arith

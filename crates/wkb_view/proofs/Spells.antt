@@ -1,4 +1,5 @@
 -- What was read is spelled by its bytes.
+use Rattle.std.proofs.Common.{rules}
 use Rattle.std.proofs.Common.{◌≡◌, ℕ, ◌≤◌, List, length, take, drop, Result, Ok, Err, ap, subst, length-take, arith}
 use Rattle.wkb_geom.specs.declared.code.WkbType.TheVariants as kinds
 use Rattle.wkb_geom.specs.Spellings.{Wanted, any}
@@ -28,8 +29,7 @@ says_body bytes h e =
 -- what is read after a header is spelled by the bytes that were taken
 pub body_spelled : (bytes : List ℕ) (h : Head) (i : Item) (rest : List ℕ) → head_at bytes ≡ Ok h
     → (body_at too_deep h.wkb_type (layout_of h) bytes).1 ≡ Ok (i, rest) → BytesSpell i
-body_spelled bytes h i rest e is =
-    says_spelled any bytes (body_at too_deep h.wkb_type (layout_of h) bytes) (says_body bytes h e) i rest is
+body_spelled bytes h i rest e is = search (rules, says_spelled, says_body)
 
 -- the encoding of a point that was read
 pub point_encoding : (l : Layout) (bytes buf : List ℕ) (end : ℕ) → HasHead (λ d. kinds.Point d) l bytes
