@@ -1,5 +1,5 @@
 -- Members and list entries are bounded by the bytes.
-use Rattle.std.proofs.Common.{◌≡◌, ℕ, ◌+◌, ◌*◌, ◌<◌, ◌≤◌, List, [], ◌∷◌, length, Bool, refl, sym, ap, ◌∙◌, arith}
+use Rattle.std.proofs.Common.{◌≡◌, ℕ, ◌+◌, ◌*◌, ◌<◌, ◌≤◌, List, [], ◌∷◌, length, Bool, refl, sym, ◌∙◌, arith}
 use Rattle.std.proofs.Common.{length-append, mul-le-mul_left}
 use Rattle.std.proofs.lemmas.Bool.Decides.{nat_tests}
 use Rattle.wkb_laws.specs.Prelude.{Endianness, Dimension, IsEach, Coordinate, Value, point, line_string, polygon}
@@ -89,8 +89,7 @@ rings_begun {order} {d} (later_ring ring b h) = grind (arith, coordinates_long, 
 
 front_long : {room : ℕ} {input : List ℕ} {s : Spelling} {t : Value} {rest : List ℕ} → FrontWithin room input s t rest
     → 4 * member_count t + 5 + length rest ≤ length input
-front_long {s = s} {t = t} {rest = rest} f =
-    omega (arith, spelled_long s t f.front f.spelled, ap length f.whole, length-append f.front rest)
+front_long {s = s} {t = t} {rest = rest} f = grind (arith, spelled_long, length-append)
 
 -- a list of members asks for a ninth of the bytes after its count
 slots_asked-members : (k n remaining : ℕ) → 3 < k → k ≤ 7 → 9 * slots_asked k n remaining ≤ remaining
@@ -102,8 +101,7 @@ share any room = room + 5
 share (part k d) room = 3
 
 share-least : (w : Wanted) (room : ℕ) → 3 ≤ share w room
-share-least any room = omega arith
-share-least (part k d) room = omega arith
+share-least w room = grind arith
 
 share_inside : (room k : ℕ) (d : Dimension) → 3 < k → k ≤ 7 → (k ≡ 7 → 0 < room)
     → share (member_part k d) (room_inside k room) + 1 ≤ room + 5
@@ -113,8 +111,7 @@ share_inside room k d low high some = grind (arith, nat_tests)
 list_share : (inner outer asked slots rest len : ℕ) → inner + 1 ≤ outer → 9 * asked ≤ rest → rest ≤ len
     → 9 * slots ≤ inner * rest
     → 9 * (asked + slots) ≤ outer * len
-list_share inner outer asked slots rest len more ask fits inside =
-    omega (arith, mul-le-mul_left len more, mul-le-mul_left (inner + 1) fits)
+list_share inner outer asked slots rest len more ask fits inside = grind arith
 
 -- the members that are wanted after a count
 pub wanted_inside : (w : Wanted) (room k : ℕ) (d : Dimension) (srid : Bool) → IsWanted w → IsAllowed room w k d srid

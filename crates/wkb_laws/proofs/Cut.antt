@@ -13,8 +13,7 @@ use Rattle.wkb_laws.proofs.Outcomes.{read_or_refused_lem, never_both_lem}
 -- what is at the start is there with more bytes after it
 begins_more : {P : List ℕ → Type 0} {input rest : List ℕ} (y : List ℕ) → Begins P input rest
     → Begins P (input ++ y) (rest ++ y)
-begins_more {rest = rest} y b =
-    record { front = b.front; whole = ap (λ z. z ++ y) b.whole ∙ append_assoc b.front rest y; first = b.first }
+begins_more {rest = rest} y b = grind (arith, append_assoc)
 
 opens_more : {input rest : List ℕ} {order : Endianness} {k : ℕ} {d : Dimension} {srid : Bool} (y : List ℕ)
     → Opens input order k d srid rest

@@ -1,12 +1,11 @@
 -- An encoding is bytes, and bytes that spell a value as it is written are its encoding.
-use Rattle.std.proofs.Common.{◌≡◌, ℕ, zero, suc, ◌/◌, ◌<◌, ◌^◌, List, [], ◌∷◌, ◌++◌, length, Option, Some, None, lit<}
-use Rattle.std.proofs.Common.{sym, subst}
-use Rattle.std.proofs.Math.Nat.{mod-lt}
+use Rattle.std.proofs.Common.{◌≡◌, ℕ, zero, suc, ◌<◌, List, [], ◌∷◌, ◌++◌, length, Option, lit<}
+use Rattle.std.proofs.Common.{sym, subst, arith}
 use Rattle.std.specs.Int.{byte_at, bytes_high_first, bytes_low_first}
 use Rattle.std.specs.List.{flat_map}
-use Rattle.wkb_laws.specs.Prelude.{Endianness, BigEndian, LittleEndian, Dimension, Form, AreBytes, order_byte}
+use Rattle.wkb_laws.specs.Prelude.{Endianness, Dimension, Form, AreBytes, order_byte}
 use Rattle.wkb_laws.specs.Prelude.{number_bytes, Coordinate, Value, Spelling, Spells, Geometry, Geometries}
-use Rattle.wkb_laws.specs.Prelude.{no_geometries, geometry, geometry_of, encoding, encodings, form_srid, inner, IsForm}
+use Rattle.wkb_laws.specs.Prelude.{no_geometries, geometry, geometry_of, encoding, encodings, inner, IsForm}
 use Rattle.wkb_laws.specs.Prelude.{srid_encoding, header_encoding, words_encoding, coordinates_encoding, point_words}
 use Rattle.wkb_laws.specs.Prelude.{point_encoding, line_string_encoding, polygon_encoding, members_encoding}
 use Rattle.wkb_geom.specs.Geometries.{collection}
@@ -16,8 +15,7 @@ use Rattle.wkb_laws.proofs.Rewritings.{value_encoding}
 use Rattle.wkb_laws.proofs.Values.{spelled_good}
 
 byte_small : (k x : ℕ) → byte_at k x < 256
-byte_small zero x = mod-lt x (lit< tt)
-byte_small (suc k) x = mod-lt (x / 256 ^ suc k) (lit< tt)
+byte_small k x = grind arith
 
 high_are_bytes : (n x : ℕ) → AreBytes (bytes_high_first n x)
 high_are_bytes zero x i = lit< tt
@@ -31,8 +29,7 @@ low_are_bytes j (suc n) x (suc i) = low_are_bytes (suc j) n x i
 
 pub number_is_bytes : (order : Endianness) (n x : ℕ) → AreBytes (number_bytes order n x)
 unfolding number_bytes
-number_is_bytes BigEndian n x = high_are_bytes n x
-number_is_bytes LittleEndian n x = low_are_bytes 0 n x
+number_is_bytes order n x = grind (arith, high_are_bytes, low_are_bytes)
 
 both_are_bytes : (xs ys : List ℕ) → AreBytes xs → AreBytes ys → AreBytes (xs ++ ys)
 both_are_bytes [] ys h k i = k i
@@ -44,14 +41,12 @@ each_is_bytes f one [] i = lit< tt
 each_is_bytes f one (a ∷ l) i = both_are_bytes (f a) (flat_map f l) (one a) (each_is_bytes f one l) i
 
 order_small : (order : Endianness) → order_byte order < 256
-order_small BigEndian = lit< tt
-order_small LittleEndian = lit< tt
+order_small order = grind arith
 
 module _ (order : Endianness) where
   srid_is_bytes : (srid : Option ℕ) → AreBytes (srid_encoding order srid)
   unfolding srid_encoding
-  srid_is_bytes None i = lit< tt
-  srid_is_bytes (Some srid) i = number_is_bytes order 4 srid i
+  srid_is_bytes srid i = grind (arith, number_is_bytes)
 
   words_are_bytes : (words : List ℕ) → AreBytes (words_encoding order words)
   unfolding words_encoding
@@ -59,14 +54,12 @@ module _ (order : Endianness) where
 
   coordinates_are_bytes : (cs : List Coordinate) → AreBytes (coordinates_encoding order cs)
   unfolding coordinates_encoding
-  coordinates_are_bytes cs =
-      both_are_bytes _ _ (number_is_bytes order 4 (length cs)) (each_is_bytes (words_encoding order) words_are_bytes cs)
+  coordinates_are_bytes cs = grind (arith, both_are_bytes, number_is_bytes, each_is_bytes, words_are_bytes)
 
   module _ (form : Form) (d : Dimension) where
     header_is_bytes : (k : ℕ) → AreBytes (header_encoding order form k d)
     unfolding header_encoding
-    header_is_bytes k zero = order_small order
-    header_is_bytes k (suc i) = both_are_bytes _ _ (number_is_bytes order 4 _) (srid_is_bytes (form_srid form)) i
+    header_is_bytes k h = grind (arith, order_small, both_are_bytes, number_is_bytes, srid_is_bytes)
 
     point_is_bytes : (c : Option Coordinate) → AreBytes (point_encoding order form d c)
     unfolding point_encoding
@@ -85,8 +78,7 @@ module _ (order : Endianness) where
     members_are_bytes : (k n : ℕ) (inside : List ℕ) → AreBytes inside
         → AreBytes (members_encoding order form k d n inside)
     unfolding members_encoding
-    members_are_bytes k n inside h =
-        both_are_bytes _ _ (header_is_bytes k) (both_are_bytes _ _ (number_is_bytes order 4 n) h)
+    members_are_bytes k n inside h = grind (arith, both_are_bytes, header_is_bytes, number_is_bytes)
 
 ruleset parts_are_bytes =
     (point_is_bytes, line_string_is_bytes, polygon_is_bytes, members_are_bytes, each_is_bytes)

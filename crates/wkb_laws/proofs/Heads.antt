@@ -1,6 +1,6 @@
 -- Reading from left to right, up to the body: what a reading says of its input, and its opening and its count.
 use Rattle.std.proofs.Common.{◌≡◌, ◌≢◌, ℕ, zero, suc, ◌+◌, ◌≤◌, List, [], ◌∷◌, ◌++◌, length, take, drop, Some, Ok, Err}
-use Rattle.std.proofs.Common.{Result, Bool, true, false, is_some, nat_lt, refl, sym, ap, ◌∙◌, subst, append_assoc}
+use Rattle.std.proofs.Common.{Result, Bool, true, is_some, nat_lt, refl, sym, ap, ◌∙◌, subst, append_assoc}
 use Rattle.std.proofs.Common.{arith, length-drop, take-append-drop, length-take-le, drop-drop, ltb-true, ltb-false, ◌⊎◌}
 use Rattle.std.proofs.Common.{inl, inr}
 use Rattle.std.proofs.lemmas.Bool.Decides.{nat_tests}
@@ -113,8 +113,7 @@ module _ (room : ℕ) (w : Wanted) (input : List ℕ) (k : ℕ) (l : Layout) (o 
 -- a number inside an encoding is the same in the input that begins with it
 pub number_in : (order : Endianness) (a : ℕ) (input x rest : List ℕ) → input ≡ x ++ rest → a + 4 ≤ length x
     → number order 4 (drop a input) ≡ number order 4 (drop a x)
-number_in order a input x rest e h =
-    rw (e, drop-append-le a x rest (omega arith)) (number-more order 4 (drop a x) rest (omega (arith, length-drop a x)))
+number_in order a input x rest e h = grind (arith, drop-append-le, number-more, length-drop)
 
 -- the header that an encoding begins with
 abbrev encoding_header : Layout → List ℕ → Header
@@ -122,13 +121,11 @@ encoding_header l x =
     record { order = l.order; code = number l.order 4 (drop 1 x); srid = srid_in l.order l.has_srid x }
 
 pub has_srid_in : (order : Endianness) (srid : Bool) (x : List ℕ) → srid ≡ is_some (srid_in order srid x)
-has_srid_in order true x = refl
-has_srid_in order false x = refl
+has_srid_in order srid x = grind arith
 
 srid_is : (order : Endianness) (srid : Bool) (x : List ℕ) → srid_size srid ≤ length (drop 5 x)
     → IsSrid order (srid_in order srid x) (take (srid_size srid) (drop 5 x))
-srid_is order true x h = field_taken order 4 (drop 5 x) h
-srid_is order false x h = refl
+srid_is order srid x h = grind (arith, field_taken)
 
 encoding_head : (input x rest : List ℕ) (k : ℕ) (d : Dimension) (l : Layout)
     → Opens input l.order k d l.has_srid (drop 5 input) → input ≡ x ++ rest

@@ -1,14 +1,12 @@
 -- How long an encoding is.
-use Rattle.std.proofs.Common.{◌≡◌, ℕ, ◌+◌, ◌*◌, ◌<◌, ◌≤◌, ◌^◌, List, [], ◌∷◌, ◌++◌, length, Some, None, Bool, true}
+use Rattle.std.proofs.Common.{◌≡◌, ℕ, ◌+◌, ◌*◌, ◌<◌, ◌≤◌, ◌^◌, List, [], ◌∷◌, ◌++◌, length, Some, None, Bool}
 use Rattle.std.proofs.Common.{false, refl, sym, ap, ◌∙◌, arith, length-append, sum_by, is_some, if◌then◌else◌, lt-ltb}
 use Rattle.std.proofs.lemmas.List.Sums.{sum_by-cons}
-use Rattle.byteorder.specs.Numbers.{length-bytes_high_first, length-bytes_low_first}
-use Rattle.wkb_geom.specs.declared.common.Endianness.TheVariants.{BigEndian, LittleEndian}
 use Rattle.wkb_geom.specs.Sizes.{byte_size, byte_sizes, point_size, ring_size, line_string_size, rings_size}
 use Rattle.wkb_geom.specs.Sizes.{polygon_size}
 use Rattle.wkb_geom.specs.Encodings.{point_encoding, line_string_encoding, polygon_encoding, members_encoding}
 use Rattle.wkb_geom.specs.Geometries as geometries
-use Rattle.wkb_laws.specs.Prelude.{Endianness, Dimension, Xy, Form, Iso, Ewkb, AreBytes, IsNumber, width, IsEach}
+use Rattle.wkb_laws.specs.Prelude.{Endianness, Dimension, Form, Iso, Ewkb, AreBytes, IsNumber, width, IsEach}
 use Rattle.wkb_laws.specs.Prelude.{Coordinate, Value, point, line_string, polygon, multi_point, multi_line_string}
 use Rattle.wkb_laws.specs.Prelude.{multi_polygon, Values, no_members, member, kind, dimension, members, header}
 use Rattle.wkb_laws.specs.Prelude.{Spelling, node, Spellings, no_spellings, spelling, SpellsCoordinate}
@@ -39,13 +37,11 @@ abbrev pub each_size : Values → ℕ
 each_size ts = byte_sizes (geometries_of ts)
 
 pub named_width : (d : Dimension) → width d ≡ size (as_dimensions d)
-named_width Xy = refl
-named_width _ = refl
+named_width d = grind arith
 
 -- a geometry has at least nine bytes
 pub width-least : (d : Dimension) → 2 ≤ width d
-width-least Xy = omega arith
-width-least _ = omega arith
+width-least d = grind arith
 
 pub value_size-least : (t : Value) → 9 ≤ value_size t
 value_size-least (point d c) = omega (arith, width-least d, named_width d)
@@ -71,9 +67,7 @@ pub each_length : {A : Type 0} (P : A → List ℕ → Type 0) (size : A → ℕ
     → ((a : A) (x : List ℕ) → P a x → length x ≡ size a) → (l : List A) (x : List ℕ)
     → IsEach P l x → length x ≡ sum_by size l
 each_length P size one [] x h = ap length h
-each_length P size one (a ∷ l) x h =
-    ap length h.whole ∙ length-append h.front h.rest ∙ ap (λ z. z + length h.rest) (one a h.front h.first)
-    ∙ ap (λ z. size a + z) (each_length P size one l h.rest h.second) ∙ sym (sum_by-cons size a l)
+each_length P size one (a ∷ l) x h = grind (arith, length-append, sum_by-cons, each_length P size one l h.rest h.second)
 
 pub coordinate_length : (order : Endianness) (d : Dimension) (c : Coordinate) (x : List ℕ)
     → SpellsCoordinate order d c x → length x ≡ 8 * width d
@@ -97,8 +91,7 @@ body_length order own (polygon d rings) x h =
 body_length order own _ x h = (h.1).len
 
 pub srid_size_is : (b : Bool) → srid_size b ≡ 4 * (if b then 1 else 0)
-srid_size_is true = refl
-srid_size_is false = refl
+srid_size_is b = grind arith
 
 -- without members there is no SRID inside a geometry
 pub none_without_members : (w : Wanted) (ss : Spellings) (x : List ℕ) → SpellsEach w ss no_members x
@@ -158,8 +151,7 @@ form_length order form g h lawful fine =
 -- an encoding is as long with any SRID, also with one that doesn't fit
 four_long : (order : Endianness) (n : ℕ) → length (number_bytes order 4 n) ≡ 4
 unfolding number_bytes
-four_long BigEndian n = length-bytes_high_first 4 n
-four_long LittleEndian n = length-bytes_low_first 0 4 n
+four_long order n = grind arith
 
 header_long : (order : Endianness) (n k : ℕ) (d : Dimension) (rest : List ℕ)
     → length (header_encoding order (Ewkb (Some n)) k d ++ rest) ≡ 9 + length rest
@@ -182,8 +174,7 @@ pub encoding_length : (order : Endianness) (form : Form) (g : Geometry) → IsGe
 encoding_length order form g lawful fine = grind (arith, form_length, any_srid)
 
 pub length_of_encoding_lem : LengthOfEncoding
-length_of_encoding_lem order other form g _ lawful fine =
-    omega (arith, encoding_length order form g lawful fine, encoding_length other Iso g lawful fine)
+length_of_encoding_lem order other form g _ lawful fine = grind (arith, encoding_length)
 
 -- what bytes spell is written in as many, less four for each SRID
 spelled_written : (order : Endianness) (s : Spelling) (t : Value) (x : List ℕ) → AreBytes x → Spells s t x

@@ -1,7 +1,7 @@
 -- The front of a list, what is read there, and what comes before a body.
 use Rattle.std.proofs.Common.{slice_get, Some, drop-drop, ◌≡◌, ℕ, zero, suc, ◌+◌, ◌*◌, ◌≤◌, List, [], ◌∷◌, ◌++◌}
 use Rattle.std.proofs.Common.{append_assoc, length, take, drop, refl, sym, ap, ◌∙◌, subst, arith, length-drop}
-use Rattle.std.proofs.Common.{length-append, take-append-drop, length-take-le, take-add, Option, None, Bool, is_some}
+use Rattle.std.proofs.Common.{length-append, take-append-drop, length-take-le, take-add, Option, Bool, is_some}
 use Rattle.std.proofs.Common.{◌-◌}
 use Rattle.std.proofs.Math.Seq.{take-append_seam, drop-append_seam}
 use Rattle.byteorder.specs.Numbers.{big_from-append, little_from-append}
@@ -63,14 +63,7 @@ pub items_are : {A : Type 0} (P : A → List ℕ → Type 0) (size : ℕ) (item 
     → (n : ℕ) (y : List ℕ) → size * n ≤ length y → IsEach P (items size item n y) (take (size * n) y)
 items_are P size item one zero y h = let e : size * 0 ≡ 0 = omega arith in rw e refl
 items_are P size item one (suc n) y h =
-    let e : size * suc n ≡ size + size * n = omega arith in
-    record {
-      front = take size y;
-      rest = take (size * n) (drop size y);
-      whole = rw e (take-add size (size * n) y);
-      first = one y (omega arith);
-      second = items_are P size item one n (drop size y) (omega (arith, length-drop size y));
-    }
+    grind (arith, take-add, length-drop, items_are P size item one n (drop size y) (omega (arith, length-drop size y)))
 
 -- as many bytes an item
 pub each_len : {A : Type 0} (P : A → List ℕ → Type 0) (size : ℕ) → ((a : A) (x : List ℕ) → P a x → length x ≡ size)
@@ -100,22 +93,18 @@ pub item_at : {A : Type 0} (size : ℕ) (item : List ℕ → A) (n i : ℕ) (y :
     → slice_get (items size item n y) i ≡ Some a
     → item (drop (size * i) y) ≡ a
 item_at size item zero i y a is = absurd (cc)
-item_at size item (suc n) zero y a is =
-    let start : size * 0 ≡ 0 = omega arith in let same : item y ≡ a = cc in rw (start, same)
+item_at size item (suc n) zero y a is = grind arith
 item_at size item (suc n) (suc i) y a is = grind (arith, drop-drop, item_at size item n i (drop size y) a is)
 
 pub length-opens : {input rest : List ℕ} {order : Endianness} {k : ℕ} {d : Dimension} {srid : Bool}
     → Opens input order k d srid rest
     → length input ≡ 5 + length rest
-length-opens {input} {rest} o =
-    omega (arith, ap length o.number.whole ∙ length-append o.number.front rest, ap length o.whole)
+length-opens {input} {rest} o = grind (arith, length-append)
 
 pub srid_length : (order : Endianness) (srid : Option ℕ) (field : List ℕ) → IsSrid order srid field
     → length field ≡ srid_size (is_some srid)
-srid_length order None field h = ap length h
-srid_length order (Some n) field h = h.len
+srid_length order srid field h = grind arith
 
 pub header_length : (h : Header) (k : ℕ) (d : Dimension) (front : List ℕ) → IsHeader h k d front
     → length front ≡ 5 + srid_size (is_some h.srid)
-header_length h k d front is =
-    omega (arith, ap length is.whole, length-append {A = ℕ}, srid_length h.order h.srid is.srid_field is.srid)
+header_length h k d front is = grind (arith, length-append, srid_length)

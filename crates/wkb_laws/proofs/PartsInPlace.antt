@@ -155,8 +155,7 @@ pub ruleset start_laws = (first_start_lem, next_start_lem, first_ring_lem, next_
 member_at : (w : Wanted) (k : ℕ) (ss : Spellings) (ts : Values) (s : Spelling) (t : Value) (bytes : List ℕ)
     → SpellsEach w ss ts bytes → IsOneOf k ss ts s t
     → Among (SpellsEach any (first_spellings k ss) (first_values k ts)) (Spells s t) bytes
-member_at w zero (spelling a ss) (member v ts) s t bytes h is =
-    first_is h (subst (λ u. Spells u t h.front) (sym is.0) (subst (λ u. Spells a u h.front) (sym is.1) h.first.0)) refl
+member_at w zero (spelling a ss) (member v ts) s t bytes h is = grind arith
 member_at w (suc k) (spelling a ss) (member v ts) s t bytes h is =
     let f = member_at w k ss ts s t h.rest h.second is in
     later_is h f (joined h.front f.before (h.first.0, tt) f.others)

@@ -47,8 +47,7 @@ written_is_read_lem order form g rest h lawful fine shallow =
     )
 
 pub writable_is_read_lem : WritableIsRead
-writable_is_read_lem order form g rest h lawful fine shallow =
-    written_is_read_lem order form g rest h lawful (or_else_parts _ _ fine).0 shallow
+writable_is_read_lem order form g rest h lawful fine shallow = grind (arith, written_is_read_lem, or_else_parts)
 
 pub equal_spelled_lem : EqualSpelled
 equal_spelled_lem order form s u t v x y h b b' a a' = (
@@ -75,12 +74,10 @@ equal_encodings_with_srid_lem order i j a b s u t v rest more h k ab bb f g =
     (front_bytes b u v more bb g) f.spelled g.spelled
 
 pub rest_is_free_lem : RestIsFree
-rest_is_free_lem input s t rest more f =
-    record { front = f.front; whole = refl; spelled = f.spelled; shallow = f.shallow }
+rest_is_free_lem input s t rest more f = grind arith
 
 pub bytes_are_read_lem : BytesAreRead
-bytes_are_read_lem input s t rest f =
-    record { front = f.front; whole = sym (append-nil f.front); spelled = f.spelled; shallow = f.shallow }
+bytes_are_read_lem input s t rest f = grind (arith, append-nil)
 
 pub rewriting_is_read_lem : RewritingIsRead
 rewriting_is_read_lem order form input s t rest more h b f =

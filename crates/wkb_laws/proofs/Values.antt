@@ -1,13 +1,13 @@
 -- What bytes spell is a value, and it can be written: its words and counts are in their ranges, and nothing of it is a
 -- fault.
 use Rattle.std.proofs.Common.{arith, ◌≡◌, Option, Some, None, refl, unwrap_or, ℕ, zero, suc, ◌+◌, ◌<◌, ◌^◌, List, []}
-use Rattle.std.proofs.Common.{◌∷◌, ◌++◌, length, map, true, false, ap, subst, lit<, nat_lt, lt-ltb}
+use Rattle.std.proofs.Common.{◌∷◌, ◌++◌, length, map, true, ap, subst, lit<, nat_lt, lt-ltb}
 use Rattle.std.specs.List.{AllByRecursion}
 use Rattle.std.proofs.lemmas.Bool.Decides.{nat_tests}
 use Rattle.byteorder.specs.Numbers.{big_from-lt, little_from-lt}
 use Rattle.wkb_laws.specs.Prelude.{Then, Dimension, Xy, Dimensions, width, size, written_dimension, Fault, or_else}
 use Rattle.wkb_laws.specs.Prelude.{dimensions_fault, Endianness, BigEndian, LittleEndian, number, AreBytes, IsNumber}
-use Rattle.wkb_laws.specs.Prelude.{IsWord, all_nan, as_dimensions, IsEach, IsCounted, Coordinate, Value, point}
+use Rattle.wkb_laws.specs.Prelude.{IsWord, as_dimensions, IsEach, IsCounted, Coordinate, Value, point}
 use Rattle.wkb_laws.specs.Prelude.{line_string, polygon, multi_point, multi_line_string, multi_polygon, collection}
 use Rattle.wkb_laws.specs.Prelude.{Values, no_members, member, kind, dimension, members, each, count, IsValueCoordinate}
 use Rattle.wkb_laws.specs.Prelude.{IsValuePoint, AreValueCoordinates, IsValue, AreValues, header, IsSrid, Spelling}
@@ -22,12 +22,10 @@ use Rattle.wkb_laws.proofs.Lists.{all_imply, lists_imply}
 
 pub or_else_parts : (a b : Option Fault) → or_else a b ≡ None → (a ≡ None) × (b ≡ None)
 unfolding or_else
-or_else_parts None b e = (refl, e)
-or_else_parts (Some x) b e = cc
+or_else_parts a b e = grind arith
 
 pub or_else_three : {a b c : Option Fault} → or_else a (or_else b c) ≡ None → (a ≡ None) × (b ≡ None) × (c ≡ None)
-or_else_three e =
-    let parts = or_else_parts _ _ e in let more = or_else_parts _ _ parts.1 in (parts.0, more.0, more.1)
+or_else_three e = grind (arith, or_else_parts)
 
 -- a dimension with a name has as many words as its name says
 pub width-written_dimension : (dims : Dimensions) → dimensions_fault dims ≡ None
@@ -112,8 +110,7 @@ abbrev pub GoodEach : Values → Type 0
 GoodEach ts = AreValues ts × (fault_each (geometries_of ts) ≡ None)
 
 pub named_dimension_lem : NamedDimension
-named_dimension_lem Xy = refl
-named_dimension_lem _ = refl
+named_dimension_lem d = grind arith
 
 -- a dimension that was read can be written
 pub named_dimension : (d : Dimension) → dimensions_fault (as_dimensions d) ≡ None
@@ -213,8 +210,7 @@ pub same_dimension : (d : Dimension) → written_dimension (as_dimensions d) ≡
 same_dimension d = ap (λ z. unwrap_or z Xy) (named_dimension_lem d)
 
 pub same_point : (d : Dimension) (c : Option Coordinate) → IsValuePoint d c → normal_point c ≡ c
-same_point d None h = refl
-same_point d (Some c) h = let e : all_nan c ≡ false = h.1 in rw e refl
+same_point d c h = grind arith
 
 same_points : (d : Dimension) (l : List (Option Coordinate)) → AllByRecursion (IsValuePoint d) l
     → map normal_point l ≡ l
@@ -235,12 +231,10 @@ mutual
 
 -- a value is a lawful geometry of a caller's
 coordinate_lawful : (d : Dimension) (c : Coordinate) → IsValueCoordinate d c → geometry.IsCoordinate (as_dimensions d) c
-coordinate_lawful Xy c h = record { len = h.len; words = h.words }
-coordinate_lawful _ c h = record { len = h.len; words = h.words }
+coordinate_lawful d c h = grind arith
 
 point_lawful : (d : Dimension) (c : Option Coordinate) → IsValuePoint d c → geometry.IsPoint (as_dimensions d) c
-point_lawful d None h = tt
-point_lawful d (Some c) h = coordinate_lawful d c h.0
+point_lawful d c h = grind arith
 
 mutual
   pub lawful-geometry_of : (t : Value) → IsValue t → geometry.IsGeometry (geometry_of t)
