@@ -1,9 +1,9 @@
 -- Words and their ranks, one for one.
-use Rattle.std.proofs.Common.{◌≡◌, ℕ, ◌+◌, ◌<◌, ◌≤◌, ◌^◌, [], ◌∷◌, refl, sym, ap, ◌∙◌, arith, Bool, true, false}
+use Rattle.std.proofs.Common.{◌≡◌, ℕ, ◌+◌, ◌<◌, ◌≤◌, ◌^◌, [], ◌∷◌, sym, ap, ◌∙◌, arith, Bool, true, false}
 use Rattle.std.proofs.Common.{min, max, nat_lt, ◌%◌}
 use Rattle.std.proofs.lemmas.Nat.{and_mask}
 use Rattle.std.proofs.lemmas.Bool.Decides.{nat_tests}
-use Rattle.std.proofs.lemmas.Bool.{cond-true, cond-false, ltb-false}
+use Rattle.std.proofs.lemmas.Bool.{cond-false, ltb-false}
 use Rattle.wkb_geom.specs.Numbers.{is_nan}
 use Rattle.wkb_bounds.specs.declared.range.Range.{Range}
 use Rattle.wkb_bounds.specs.declared.ranks.Ranks.{Ranks}
@@ -20,11 +20,7 @@ word_back r small = grind (arith, nat_tests)
 pub ranked : (r : Range) (least greatest : ℕ) → r.least < 2 ^ 64 → r.greatest < 2 ^ 64 → least ≡ rank r.least
     → greatest ≡ rank r.greatest
     → ◌≡◌ {A = Range} (range_by (record { least = least; greatest = greatest; count = r.count })) r
-ranked r least greatest small great l g = λ i. record {
-  least = (ap word_of l ∙ rank_back r.least small) i;
-  greatest = (ap word_of g ∙ rank_back r.greatest great) i;
-  count = r.count;
-}
+ranked r least greatest small great l g = grind arith
 
 lower_is : (a w : ℕ) → a < 2 ^ 64 → w < 2 ^ 64 → word_of (min a (rank w)) ≡ lower (word_of a) w
 lower_is a w small fits = let w-is = rank_back w fits in let a-is = word_back a small in grind (arith, nat_tests)
@@ -36,13 +32,7 @@ higher_is a w small fits = let w-is = rank_back w fits in let a-is = word_back a
 pub widened_by : (k : Ranks) (w least greatest : ℕ) → k.least < 2 ^ 64 → k.greatest < 2 ^ 64 → w < 2 ^ 64
     → is_nan w ≡ false → least ≡ min k.least (rank w) → greatest ≡ max k.greatest (rank w)
     → range_by (record { least = least; greatest = greatest; count = k.count + 1 }) ≡ with_word (range_by k) w
-widened_by k w least greatest small great fits number l g =
-    (λ i. record {
-      least = (ap word_of l ∙ lower_is k.least w small fits) i;
-      greatest = (ap word_of g ∙ higher_is k.greatest w great fits) i;
-      count = k.count + 1;
-    })
-    ∙ sym (cond-false (is_nan w) _ _ number)
+widened_by k w least greatest small great fits number l g = grind (arith, lower_is, higher_is, cond-false)
 
 -- a number is the least and the greatest of itself
 number_below : (w : ℕ) → is_nan w ≡ false → w % 2 ^ 63 ≤ 0x7ff0000000000000
@@ -57,13 +47,7 @@ higher_alone w fits below = grind (arith, nat_tests)
 
 pub one_number : (w : ℕ) → w < 2 ^ 64 → is_nan w ≡ false
     → ◌≡◌ {A = Range} (record { least = w; greatest = w; count = 1 }) (with_word no_numbers w)
-one_number w fits number =
-    (λ i. record {
-      least = lower_alone w fits (number_below w number) i;
-      greatest = higher_alone w fits (number_below w number) i;
-      count = 1;
-    })
-    ∙ sym (cond-false (is_nan w) _ _ number)
+one_number w fits number = grind (arith, lower_alone, number_below, higher_alone, cond-false)
 
 -- a word whose rank is that of a number is one
 below_infinity : (w : ℕ) → w < 2 ^ 64 → 0x000fffffffffffff ≤ rank w → rank w ≤ 0xfff0000000000000
@@ -78,23 +62,8 @@ pub ranked_by : (tested : Bool) (k : Ranks) (w least greatest : ℕ) → k.least
     → w < 2 ^ 64 → least ≡ min k.least (rank w) → greatest ≡ max k.greatest (rank w)
     → (tested ≡ true → is_nan w ≡ false)
     → WidensRanks tested k (record { least = least; greatest = greatest; count = k.count + 1 }) (w ∷ [])
-ranked_by true k w least greatest small great fits l g number = record {
-  before = λ n. n;
-  range = λ n. widened_by k w least greatest small great fits (number refl) l g;
-  count = omega arith;
-}
-ranked_by false k w least greatest small great fits l g number = record {
-  before = λ n. record { low = omega arith; high = omega arith };
-  range = λ n.
-      widened_by k w least greatest small great fits
-      (ranked_number w fits (omega arith) (omega arith)) l g;
-  count = omega arith;
-}
+ranked_by tested k w least greatest small great fits l g number = grind (arith, widened_by, ranked_number)
 
 -- a word that isn't a number
 pub passed_by : (tested : Bool) (k : Ranks) (w : ℕ) → is_nan w ≡ true → WidensRanks tested k k (w ∷ [])
-passed_by tested k w nan = record {
-  before = λ n. n;
-  range = λ n. sym (cond-true (is_nan w) _ _ nan);
-  count = omega arith;
-}
+passed_by tested k w nan = grind arith

@@ -1,14 +1,13 @@
 -- Ranges that are widened word by word, and bounds coordinate by coordinate.
 use Rattle.std.proofs.Common.{◌≡◌, ◌≢◌, ℕ, zero, suc, ◌+◌, ◌*◌, ◌/◌, ◌<◌, ◌≤◌, ◌^◌, List, [], ◌∷◌, ◌++◌, length, take}
 use Rattle.std.proofs.Common.{drop, Option, Some, None, IfSome, Bool, true, false, refl, sym, ap, ◌∙◌, subst, arith}
-use Rattle.std.proofs.Common.{drop-drop, length-append, length-take}
-use Rattle.std.proofs.lemmas.Bool.{cond_both}
+use Rattle.std.proofs.Common.{drop-drop, length-append, rules}
 use Rattle.wkb_geom.specs.declared.common.Dimension.{Dimension}
 use Rattle.wkb_geom.specs.declared.common.Dimension.TheVariants.{Xy}
 use Rattle.wkb_geom.specs.declared.common.Endianness.{Endianness}
 use Rattle.wkb_geom.specs.Dimensions.{width}
 use Rattle.wkb_geom.specs.Items.{length-items}
-use Rattle.wkb_geom.specs.Numbers.{number, is_nan}
+use Rattle.wkb_geom.specs.Numbers.{number}
 use Rattle.wkb_geom.specs.Reading.{items, coordinates}
 use Rattle.wkb_geom.specs.Values.{Coordinate}
 use Rattle.wkb_bounds.specs.declared.range.Range.{Range}
@@ -17,9 +16,9 @@ use Rattle.wkb_bounds.specs.declared.ranks.Ranks.{Ranks}
 use Rattle.wkb_bounds.specs.declared.run.Run.{Run}
 use Rattle.wkb_bounds.specs.declared.axes.AxisRanks.{AxisRanks}
 use Rattle.wkb_bounds.specs.Ranges.{with_word, widened, AreNumbers, AreRight, WidensRanks}
-use Rattle.wkb_bounds.specs.Ordinates.{Axis, x_axis, y_axis, z_axis, m_axis, axis_place, word_at, words_of_each}
+use Rattle.wkb_bounds.specs.Ordinates.{Axis, axis_place, word_at, words_of_each}
 use Rattle.wkb_bounds.specs.Ordinates.{words_at, words_in, place_words}
-use Rattle.wkb_bounds.specs.Bounded.{on, Widens, WidensBounds, WidensPlane, ArePlaneNumbers, bounds_by}
+use Rattle.wkb_bounds.specs.Bounded.{on, Widens, WidensBounds, WidensPlane, bounds_by}
 use Rattle.wkb_bounds.specs.Runs.{coordinates_of, rows, first_word, IsRun, IsBehindFirst}
 
 -- ---- words
@@ -29,8 +28,7 @@ widened-append r [] ys = refl
 widened-append r (x ∷ xs) ys = widened-append (with_word r x) xs ys
 
 word_counts : (r : Range) (w : ℕ) → (with_word r w).count ≤ r.count + 1
-word_counts r w =
-    cond_both (is_nan w) _ _ (λ (s : Range). s.count ≤ r.count + 1) (λ t. omega arith) (λ t. omega arith)
+word_counts r w = grind arith
 
 widened_count : (r : Range) (ws : List ℕ) → (widened r ws).count ≤ r.count + length ws
 widened_count r [] = omega arith
@@ -45,11 +43,7 @@ numbers_right w n = record { before = λ t. t; range = λ t. w.range n; count = 
 -- ranks widened by a word, and then by others
 widened_first : (tested : Bool) {old now new : Ranks} {w : ℕ} {ws : List ℕ} → WidensRanks tested old now (w ∷ [])
     → WidensRanks tested now new ws → WidensRanks tested old new (w ∷ ws)
-widened_first tested {ws = ws} first others = record {
-  before = λ n. first.before (others.before n);
-  range = λ n. others.range n ∙ ap (λ r. widened r ws) (first.range (others.before n));
-  count = omega arith;
-}
+widened_first tested {ws = ws} first others = grind arith
 
 not_widened : (tested : Bool) (k : Ranks) → WidensRanks tested k k []
 not_widened tested k = record { before = λ n. n; range = λ n. refl; count = omega arith }
@@ -67,16 +61,12 @@ item_there f (suc w) (suc k) bytes lt =
 first_words : (r : Run) (k n : ℕ) → r.count ≡ suc n → k < r.size / 8
     → words_at (Some k) (coordinates_of r)
     ≡ first_word k r ∷ words_at (Some k) (rows r.order r.size n (drop r.size r.bytes.now))
-first_words r k n count there =
-    ap (λ n. words_at (Some k) (rows r.order r.size n r.bytes.now)) count
-    ∙ ap (λ ws. ws ++ words_at (Some k) (rows r.order r.size n (drop r.size r.bytes.now)))
-    (item_there (number r.order 8) (r.size / 8) k r.bytes.now there)
+first_words r k n count there = grind (arith, item_there)
 
 -- the word of one coordinate
 pub one_word_at : (order : Endianness) (d : Dimension) (k : ℕ) (bytes : List ℕ) → k < width d
     → number order 8 (drop (8 * k) bytes) ∷ [] ≡ place_words (Some k) order d 1 bytes
-one_word_at order d k bytes there =
-    sym (ap (λ ws. ws ++ []) (item_there (number order 8) (width d) k bytes there))
+one_word_at order d k bytes there = grind (arith, item_there)
 
 -- what widens these ranks by the words of what is left of a run widens the first ones by those of all of it
 pub record RunLeft (tested : Bool) (k : ℕ) (now : Ranks) (left : Run) (first : Ranks) (run : Run) : Type 0 where
@@ -128,17 +118,14 @@ place_is width p k is within = subst (λ p. IfSome p (λ k. k < width)) is withi
 
 pub place_there : (p : Option ℕ) (width : ℕ) {size : ℕ} → size ≡ 8 * width → IfSome p (λ k. k < width)
     → IfSome p (λ k. k < size / 8)
-place_there None width is there = tt
-place_there (Some k) width is there = omega (arith, there)
+place_there p width is there = grind arith
 
 one_word : (p : Option ℕ) (c : Coordinate) → length (word_at p c) ≤ 1
-one_word None c = omega arith
-one_word (Some k) c = omega (arith, length-take 1 (drop k c))
+one_word p c = grind arith
 
 words_few : (p : Option ℕ) (cs : List Coordinate) → length (words_of_each (word_at p) cs) ≤ length cs
 words_few p [] = omega arith
-words_few p (c ∷ cs) =
-    omega (arith, length-append (word_at p c) (words_of_each (word_at p) cs), one_word p c, words_few p cs)
+words_few p (c ∷ cs) = grind (arith, length-append, one_word, words_few p cs)
 
 pub run_long : (r : Run) → length (coordinates_of r) ≡ r.count
 run_long r = length-items r.size (items 8 (number r.order 8) (r.size / 8)) r.count r.bytes.now
@@ -160,27 +147,18 @@ counts_more d r old new a widens =
 -- coordinates are of the size that their dimension has
 rows_are : (order : Endianness) (d : Dimension) (size n : ℕ) (bytes : List ℕ) → size ≡ 8 * width d
     → rows order size n bytes ≡ coordinates order d n bytes
-rows_are order Xy size n bytes is = ap (λ s. rows order s n bytes) is
-rows_are order _ size n bytes is = ap (λ s. rows order s n bytes) is
+rows_are order d size n bytes is = grind arith
 
 pub run_widens : {order : Endianness} (d : Dimension) {size n : ℕ} {bytes : List ℕ} {r : Run} (old new : Bounds)
     → IsRun order size n bytes r → size ≡ 8 * width d → Widens old new (λ a. words_in a d (coordinates_of r))
     → Widens old new (λ a. words_in a d (coordinates order d n bytes))
-run_widens {order} d {size} {n} {bytes} old new is sized widens a =
-    widens a
-    ∙ ap (λ cs. widened (on a old) (words_in a d cs)) (is.coordinates_are ∙ rows_are order d size n bytes sized)
+run_widens {order} d {size} {n} {bytes} old new is sized widens a = grind arith
 
 -- ---- x and y
 
 module _ {tested : Bool} {old new : AxisRanks} {cs : List Coordinate} (w : WidensPlane tested old new cs) where
   pub plane_widens : AreRight tested new.x → AreRight tested new.y → WidensBounds old new Xy cs
-  plane_widens x y x_axis = w.x.range x
-  plane_widens x y y_axis = w.y.range y
-  plane_widens x y z_axis = w.z ∙ no_ordinates None old.z cs (λ k e. absurd cc)
-  plane_widens x y m_axis = w.m ∙ no_ordinates None old.m cs (λ k e. absurd cc)
+  plane_widens x y h = search (rules, no_ordinates)
 
   pub plane_few : (a : Axis) → (on a (bounds_by new)).count ≤ (on a (bounds_by old)).count + length cs
-  plane_few x_axis = omega (arith, words_few (Some 0) cs)
-  plane_few y_axis = omega (arith, words_few (Some 1) cs)
-  plane_few z_axis = omega (arith, ap (λ (r : Range). r.count) w.z)
-  plane_few m_axis = omega (arith, ap (λ (r : Range). r.count) w.m)
+  plane_few a = grind (arith, words_few)

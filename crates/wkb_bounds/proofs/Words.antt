@@ -1,13 +1,12 @@
 -- The words of a geometry's pieces: they widen a range as the words of its value do.
-use Rattle.std.proofs.Common.{◌≡◌, ℕ, zero, suc, ◌+◌, ◌*◌, List, [], ◌∷◌, ◌++◌, take, drop}
+use Rattle.std.proofs.Common.{◌≡◌, ℕ, zero, suc, ◌+◌, ◌*◌, List, [], ◌∷◌, ◌++◌, take, drop, arith}
 use Rattle.std.proofs.Common.{Some, None, Option, true, false, nat_lt, refl, sym, ap, ◌∙◌}
 use Rattle.std.proofs.Common.{append-nil, append_assoc, subst}
 use Rattle.std.proofs.lemmas.Bool.{cond-true, cond-false}
 use Rattle.std.specs.Cmp.{first_so, second_so}
 use Rattle.wkb_geom.specs.Numbers.{is_nan}
 use Rattle.wkb_laws.specs.Prelude.{Endianness, Dimension, all_nan, width, Coordinate, Value, Values}
-use Rattle.wkb_laws.specs.Prelude.{point, line_string, polygon, multi_point, multi_line_string, multi_polygon}
-use Rattle.wkb_laws.specs.Prelude.{collection}
+use Rattle.wkb_laws.specs.Prelude.{point, line_string, polygon}
 use Rattle.wkb_laws.specs.Prelude.{no_members, member, each, members, kind, Spelling, node, Spellings}
 use Rattle.wkb_laws.specs.Prelude.{no_spellings, spelling, Spells, SpellsEach, Wanted}
 use Rattle.wkb_laws.specs.Prelude.{coordinates}
@@ -15,9 +14,9 @@ use Rattle.wkb_check.specs.declared.pieces.Piece.{Piece}
 use Rattle.wkb_bounds.specs.declared.range.Range.{Range}
 use Rattle.wkb_bounds.specs.declared.range.Bounds.{Bounds}
 use Rattle.wkb_bounds.specs.Ranges.{widened, range_of, no_numbers}
-use Rattle.wkb_bounds.specs.Ordinates.{Axis, x_axis, y_axis, z_axis, m_axis, axis_place, word_at, words_of_each}
+use Rattle.wkb_bounds.specs.Ordinates.{Axis, axis_place, word_at, words_of_each}
 use Rattle.wkb_bounds.specs.Ordinates.{words_in}
-use Rattle.wkb_bounds.specs.Ordinates.{words_on, words_on_each, point_words_on}
+use Rattle.wkb_bounds.specs.Ordinates.{words_on, words_on_each}
 use Rattle.wkb_check.specs.Known.{HasGeometry}
 use Rattle.wkb_bounds.specs.Bounded.{on, nothing, AreBounds}
 use Rattle.wkb_check.specs.Pieces.{pieces_of, piece_of, own_end, IsRing, IsAhead, IsTaken, IsNext, Steps}
@@ -58,8 +57,7 @@ no_number r (w ∷ ws) (suc k) e = no_number r ws k (second_so (is_nan w) (all_n
 
 -- the words of an empty point widen no range
 empty_words : (r : Range) (p : Option ℕ) (ws : List ℕ) → all_nan ws ≡ true → widened r (word_at p ws) ≡ r
-empty_words r None ws e = refl
-empty_words r (Some k) ws e = no_number r ws k e
+empty_words r p ws e = grind (arith, no_number)
 
 each_words : {A : Type 0} (a : Axis) (f : A → Value) (own : A → List ℕ) → ((x : A) → words_on a (f x) ≡ own x)
     → (l : List A)
@@ -69,12 +67,7 @@ each_words a f own same (x ∷ l) = let others = each_words a f own same l in λ
 
 -- the words of members are those of the value
 member_words : (a : Axis) (t : Value) → nat_lt (kind t) 4 ≡ false → words_on_each a (members t) ≡ words_on a t
-member_words a (multi_point d points) high = each_words a (point d) (point_words_on a d) (λ c. refl) points
-member_words a (multi_line_string d lines) high = each_words a (line_string d) (words_in a d) (λ c. refl) lines
-member_words a (multi_polygon d polygons) high =
-    each_words a (polygon d) (words_of_each (words_in a d)) (λ c. refl) polygons
-member_words a (collection d ts) high = refl
-member_words a _ high = absurd cc
+member_words a t high = grind (arith, each_words)
 
 -- ---- a geometry and its members
 
@@ -138,8 +131,7 @@ one_words a buf g p is low =
 -- ---- the loop over the pieces
 
 pub on_nothing : (a : Axis) → on a nothing ≡ no_numbers
-on_nothing x_axis = refl
-on_nothing _ = refl
+on_nothing a = grind arith
 
 pub none_counted : (a : Axis) → (on a nothing).count ≡ 0
 none_counted a = ap (λ (r : Range). r.count) (on_nothing a)
@@ -161,9 +153,7 @@ all_widened buf b ps g all widens = λ a. rw (widens a, on_nothing a, ← all) (
 -- the words of a ring
 pub ring_words : (a : Axis) (buf : List ℕ) (p : Piece) {order : Endianness} {d : Dimension} → IsRing order d p
     → piece_words a buf p ≡ words_in a d (coordinates order d p.count (drop p.offset buf))
-ring_words a buf p r =
-    leaf_words a buf p (ap (λ k. nat_lt k 3) r.kind_is)
-    ∙ (λ i. words_in a (r.dimension_is i) (coordinates (r.order_is i) (r.dimension_is i) p.count (drop p.offset buf)))
+ring_words a buf p r = grind arith
 
 -- the bounds are widened by the pieces that were passed, and the others are to come
 pub record WidenedSoFar (buf : List ℕ) (w : Pieces) (b : Bounds) (g : HasGeometry buf) : Type 0 where

@@ -1,4 +1,3 @@
-use Rattle.wkb_bounds.specs.declared.range.Range.{Range}
 use Rattle.wkb_bounds.specs.Runs.{coordinates_of}
 use Rattle.wkb_bounds.proofs.Widening.{no_ordinates}
 use Rattle.wkb_bounds.proofs.range.Range.widen_at.Goals as goal
