@@ -1,6 +1,6 @@
 -- A collection's members, as a list of what they mean.
-use Rattle.wkb_write.proofs.Prelude.{◌≡◌, ℕ, ◌+◌, ◌*◌, ◌<◌, ◌^◌, List, [], ◌∷◌, ◌++◌, length, map, get_or, refl, sym}
-use Rattle.wkb_write.proofs.Prelude.{ap, ◌∙◌, arith, None, Result, Ok, Err, flat_map, Endianness, Form, Dimension}
+use Rattle.wkb_write.proofs.Prelude.{◌≡◌, ℕ, ◌+◌, ◌*◌, ◌<◌, ◌^◌, List, [], ◌∷◌, ◌++◌, length, map, get_or, refl}
+use Rattle.wkb_write.proofs.Prelude.{ap, ◌∙◌, arith, None, Result, Err, flat_map, Endianness, Form, Dimension}
 use Rattle.wkb_write.proofs.Prelude.{Dimensions, Stopped, Fault, Geometry, Progress, Advances, written_dimension}
 use Rattle.wkb_write.proofs.Prelude.{geometries, encoding, encodings, fault, fault_each, first_fault}
 use Rattle.wkb_write.proofs.Prelude.{or_else, counted, count_geometries, members_encoding, header_encoding}
@@ -23,8 +23,7 @@ module _ {X : Type 0} (f : X → Geometry) where
   encodings-geometries : (order : Endianness) (form : Form) (xs : List X)
       → encodings order form (geometries (map f xs)) ≡ flat_map (λ x. encoding order form (f x)) xs
   encodings-geometries order form [] = refl
-  encodings-geometries order form (x ∷ xs) =
-      ap (λ l. encoding order form (f x) ++ l) (encodings-geometries order form xs)
+  encodings-geometries order form (x ∷ xs) = grind (arith, encoding, encodings-geometries order form xs)
 
   count-geometries : (xs : List X) → count_geometries (geometries (map f xs)) ≡ length xs
   count-geometries [] = refl
@@ -47,8 +46,7 @@ module _ {X : Type 0} (f : X → Geometry) where
         → inner form ≡ own → encoding order form (collection_of f d xs)
         ≡ header_encoding order form 7 named ++ counted order (λ x. encoding order own (f x)) xs
     unfolding members_encoding counted
-    members_encoded order form name same =
-        rw (count-geometries xs, encodings-geometries order (inner form) xs, ← name, ← same) refl
+    members_encoded order form name same = grind (arith, count-geometries, encodings-geometries)
 
     -- its header and its count were laid, and with these all of it where it has no member; or they were cut
     module _ {a b : Progress} {named : Dimension} (order : Endianness) (form : Form)
@@ -70,15 +68,13 @@ module _ {X : Type 0} (f : X → Geometry) where
 
     -- a collection without a fault has a count that four bytes hold
     pub collection_count : fault (collection_of f d xs) ≡ None → length xs < 2 ^ 32
-    collection_count none =
-        count_below (length xs) (rw count-geometries at (none_first _ _ (none_rest (dimensions_fault d) _ none)))
+    collection_count none = grind (arith, count_below, count-geometries, none_first, none_rest, dimensions_fault)
 
     -- where a collection has no fault, a member has none
     pub member_ready : (i : ℕ) (x : X) → x ≡ get_or xs i x → i < length xs
         → fault (collection_of f d xs) ≡ None → fault (f x) ≡ None
     member_ready i x is within none =
-        let fine = sym (faults-geometries xs) ∙ none_rest _ _ (none_rest (dimensions_fault d) _ none) in
-        none_at (λ y. fault (f y)) xs i x fine (slice_get_read xs (length xs) i x refl within is)
+        grind (arith, faults-geometries, none_rest, dimensions_fault, none_at, fault, slice_get_read)
 
     -- the fault of its dimensions, or of its count
     pub dimensions_refused : {r : Result ℕ Fault} (before : ℕ) (e : Fault) → r ≡ Err e → Finds e (dimensions_fault d)
@@ -89,8 +85,7 @@ module _ {X : Type 0} (f : X → Geometry) where
     pub count_refused : {n : ℕ} {r : Result ℕ Fault} (before : ℕ) (e : Fault) → r ≡ Err e → dimensions_fault d ≡ None
         → n ≡ length xs → Finds e (count_fault n) → IsAdded before (collection_of f d xs) r
     unfolding IsAdded
-    count_refused before e exit supported is finds =
-        rw exit (reports_rest e _ _ supported (rw (count-geometries xs, ← is) (reports_first e _ _ finds)))
+    count_refused before e exit supported is finds = grind (arith, reports_rest, count-geometries, reports_first)
 
     -- its members are measured as parts, after what is before it
     pub members_ahead : {n : ℕ} (before total : ℕ) → dimensions_fault d ≡ None
@@ -118,8 +113,7 @@ module _ {X : Type 0} {geo : Geometry} {read d : Dimensions} (f : X → Geometry
 -- where nothing is before it
 pub added_alone : (g : Geometry) (r : Result ℕ Fault) → IsAdded 0 g r → IsMeasured g r
 unfolding IsAdded IsMeasured
-added_alone g (Ok n) added = (added.0, omega (arith, added.1))
-added_alone g (Err e) added = added
+added_alone g r added = grind arith
 
 pub ruleset collection_laws = (collection_ready, lays_collection)
 

@@ -17,6 +17,4 @@ members_fall d gs geo t is measure = let whole = ap byte_size is in omega (arith
 
 pub member_falls : {X : Type 0} (f : X → Geometry) (xs : List X) (i : ℕ) (x : X) (t : ℕ) → x ≡ get_or xs i x
     → i < length xs → byte_sizes (geometries (map f xs)) + 1 ≡ t → byte_size (f x) < t
-member_falls f xs i x t item within measure =
-    let here = ap (λ y. byte_size (f y)) item in
-    omega (arith, member_among f xs i x within, here)
+member_falls f xs i x t item within measure = grind (arith, byte_size, member_among)

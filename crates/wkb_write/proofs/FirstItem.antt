@@ -33,12 +33,9 @@ pub item_at : {X : Type 0} {P : X → Type 0} (xs : List X) (i : ℕ) → i < le
     → ItemAt xs i P
 item_at [] i within holds = absurd (omega arith)
 item_at (x ∷ xs) zero within holds = record { item = x; rest = refl; holds = holds }
-item_at (x ∷ xs) (suc i) within holds =
-    let next = item_at xs i (omega arith) holds in
-    record { item = next.item; rest = rw add-one (rw add-one at next.rest); holds = next.holds }
+item_at (x ∷ xs) (suc i) within holds = grind (arith, add-one, item_at xs i (omega arith) holds)
 
 -- as a loop reads it
 pub item_read : {X : Type 0} {P : X → Type 0} {j : ℕ} (xs : List X) (i : ℕ) (x : X) → x ≡ get_or xs j x → j ≡ i
     → i < length xs → P x → ItemAt xs i P
-item_read xs i x is here within holds =
-    item_at xs i within (rw (slice_get_read xs (length xs) i x refl within (rw here at is)) holds)
+item_read xs i x is here within holds = grind (arith, item_at, slice_get_read)

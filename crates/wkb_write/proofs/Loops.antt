@@ -1,7 +1,7 @@
 -- The steps of a loop that lays the encodings of a list's items.
 use Rattle.wkb_write.proofs.Prelude.{◌≡◌, ℕ, zero, suc, ◌+◌, ◌*◌, ◌<◌, ◌≤◌, List, [], ◌∷◌, ◌++◌, length, take, drop}
 use Rattle.wkb_write.proofs.Prelude.{sym, subst, ap, ◌∙◌, append_assoc, append-nil, take-append-drop, drop_all, refl}
-use Rattle.wkb_write.proofs.Prelude.{Result, Ok, Err, arith, flat_map, flat_map-append, Stopped, Endianness, Form}
+use Rattle.wkb_write.proofs.Prelude.{Result, arith, flat_map, flat_map-append, Stopped, Endianness, Form}
 use Rattle.wkb_write.proofs.Prelude.{Dimension, Dimensions, number_bytes, words_encoding, header_encoding}
 use Rattle.wkb_write.proofs.Prelude.{members_encoding, counted, polygon_encoding, coordinates_encoding, Progress}
 use Rattle.wkb_write.proofs.Prelude.{IsLaid, IsCut, Advances, get_or, Geometry, encoding, size, no_room, IsShort, Bool}
@@ -90,8 +90,7 @@ module _ {X : Type 0} {a b : Progress} {whole : List ℕ} {f : X → List ℕ} {
 
     -- the last item's result is that of the whole
     pub last_laid : (r : Result (Unit {0}) Stopped) → j + 1 ≡ length xs → Advances b c (f x) r → Advances a c whole r
-    last_laid (Ok u) end p = all_laid (read_laid (omega arith) p) (omega arith)
-    last_laid (Err e) end p = read_cut (omega arith) p
+    last_laid r end p = grind (arith, all_laid, read_laid, read_cut)
 
   -- of coordinates a run was laid, up to another index
   pub run_laid : {c : Progress} {j : ℕ} → i ≤ j → j ≤ length xs → IsLaid b c (flat_map f (drop i (take j xs)))

@@ -1,13 +1,13 @@
 -- The length of an encoding, from what was measured.
-use Rattle.wkb_write.proofs.Prelude.{◌≡◌, ℕ, ◌+◌, ◌<◌, ◌≤◌, ◌^◌, ◌∙◌, ap, length, None, Result, Ok}
-use Rattle.wkb_write.proofs.Prelude.{Err, sym, subst, arith, IsErrAnd, nat_tests, Endianness, Form, Fault}
+use Rattle.wkb_write.proofs.Prelude.{◌≡◌, ℕ, ◌+◌, ◌<◌, ◌≤◌, ◌^◌, ◌∙◌, length, None, Result, Ok}
+use Rattle.wkb_write.proofs.Prelude.{Err, sym, arith, IsErrAnd, nat_tests, Endianness, Form, Fault}
 use Rattle.wkb_write.proofs.Prelude.{Geometry, IsGeometry, byte_size, encoding, fault, IsForm, Finds, Measures}
 use Rattle.wkb_write.proofs.Prelude.{bytes_behind_header, none_both, WkbError, TellsFault, encoding_of, IsSized}
 use Rattle.wkb_write.proofs.Prelude.{no_room, Advances, IsShort, Progress, Stopped, WriteOptions}
 use Rattle.std.specs.Prelude.{is_some}
 use Rattle.std.proofs.lemmas.Result.{err_from_is_err_and}
 use Rattle.wkb_geom.specs.Refusals.{srid_size}
-use Rattle.wkb_geom.specs.Encodings.{fault_under, size_fault, form_srid}
+use Rattle.wkb_geom.specs.Encodings.{size_fault, form_srid}
 use Rattle.wkb_write.proofs.Faults.{reports_first, reports_rest}
 use Rattle.wkb_write.proofs.Whole.{header_within, size_of_parts}
 use Rattle.wkb_write.specs.Bodies.{size_by_parts}
@@ -30,9 +30,7 @@ size_without_fault n h = grind (arith, nat_tests)
 -- the encoding of a geometry without a fault is as long as measured, and four bytes longer where it has an SRID
 pub measured_length : (order : Endianness) (form : Form) (g : Geometry) → IsForm form → IsGeometry g → fault g ≡ None
     → length (encoding order form g) ≡ byte_size g + srid_size (is_some (form_srid form))
-measured_length order form g fits lawful none =
-    encoding_has_size_lem order form g fits lawful none
-    ∙ ap (λ n. byte_size g + n) (sym (srid_size_is (is_some (form_srid form))))
+measured_length order form g fits lawful none = grind (arith, encoding_has_size_lem, byte_size, srid_size_is)
 
 -- what the exit of a `?` returns where there was no room for the header and what is behind it
 pub no_room_for : {a b : Progress} {n : ℕ} (options : WriteOptions) (g : Geometry) (e : Stopped)
@@ -46,10 +44,7 @@ no_room_for options g e r is short fits lawful none many =
 pub size_refused : {read given : Result ℕ Fault} (e : Fault) (form : Form) (g : Geometry) (r : Result ℕ Fault)
     → IsErrAnd r (λ y. y ≡ e) → IsMeasured g given → read ≡ given → read ≡ Err e → IsSized form g r
 unfolding IsMeasured
-size_refused e form g r exit measured same was = λ order.
-    let p = err_from_is_err_and r exit in
-    let P : Fault → Type 0 = λ y. Finds y (fault_under order form g) in
-    rw p.1 (subst P (sym p.2) (reports_first e (fault g) _ (rw (sym same ∙ was) at measured)))
+size_refused e form g r exit measured same was = grind (arith, err_from_is_err_and, reports_first, fault)
 
 -- the size that was measured, with that of the header, is that of the encoding, or past `usize`
 module _ {s : ℕ} {read given : Result ℕ Fault} (form : Form) (g : Geometry) (srid_fits : IsForm form)
@@ -59,20 +54,15 @@ module _ {s : ℕ} {read given : Result ℕ Fault} (form : Form) (g : Geometry) 
   m = rw (sym same ∙ was) at measured
 
   pub size_measured : (total : ℕ) → total ≡ s + header_size form → total < 2 ^ 64 → IsSized form g (Ok total)
-  size_measured total sum fits = λ order.
-      let whole = measured_length order form g srid_fits lawful m.0 in
-      let exact : total ≡ length (encoding order form g) = omega (arith, m.1, sum, fits, whole, header_within g) in
-      (none_both (fault g) _ m.0 (size_without_fault _ (subst (λ n. n < 2 ^ 64) exact fits)), exact)
+  size_measured total sum fits =
+      grind (arith, measured_length, m, encoding, header_within, none_both, fault, size_without_fault)
 
   pub size_past : 2 ^ 64 ≤ s + header_size form → IsSized form g (Err found.Size)
-  size_past past = λ order.
-      let whole = measured_length order form g srid_fits lawful m.0 in
-      reports_rest _ (fault g) _ m.0 (reports_size _ (omega (arith, m.1, past, whole, header_within g)))
+  size_past past = grind (arith, measured_length, m, reports_rest, fault, reports_size, header_within)
 
 pub ruleset size_laws = (size_refused, size_past)
 
 -- the error reports the fault that was found
 pub size_answered : (form : Form) (g : Geometry) (f : Fault) (r : Result ℕ WkbError) → IsErrAnd r (λ e. TellsFault e f)
     → IsSized form g (Err f) → IsSizeOf form g r
-size_answered form g f (Err e) tells size = λ order. record { fault = f; is = (size order).is; tells = tells }
-size_answered form g f (Ok n) tells size = absurd tells
+size_answered form g f r tells size = grind arith

@@ -66,8 +66,7 @@ module _ {X : Type 0} {part : X → Measure} {whole : Measure} {total : ℕ} {xs
   -- all parts
   pub all_parts : length xs ≤ i → (whole.fault ≡ None) × (capped total ≡ capped whole.size)
   unfolding first_fault
-  all_parts past =
-      let none = drop_all i xs past in (rw none at ahead.fault, omega (arith, rw none at ahead.size))
+  all_parts past = grind (arith, drop_all)
 
 -- what is measured of all parts after their count
 module _ {X : Type 0} (header total i : ℕ) (part : X → Measure) (xs : List X)

@@ -1,9 +1,8 @@
 -- What has no fault: an item of a list, and a dimension, of which a coordinate can be laid.
 use Rattle.wkb_write.proofs.Prelude.{◌≡◌, ℕ, zero, suc, ◌≤◌, List, [], ◌∷◌, Option, Some, None, ap, ◌∙◌, arith}
 use Rattle.wkb_write.proofs.Prelude.{slice_get, Dimensions, none_first, none_rest, size, Fault, first_fault}
-use Rattle.wkb_write.proofs.Prelude.{dimensions_fault, Dimension, written_dimension, sym}
+use Rattle.wkb_write.proofs.Prelude.{dimensions_fault, Dimension, written_dimension}
 use Rattle.wkb_geom.specs.Dimensions.{width}
-use Rattle.wkb_geom.specs.declared.common.Dimension.TheVariants.{Xy}
 use Rattle.wkb_laws.proofs.Lengths.{width-least}
 use Rattle.wkb_laws.proofs.Values.{width-written_dimension}
 use Rattle.wkb_sink.specs.Runs.{FitsCoordinate}
@@ -19,8 +18,7 @@ none_at f (y ∷ ys) (suc i) x h is = none_at f ys i x (none_rest (f y) (first_f
 
 -- a dimension with a name has two to four words
 pub width_most : (d : Dimension) → width d ≤ 4
-width_most Xy = omega arith
-width_most _ = omega arith
+width_most d = grind arith
 
 pub supported_at_least : (d : Dimensions) → dimensions_fault d ≡ None → 2 ≤ size d
 supported_at_least d none = omega (arith, width-written_dimension d none, width-least (written_dimension d))
@@ -38,9 +36,4 @@ pub ruleset width_laws = (width-least, width_most, named_words)
 pub has_width : {d of : Dimensions} {named : Dimension} {words : ℕ} → named ≡ written_dimension d → of ≡ d
     → dimensions_fault d ≡ None → words ≡ width named → FitsCoordinate of words
 has_width {d = d} {named = named} name same none is =
-    let wide = is ∙ ap width name ∙ width-written_dimension d none in
-    record {
-      is = wide ∙ ap size (sym same);
-      least = omega (arith, is, width-least named);
-      most = omega (arith, is, width_most named);
-    }
+    grind (arith, width-written_dimension, size, width-least, width_most)

@@ -1,20 +1,18 @@
 -- What a writer returns, from what the size under its options returned.
 use Rattle.wkb_write.proofs.Prelude.{◌≡◌, ℕ, ◌<◌, ◌^◌, Bool, List, length, Option, None, Result, Ok, Err, subst, ◌⊎◌}
-use Rattle.wkb_write.proofs.Prelude.{IsErrAnd, Some, Form, WkbError, TellsFault, Geometry, IsGeometry, fault, IsForm}
+use Rattle.wkb_write.proofs.Prelude.{IsErrAnd, Form, WkbError, TellsFault, Geometry, IsGeometry, fault, IsForm}
 use Rattle.wkb_write.proofs.Prelude.{[], arith, refl, none_first, none_both, Fault, WriteOptions, encoding_of, IsSized}
-use Rattle.std.proofs.Common.{inr}
+use Rattle.std.proofs.Common.{rules}
 use Rattle.std.specs.Prelude.{IfErr, IfOk}
 use Rattle.wkb_geom.specs.declared.common.Endianness.TheVariants.{LittleEndian}
 use Rattle.wkb_laws.proofs.Rewritings.{encoding_spells_lem}
 use Rattle.wkb_write.proofs.Sizes.{measured_length, size_without_fault}
 use Rattle.wkb_write.proofs.Whole.{header_within}
 use Rattle.std.specs.declared.io.Error.{Error}
-use Rattle.std.proofs.KnownBytes.{Appends-trans}
 use Rattle.std.specs.Io.KnownBytes.{Appends}
-use Rattle.wkb_sink.specs.Sinks.{IsBegun, IsIOError, IsOwnError, Puts, PutsOrStops, TellsFailure}
+use Rattle.wkb_sink.specs.Sinks.{IsBegun, IsOwnError, Puts, PutsOrStops, TellsFailure}
 use Rattle.wkb_write.specs.Answers.{fault_of, IsSpelledAs, OutgrowsSlice, TellsPut, Writes}
 use Rattle.wkb_write.specs.Measures.{Reports}
-use Rattle.wkb_geom.specs.declared.error.WkbError.TheVariants as errors
 
 -- where there is a size there is no fault
 pub no_fault : (form : Form) (g : Geometry) (r : Result ℕ Fault) → IsSized form g r → IfOk r (λ n. fault g ≡ None)
@@ -41,35 +39,19 @@ spelled_as o g (Err e) old new failed none lawful fits puts = tt
 -- bytes that are in memory are not rejected for their length
 pub encoding_fits : (o : WriteOptions) (g : Geometry) (bytes : List ℕ) → bytes ≡ encoding_of o g → fault g ≡ None
     → length bytes < 2 ^ 64 → fault_of o g ≡ None
-encoding_fits o g bytes is none fits =
-    none_both (fault g) _ none (size_without_fault (length (encoding_of o g)) (subst (λ t. length t < 2 ^ 64) is fits))
+encoding_fits o g bytes is none fits = grind (arith, none_both, fault, size_without_fault, encoding_of)
 
 -- for bytes that are in memory only room can be lacking
 pub encoding_outgrows : (o : WriteOptions) (g : Geometry) (bytes old : List ℕ) (r : Result ℕ WkbError)
     → bytes ≡ encoding_of o g → fault_of o g ≡ None → IfErr r (λ _. length old < length bytes)
     → IfErr r (λ e. TellsFailure e None) → IfErr r (λ e. Reports e (fault_of o g) ⊎ OutgrowsSlice o g old e)
-encoding_outgrows o g bytes old (Ok n) is none short taken = tt
-encoding_outgrows o g bytes old (Err e) is none short taken =
-    inr (record { writable = none; short = subst (λ t. length old < length t) is short; taken = taken })
+encoding_outgrows o g bytes old r is none short taken = grind arith
 
 -- what was put after nothing was appended
 pub puts_behind : (old mid new : Option (List ℕ)) (failed : Bool) (fails_by : Option Error → Type 0) (t : List ℕ)
     (put : Result (Unit {0}) (Option Error)) → Appends old mid [] → PutsOrStops mid new failed fails_by t put
     → PutsOrStops old new failed fails_by t put
-puts_behind old mid new failed fails_by t (Ok u) kept p =
-    (record { appended = Appends-trans _ _ _ _ _ kept p.0.appended }, p.1)
-puts_behind old mid new failed fails_by t (Err failure) kept p =
-    let begun = p.0 in (
-      record {
-        front = begun.front;
-        rest = begun.rest;
-        whole = begun.whole;
-        left = begun.left;
-        appended = Appends-trans _ _ _ _ _ kept begun.appended;
-      },
-      p.1,
-      p.2,
-    )
+puts_behind old mid new failed fails_by t put kept p = search rules
 
 -- nothing was put of some bytes
 pub puts_nothing : {old new : Option (List ℕ)} {t : List ℕ} → Appends old new [] → 0 < length t → IsBegun old new t
@@ -77,20 +59,12 @@ puts_nothing {t = t} kept some = record { front = []; rest = t; whole = refl; le
 
 pub ruleset put_laws = (puts_behind, puts_nothing)
 
-is_io : (e : WkbError) (failure : Option Error) → TellsFailure e failure → IsIOError e
-is_io e (Some own) is = rw is tt
-is_io (errors.IOError e) None tells = tt
-is_io _ None tells = absurd tells
-
 -- what a writer returns of what was put
 returned : (old new : Option (List ℕ)) (failed : Bool) (fails_by : Option Error → Type 0) (bytes : List ℕ)
     (put : Result (Unit {0}) (Option Error)) (r : Result (Unit {0}) WkbError)
     → PutsOrStops old new failed fails_by bytes put
     → TellsPut put r → Puts old new failed bytes r × IfErr r (IsOwnError fails_by)
-returned old new failed fails_by bytes (Ok u) r puts is = rw is (puts, tt)
-returned old new failed fails_by bytes (Err failure) (Ok u) puts never = absurd never
-returned old new failed fails_by bytes (Err failure) (Err e) puts tells =
-    ((is_io e failure tells, puts.0, puts.1), (failure, puts.2, tells))
+returned old new failed fails_by bytes put r puts is = grind arith
 
 module _ {o : WriteOptions} {g : Geometry} {untouched : Type 0} {old new : Option (List ℕ)} {failed : Bool}
     {fails_by : Option Error → Type 0} where
@@ -98,27 +72,13 @@ module _ {o : WriteOptions} {g : Geometry} {untouched : Type 0} {old new : Optio
   pub refusal_writes : {f : Fault} {r : Result (Unit {0}) WkbError} → IsSized o.form g (Err f)
       → IsErrAnd r (λ e. TellsFault e f) → untouched → Writes o g r untouched old new failed fails_by
   refusal_writes {r = Ok u} size tells kept = absurd tells
-  refusal_writes {f = f} {r = Err e} size tells kept =
-      let is = (size o.endianness).is in
-      record {
-        refused = λ h other. let same : f ≡ h = cc in (subst (TellsFault e) same tells, kept);
-        written = λ none. absurd (cc);
-        spelled = tt;
-        own = λ none. absurd (cc);
-      }
+  refusal_writes {f = f} {r = Err e} size tells kept = grind arith
 
   -- what was put of a geometry that isn't rejected was written
   pub put_writes : {r : Result (Unit {0}) WkbError} (put : Result (Unit {0}) (Option Error)) → fault_of o g ≡ None
       → IsGeometry g → IsForm o.form → PutsOrStops old new failed fails_by (encoding_of o g) put → TellsPut put r
       → Writes o g r untouched old new failed fails_by
-  put_writes {r} put none lawful fits puts is =
-      let result = returned old new failed fails_by (encoding_of o g) put r puts is in
-      record {
-        refused = λ f some. absurd (cc);
-        written = λ _. result.0;
-        spelled = spelled_as o g r old new failed (none_first _ _ none) lawful fits result.0;
-        own = λ _. result.1;
-      }
+  put_writes {r} put none lawful fits puts is = grind (arith, returned, encoding_of, spelled_as, none_first)
 
   -- what is promised of a geometry is promised of an equal one
   pub writes_same : {h : Geometry} {r : Result (Unit {0}) WkbError} → h ≡ g
