@@ -11,7 +11,7 @@ const MINUS_INFINITY: u64 = 0xfff0_0000_0000_0000;
 
 /// The range of an ordinate, by its words.
 #[repr(C)]
-#[derive(Clone, Copy)]
+#[derive(Clone, Copy, Debug, PartialEq)]
 pub struct Range {
     /// The least number; infinity where there is none.
     pub least: u64,
@@ -23,7 +23,7 @@ pub struct Range {
 
 /// The ranges of the ordinates of a geometry.
 #[repr(C)]
-#[derive(Clone, Copy)]
+#[derive(Clone, Copy, Debug, PartialEq)]
 pub struct Bounds {
     pub x: Range,
     pub y: Range,

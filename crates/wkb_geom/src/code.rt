@@ -55,7 +55,7 @@ pub enum WkbType {
 }
 
 /// A code as it was read, flags included.
-#[derive(Clone, Copy)]
+#[derive(Clone, Copy, Debug, PartialEq)]
 pub struct WkbGeometryCode {
     code: u32,
 }

@@ -39,7 +39,7 @@ pub enum General {
 }
 
 /// Why bytes are rejected: the first fault from left to right.
-#[derive(Clone, Copy)]
+#[derive(Debug, Clone, Copy, PartialEq)]
 pub enum Cause {
     /// The input ends inside a header or before a count.
     EndOfInput,
@@ -52,14 +52,14 @@ pub enum Cause {
 }
 
 /// Why a reader stops: the bytes are rejected, or an allocation failed.
-#[derive(Clone, Copy)]
+#[derive(Debug, Clone, Copy, PartialEq)]
 pub enum ReadError {
     Cause(Cause),
     Memory,
 }
 
 /// Why a geometry is not written: the first fault in preorder, or its size.
-#[derive(Clone, Copy)]
+#[derive(Debug, Clone, Copy, PartialEq)]
 pub enum Fault {
     /// A geometry has this many numbers in a coordinate, and its dimension has no name.
     UnsupportedDimensions(usize),

@@ -351,7 +351,7 @@ pub trait TriangleTrait: Dimensioned {
 }
 
 /// A geometry by its kind. The dimension of a collection is that of the geometry itself.
-#[derive(Drop)]
+#[derive(Debug, Drop)]
 pub enum GeometryType<'a, P, L, Y, MP, ML, MY, G, R, T, N> {
     Point(&'a P),
     LineString(&'a L),

@@ -31,7 +31,7 @@ pub const MAX_HEADER_SIZE: usize = MEMBER_HEADER_SIZE + SRID_SIZE;
 pub const MIN_MEMBER_SIZE: usize = MEMBER_HEADER_SIZE + COUNT_SIZE;
 
 /// A header, decoded: the order of its numbers, what its code means, and so whether an SRID follows the code.
-#[derive(Clone, Copy)]
+#[derive(Clone, Copy, Debug, PartialEq)]
 pub struct Head {
     pub order: Endianness,
     pub wkb_type: WkbType,
@@ -39,7 +39,7 @@ pub struct Head {
 }
 
 /// How the body after a header is laid out.
-#[derive(Clone, Copy, Debug)]
+#[derive(Clone, Copy, Debug, PartialEq)]
 pub struct Layout {
     pub order: Endianness,
     pub dimension: Dimension,
