@@ -30,10 +30,6 @@ module _ (bytes offsets : List ℕ) (size : ℕ) where
     least = λ limit by. r.least limit (fewer i limit by);
   }
 
--- they reach no further than the bytes
-pub reach_inside : (c : Column) (i reach : ℕ) → Reach c i reach → reach ≤ length c.bytes.now
-reach_inside c i reach r = r.least (length c.bytes.now) (λ j s e below is. is.inside)
-
 pub rows_follow : RowsFollow
 rows_follow c i j row later below a b = b.slice.after i a.slice.start a.slice.end below a.slice.span
 

@@ -8,7 +8,7 @@ ghost use Rattle.wkb_abi.specs.Columns.{RowsFit, IsRow, LacksRow, IsRefusedWith}
 
 use crate::fault::status_of_cause;
 use crate::status::{BAD_OFFSETS, NULL_ROW};
-use wkb_check::{Steps, Summary, check_counted, check_plain_counted};
+use wkb_check::{Summary, check, check_plain};
 use wkb_geom::Endianness;
 use wkb_geom::words::{u32_at, u64_at};
 
@@ -146,13 +146,12 @@ fn span_of_row(bytes: &[u8], offsets: &[u8], size: usize, i: usize) -> Option<(u
 ///
 /// It isn't inlined, so that rows that take the short way don't pay for its frame.
 #[inline(never)]
-pub fn check_row<S: Steps>(row: &[u8], steps: &mut S) -> Result<Summary, u32>
+pub fn check_row(row: &[u8]) -> Result<Summary, u32>
     ensures accepted { IfOk result (λ found. DescribesFront row.now found) }
     ensures refused { IfErr result (λ status. IsRefusedWith row.now status) }
     ensures known { IfErr result FitsByte }
-    ensures steps { S.counted steps.new ≤ S.counted steps.old + length row.now + 2 }
 {
-    match check_counted(row, steps) {
+    match check(row) {
         Ok(found) => Ok(found),
         Err(refused) => Err(status_of_cause(refused.cause)),
     }
@@ -161,14 +160,13 @@ pub fn check_row<S: Steps>(row: &[u8], steps: &mut S) -> Result<Summary, u32>
 /// What is at the start of a row, or the status of its refusal. The short way comes first: most rows hold no
 /// collection, and it counts in registers.
 #[inline(always)]
-pub fn found_in<S: Steps>(row: &[u8], steps: &mut S) -> Result<Summary, u32>
+pub fn found_in(row: &[u8]) -> Result<Summary, u32>
     ensures accepted { IfOk result (λ found. DescribesFront row.now found) }
     ensures refused { IfErr result (λ status. IsRefusedWith row.now status) }
     ensures known { IfErr result FitsByte }
-    ensures steps { S.counted steps.new ≤ S.counted steps.old + 2 * length row.now + 2 }
 {
-    match check_plain_counted(row, steps) {
+    match check_plain(row) {
         Some(plain) => Ok(plain),
-        None => check_row(row, steps),
+        None => check_row(row),
     }
 }

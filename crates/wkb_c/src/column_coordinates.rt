@@ -9,11 +9,12 @@ ghost use Rattle.wkb_check.specs.Public.{DescribesFront};
 ghost use Rattle.wkb_abi.specs.LevelLists.{LaysAny, LaysRow, AreLevels, TotalsSuffice, AreSameSlices};
 ghost use Rattle.wkb_abi.specs.RowItems.{SetsRows};
 
-use wkb_abi::column::{Column, check_row};
+use wkb_abi::column::Column;
+use wkb_abi::fault::status_of_cause;
 use wkb_abi::level_slices::{LevelSlices, has_room, lay_levels, lay_rings};
 use wkb_abi::status::{NO_ROOM, OK, UNKNOWN_OPTION};
 use wkb_abi::totals::Totals;
-use wkb_check::{Piece, Summary, Uncounted, check_plain};
+use wkb_check::{Piece, Summary, check, check_plain};
 use wkb_geom::Dimension;
 use wkb_geom::code::WkbType;
 
@@ -122,9 +123,9 @@ fn any_levels_into(row: &[u8], asked: Dimension, at: &mut Totals, out: &mut Leve
     ensures same_slices { AreSameSlices out.old out.new }
     ensures known { FitsByte result }
 {
-    match check_row(row, &mut Uncounted) {
+    match check(row) {
         Ok(found) => other_levels_into(row, &found, asked, at, out),
-        Err(status) => status,
+        Err(refused) => status_of_cause(refused.cause),
     }
 }
 

@@ -9,7 +9,7 @@ ghost use Rattle.wkb_abi.specs.RowItems.{SetsRows, rows_of};
 use wkb_abi::column::{Column, check_row};
 use wkb_abi::found::{Found, NOTHING_FOUND, found_of};
 use wkb_abi::status::OK;
-use wkb_check::{Uncounted, check_plain};
+use wkb_check::check_plain;
 
 /// Lays what the check finds of some bytes by the long way, and returns their status.
 ///
@@ -19,7 +19,7 @@ fn find_any(row: &[u8], found: &mut Found) -> u32
     ensures found { BytesShow IsFound all_zeros row.now result found.new }
     ensures known { FitsByte result }
 {
-    match check_row(row, &mut Uncounted) {
+    match check_row(row) {
         Ok(summary) => {
             *found = found_of(row, &summary);
             OK

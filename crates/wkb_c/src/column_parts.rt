@@ -8,7 +8,7 @@ ghost use Rattle.wkb_abi.specs.RowItems.{rows_of, AreTables, IsTableStep, KeepsR
 use crate::parts::list_parts;
 use wkb_abi::column::{Column, check_row};
 use wkb_abi::parts::Part;
-use wkb_check::{Uncounted, check_plain};
+use wkb_check::check_plain;
 
 /// Lists the parts of each row of a column after those of the rows before it, as far as there is room: a status a row,
 /// and where its parts end.
@@ -60,7 +60,7 @@ fn list_row(
         let status = list_parts(row, &plain, &mut parts[at..], &mut count);
         return (status, count);
     }
-    let found = match check_row(row, &mut Uncounted) {
+    let found = match check_row(row) {
         Ok(found) => found,
         Err(status) => return (status, 0),
     };

@@ -10,7 +10,7 @@ use crate::write::{write_others, write_plain};
 use wkb_abi::column::{Column, check_row};
 use wkb_abi::options::{Options, request_of};
 use wkb_abi::status::UNKNOWN_OPTION;
-use wkb_check::{Uncounted, check_plain};
+use wkb_check::check_plain;
 
 /// Writes the encoding of each row of a column after those of the rows before it, as far as there is room: a status a
 /// row, and where its encoding ends.
@@ -81,7 +81,7 @@ fn write_any_row(row: &[u8], options: &Options, out: &mut [u8], size: &mut u64) 
     if request_of(options).is_none() {
         return UNKNOWN_OPTION;
     }
-    match check_row(row, &mut Uncounted) {
+    match check_row(row) {
         Ok(found) => write_others(row, &found, options, out, size),
         Err(status) => status,
     }

@@ -9,12 +9,8 @@ mod head;
 mod nested;
 mod pieces;
 mod skip;
-mod steps;
 mod walk;
 
-pub use answer::{
-    Refused, Summary, check, check_counted, check_member, check_plain, check_plain_counted,
-};
+pub use answer::{Refused, Summary, check, check_member, check_plain};
 pub use head::size_of_srid;
 pub use pieces::{Piece, Pieces, RING};
-pub use steps::{Steps, Uncounted};

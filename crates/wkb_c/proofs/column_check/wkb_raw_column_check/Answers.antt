@@ -1,17 +1,14 @@
 use Rattle.wkb_abi.proofs.Common.{arith, ◌∙◌}
 use lib.ListN.{length-set}
 use Rattle.wkb_abi.specs.Columns.{IsStatusOfRow}
-use Rattle.wkb_abi.proofs.Spans.{reach_inside}
 use Rattle.wkb_abi.proofs.Rows.{statuses_more}
-use Rattle.wkb_c.proofs.column_check.check_rows.Goals as goal
+use Rattle.wkb_c.proofs.column_check.wkb_raw_column_check.Goals as goal
 
 pub loop-i-preserved : goal.loop-i-preserved
-loop-i-preserved g c =
+loop-i-preserved c =
     let l = c.loop-i in
     let s = c.status_of_row.result in record {
       reaches = c.status_of_row.ensures.reach;
-      stepped =
-          omega (arith, l.invariant.stepped, c.step.ensures, c.status_of_row.ensures.steps);
       as_many = length-set l.statuses l.i s ∙ l.invariant.as_many;
       done =
           statuses_more (IsStatusOfRow c.args.column.now) l.statuses l.i s
@@ -19,10 +16,4 @@ loop-i-preserved g c =
     }
 
 pub returns-clause-each : goal.returns-clause-each
-returns-clause-each g c = λ i below. c.loop-i.invariant.done i (omega (arith, below, c.loop-i-test.false))
-
-pub returns-clause-steps : goal.returns-clause-steps
-returns-clause-steps g c =
-    let l = c.loop-i in
-    let inside = reach_inside c.args.column.now l.i l.reach l.invariant.reaches in
-    omega (arith, l.invariant.stepped, c.loop-i-test.false, inside)
+returns-clause-each c = λ i below. c.loop-i.invariant.done i (omega (arith, below, c.loop-i-test.false))
