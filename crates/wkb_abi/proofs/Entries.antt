@@ -3,7 +3,9 @@ use Rattle.wkb_abi.proofs.Common.{◌≡◌, ℕ, suc, ◌+◌, ◌-◌, ◌<◌
 use Rattle.wkb_abi.proofs.Common.{sym, ap, ◌∙◌, arith, length-append, sets, length-sets, width, number, Piece}
 use Rattle.wkb_abi.proofs.Common.{Dimension, Endianness, Spelling, Value, Subject, subjects, subjects_of_each}
 use Rattle.std.proofs.Common.{add-one}
-use Rattle.std.proofs.lemmas.List.{set_comm}
+use Rattle.std.proofs.Common.{get_or, length-set}
+use Rattle.std.proofs.lemmas.List.{set_comm, set-set}
+use lib.Seq.{get_or-set_same}
 use Rattle.wkb_geom.specs.declared.common.Dimension.TheVariants.{Xy}
 use Rattle.wkb_check.specs.Known.{AreWhole, HasGeometry, HasGeometries}
 use Rattle.wkb_check.specs.Subjects.{ring, subjects_of_rings}
@@ -13,7 +15,7 @@ use Rattle.wkb_check.proofs.Placing.{behind_geometry, inner_end}
 use Rattle.wkb_check.proofs.Rings.{next_ring}
 use Rattle.wkb_abi.specs.declared.parts.Part.{Part}
 use Rattle.wkb_abi.specs.declared.parts.PartPlace.{PartPlace}
-use Rattle.wkb_abi.specs.Tables.{entry_of, entry_at, entries_from, geometry_entries}
+use Rattle.wkb_abi.specs.Tables.{entry_of, entry_at, entries_from, geometry_entries, EndsPart}
 
 pub width_is_small : (d : Dimension) → width d < 2 ^ 32
 width_is_small Xy = omega arith
@@ -92,6 +94,55 @@ module _ {A : Type 0} where
   laid_first : (l r : List A) (i : ℕ) (a : A) (vs : List A) → r ≡ sets l (i + 1) vs → set r i a ≡ sets l i (a ∷ vs)
   laid_first l r i a vs e = rw (e, ← add-one i) (set_first l i (i + 1) a vs (omega arith))
 
+-- ---- the end of a part
+
+-- an entry with another end, and one with another index behind it
+abbrev with_end : Part → ℕ → Part
+with_end e end = record {
+  begin = e.begin;
+  end = end;
+  offset = e.offset;
+  count = e.count;
+  next = e.next;
+  srid = e.srid;
+  has_srid = e.has_srid;
+  kind = e.kind;
+  dimension = e.dimension;
+  width = e.width;
+  order = e.order;
+}
+
+abbrev with_next : Part → ℕ → Part
+with_next e next = record {
+  begin = e.begin;
+  end = e.end;
+  offset = e.offset;
+  count = e.count;
+  next = next;
+  srid = e.srid;
+  has_srid = e.has_srid;
+  kind = e.kind;
+  dimension = e.dimension;
+  width = e.width;
+  order = e.order;
+}
+
+-- what was laid at an index is changed there
+pub ended : (old before : List Part) (i : ℕ) (e none : Part) (end next : ℕ) → i < length old → old ≡ set before i e
+    → set (set old i (with_end (get_or old i none) end)) i
+    (with_next (get_or (set old i (with_end (get_or old i none) end)) i none) next)
+    ≡ set before i (with_next (with_end e end) next)
+ended old before i e none end next there is =
+    let first = with_end (get_or old i none) end in
+    let was : get_or old i none ≡ e =
+    ap (λ l. get_or l i none) is
+    ∙ get_or-set_same before i e none (omega (arith, there, ap length is, length-set before i e)) in
+    let now : get_or (set old i first) i none ≡ first = get_or-set_same old i first none there in
+    set-set old i first (with_next (get_or (set old i first) i none) next)
+    ∙ (λ j. set (is j) i (with_next (now j) next))
+    ∙ set-set before i e (with_next first next)
+    ∙ (λ j. set before i (with_next (with_end (was j) end) next))
+
 -- ---- a geometry
 
 -- The entry of this geometry and of what is inside it are laid at this index, and the next place is the one after them.
@@ -107,21 +158,25 @@ pub record LaysInside (parts new : List Part) (index from : ℕ) (after : PartPl
   pub index_is : after.index ≡ index + many
   pub byte_is : after.byte ≡ last_end from inside
 
--- then its own entry is laid
+-- its own entry, which was laid before, ends there then
 pub item_laid : (buf : List ℕ) (at : ℕ) (g : HasGeometry (drop at buf)) (p : Piece)
-    → (is : p ≡ piece_of at g.spelled g.value) → {parts with : List Part} {index from : ℕ} {after : PartPlace}
-    → from ≡ own_end p
-    → LaysInside parts with index from after (inner g.spelled g.value) (length (subjects g.spelled g.value))
-    → (e : Part) → e ≡ entry_of p after.byte after.index
-    → IsLaid parts (set with index e) index at after.index after.byte g.spelled g.value
-item_laid buf at g p is {parts} {with} {index} {from} {after} ends inside e e-is =
+    → (is : p ≡ piece_of at g.spelled g.value) → {parts with ended : List Part} {index from : ℕ} {after : PartPlace}
+    → from ≡ own_end p → (e : Part) → e ≡ entry_of p from (index + 1)
+    → LaysInside (set parts index e) with index from after (inner g.spelled g.value)
+    (length (subjects g.spelled g.value))
+    → EndsPart with ended index after → IsLaid parts ended index at after.index after.byte g.spelled g.value
+item_laid buf at g p is {parts} {with} {ended} {index} {from} {after} ends e e-is inside ends_part =
     let own = inner g.spelled g.value in
+    let behind = sets parts (index + 1) (entries_from (index + 1) from own) in
+    let first : with ≡ set behind index e =
+    inside.laid ∙ sym (set_first parts index (index + 1) e (entries_from (index + 1) from own) (omega arith)) in
     let to : after.byte ≡ last_end at (subjects g.spelled g.value) =
     inside.byte_is ∙ inner_end buf at g p is from ends in
     record {
       laid =
-          laid_first parts with index e (entries_from (index + 1) from own) inside.laid
-          ∙ (λ j. sets parts index ((e-is ∙ (λ k. entry_of (is k) (to k) (inside.index_is k))) j
+          ends_part behind p from (index + 1) (first ∙ ap (set behind index) e-is)
+          ∙ laid_first parts behind index (entry_of p after.byte after.index) (entries_from (index + 1) from own) refl
+          ∙ (λ j. sets parts index (entry_of (is j) (to j) (inside.index_is j)
           ∷ entries_from (index + 1) ((ends ∙ ap own_end is) j) own))
           ∙ ap (λ xs. sets parts index (entries_from index at xs)) (sym (itself_first g.spelled g.value));
       next_is = inside.index_is;

@@ -4,7 +4,7 @@ use Rattle.wkb_abi.proofs.Common.{Column, IsRow}
 use Rattle.std.specs.Prelude.{max, drop}
 use Rattle.std.proofs.lemmas.List.{length-take}
 use borrow.Author.Count.{below_more}
-use Rattle.wkb_abi.specs.Columns.{IsSpan, HasNoSpan, EndBy, IsReach, Reach, RowsFollow, RowsFit, total_length}
+use Rattle.wkb_abi.specs.Columns.{IsSpan, HasNoSpan, EndBy, IsReach, RowsFollow, RowsFit, total_length}
 
 module _ (bytes offsets : List ℕ) (size : ℕ) where
   -- the rows before row i are among those before the next one

@@ -13,7 +13,7 @@ use wkb_geom::{Cause, General};
 
 /// The numbers of a refusal.
 #[repr(C)]
-#[derive(Clone, Copy)]
+#[derive(Clone, Copy, Debug, PartialEq)]
 pub struct WkbFault {
     /// How many parts come before the one that is rejected.
     pub part: u64,

@@ -8,7 +8,7 @@ use wkb_check::{Piece, Summary};
 
 /// The geometry at the start of some bytes.
 #[repr(C)]
-#[derive(Clone, Copy)]
+#[derive(Clone, Copy, Debug, PartialEq)]
 pub struct Found {
     /// Its bytes; the bytes after them were not looked at.
     pub size: u64,

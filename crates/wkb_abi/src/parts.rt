@@ -1,8 +1,8 @@
 //! The table of a geometry's parts.
 
-ghost use Rattle.std.specs.Prelude.{◌≡◌, ◌+◌, ◌≤◌, length, drop};
+ghost use Rattle.std.specs.Prelude.{◌≡◌, ◌+◌, ◌<◌, ◌≤◌, length, drop};
 ghost use Rattle.wkb_geom.specs.Dimensions.{width};
-ghost use Rattle.wkb_abi.specs.Tables.{entry_of, HasRingsFrom, LaysRings, FitGeometries, LaysFrom};
+ghost use Rattle.wkb_abi.specs.Tables.{entry_of, EndsPart, HasRingsFrom, LaysRings, FitGeometries, LaysFrom};
 
 use wkb_check::Piece;
 use wkb_geom::Dimension;
@@ -81,7 +81,19 @@ pub fn lay_rings(buf: &[u8], polygon: &Piece, parts: &mut [Part], start: PartPla
     at
 }
 
+/// Moves the end of a part that is laid to this place, which is the one after its rings or members.
+#[inline(always)]
+fn end_part(parts: &mut [Part], index: usize, after: PartPlace)
+    requires { index < length parts.old }
+    ensures { EndsPart parts.old parts.new index after }
+{
+    parts[index].end = after.byte as u64;
+    parts[index].next = after.index as u64;
+}
+
 /// Lays the entries of `count` geometries one after another from this place on, and returns the place after them.
+///
+/// Each is laid before what is inside it, so that a turn of the recursion keeps nothing of it on the stack.
 #[cycle(table)]
 pub fn lay_geometries(buf: &[u8], count: u32, parts: &mut [Part], start: PartPlace) -> PartPlace
     requires fit { FitGeometries count (drop start.byte buf.now) start.index (length parts.old) }
@@ -94,6 +106,7 @@ pub fn lay_geometries(buf: &[u8], count: u32, parts: &mut [Part], start: PartPla
             index: at.index + 1,
             byte: piece.end(),
         };
+        parts[at.index] = Part::of(&piece, inside.byte, inside.index);
         let next = if piece.has_coordinates() {
             inside
         } else if piece.kind == POLYGON {
@@ -101,7 +114,7 @@ pub fn lay_geometries(buf: &[u8], count: u32, parts: &mut [Part], start: PartPla
         } else {
             lay_geometries(buf, piece.count, parts, inside)
         };
-        parts[at.index] = Part::of(&piece, next.byte, next.index);
+        end_part(parts, at.index, next);
         at = next;
     }
     at

@@ -14,7 +14,7 @@ use wkb_geom::code::{GEOMETRY_COLLECTION, MULTI_POINT, MULTI_POLYGON, POLYGON};
 
 /// How many coordinates, rings and singles some rows have.
 #[repr(C)]
-#[derive(Clone, Copy)]
+#[derive(Clone, Copy, Debug, PartialEq)]
 pub struct Totals {
     pub coordinates: u64,
     pub rings: u64,

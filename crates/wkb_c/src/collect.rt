@@ -4,11 +4,11 @@ ghost use Rattle.std.specs.Prelude.{◌≡◌, ◌≢◌, ◌⊎◌, ◌↔◌, 
 ghost use Rattle.std.specs.Prelude.{IfSome, IfOk, IfErr};
 ghost use Rattle.wkb_check.specs.Public.{DescribesFrontWithin, member_room};
 ghost use Rattle.wkb_sink.specs.Blocks.{LaysAt};
-ghost use Rattle.wkb_abi.specs.Classes.{IsRefusalStatus, IsNoRefusal, TellsOfRow};
+ghost use Rattle.wkb_abi.specs.Classes.{IsRefusalStatus, IsNoRefusal, IsRowStatus, TellsOfRow};
 ghost use Rattle.wkb_c.specs.Collections.{collect_asked, IsAsked, part_of, TakesMember, front_of, IsUnwanted, IsUnfit};
 ghost use Rattle.wkb_c.specs.Collections.{IsFirstUnfit, IsFirstUnfitFor, WritesMember, WritesMembers, AreMeasured};
 ghost use Rattle.wkb_c.specs.Collections.{IsWhole, IsCollected, IsStatusOfCollecting};
-ghost use Rattle.wkb_abi.specs.Columns.{Reach};
+ghost use Rattle.wkb_abi.specs.Columns.{Reach, IsRow, LacksRow};
 ghost use Rattle.wkb_abi.specs.Room.{IsWritten, FindsNoRoom};
 ghost use Rattle.wkb_abi.specs.RowItems.{RowHas};
 ghost use Rattle.wkb_abi.specs.Statuses.{IsFaultWithin};
@@ -79,6 +79,32 @@ impl CollectTarget {
     }
 }
 
+/// The bytes of row i, as `Column::row` returns them.
+///
+/// It isn't inlined, so that the loop over the rows keeps nothing of the column on the stack.
+#[inline(never)]
+fn row_of<'a>(column: &Column<'a>, i: usize, reach: &mut u64) -> Result<&'a [u8], u32>
+    requires small { i < 2 ^ 63 }
+    requires before { Reach column.now i reach.old }
+    ensures reach { Reach column.now (i + 1) reach.new }
+    ensures row { IfOk result (λ row. IsRow column.now i row.now) }
+    ensures none { IfErr result (λ status. LacksRow column.now i status) }
+    ensures known { IfErr result IsRowStatus }
+{
+    column.row(i, reach)
+}
+
+/// The geometry at the start of a row that is to be a member, if the check's short way finds it.
+///
+/// It isn't inlined, so that what takes the long way doesn't lie above its frame.
+#[tactic(auto, using(crate::proofs::Gathering::plain_inside))]
+#[inline(never)]
+fn plain_member(row: &[u8]) -> Option<Summary>
+    ensures { IfSome result (λ found. DescribesFrontWithin member_room row.now found) }
+{
+    check_plain(row)
+}
+
 /// The geometry at the start of a row that is to be a member; or the status of the one refusal, and its numbers.
 #[inline(never)]
 fn check_member_row(row: &[u8], fault: &mut WkbFault) -> Result<Summary, u32>
@@ -123,7 +149,6 @@ fn write_found(
 
 /// Writes the encoding of row i's geometry as a member, if there is room, and returns its length; or the status and the
 /// fault of a row that is no member.
-#[tactic(auto, using(crate::proofs::Gathering::plain_inside))]
 fn write_row(
     column: &Column,
     i: usize,
@@ -142,11 +167,11 @@ fn write_row(
     ensures kept { IfOk result (λ _. fault.new ≡ fault.old) }
     ensures lacks_kept { IfErr result (λ status. IsNoRefusal status → fault.new ≡ fault.old) }
 {
-    let row = match column.row(i, reach) {
+    let row = match row_of(column, i, reach) {
         Ok(row) => row,
         Err(status) => return Err(status),
     };
-    if let Some(plain) = check_plain(row) {
+    if let Some(plain) = plain_member(row) {
         return write_found(row, &plain, target, out, fault);
     }
     match check_member_row(row, fault) {
@@ -206,6 +231,8 @@ fn write_collected(
     inside: u64,
     out: &mut [u8],
     size: &mut u64,
+    fault: &mut WkbFault,
+    row: &mut u64,
 ) -> u32
     requires few { rows < 2 ^ 32 }
     requires measured { AreMeasured column.now target.now rows inside }
@@ -216,6 +243,8 @@ fn write_collected(
     ensures bound { size.new ≤ length column.now.bytes.now + 13 }
     ensures known { (result ≡ OK) ⊎ (result ≡ NO_ROOM) }
     ensures out_kept { result ≢ OK → out.new ≡ out.old }
+    ensures fault_kept { fault.new ≡ fault.old }
+    ensures row_kept { row.new ≡ row.old }
 {
     let mut front = [0; MAX_FRONT_SIZE];
     let start = target.lay_front(rows as u32, &mut front);
@@ -230,9 +259,7 @@ fn write_collected(
         kind: GEOMETRY_COLLECTION,
         ..*target
     };
-    let mut fault = NO_FAULT;
-    let mut row = 0;
-    match write_members(column, rows, &any, &mut out[start..], &mut fault, &mut row) {
+    match write_members(column, rows, &any, &mut out[start..], fault, row) {
         Ok(_inside) => OK,
         Err(_status) => unreachable!(),
     }
@@ -284,7 +311,7 @@ pub extern "C" fn wkb_raw_collect(
     }
     // Without room the members are only checked and measured.
     match write_members(column, rows, &target, &mut [], fault, row) {
-        Ok(inside) => write_collected(column, rows, &target, inside, out, size),
+        Ok(inside) => write_collected(column, rows, &target, inside, out, size, fault, row),
         Err(status) => status,
     }
 }

@@ -1,4 +1,4 @@
-use Rattle.std.proofs.Common.{length, refl, sym, ◌∙◌, arith}
+use Rattle.std.proofs.Common.{length, length-set, set, refl, sym, ◌∙◌, arith}
 use Rattle.wkb_geom.specs.declared.common.Dimension.TheVariants.{Xy}
 use Rattle.wkb_geom.specs.declared.common.Endianness.TheVariants.{BigEndian}
 use Rattle.wkb_check.proofs.Placing.{geometry_inside, onward, leaf_inside, rings_inside, members_inside, rings_alone}
@@ -43,6 +43,7 @@ lay_rings-requires-clause-room t c =
     omega (
       arith,
       h.room,
+      length-set c.loop.parts c.loop.at.index c.of.result,
       inside_many (rings_inside c.args.buf.now c.loop.at.byte h.geometry c.of_geometry-piece.result
           (c.of_geometry-piece.ensures h.geometry) c.end.result c.end.ensures c.if-piece-eq-POLYGON.true),
     )
@@ -58,18 +59,30 @@ lay_geometries-requires t c =
     c.end.result c.end.ensures (sym c.has_coordinates.ensures ∙ c.if-has_coordinates.false)
     c.if-piece-eq-POLYGON.false BigEndian Xy in (
       omega (arith, c.decreases, l.onward, inside.inside, onward _ _ _ c.of_geometry-piece.result inside),
-      record { more = h.geometry.rest; all = m.all; fit = omega (arith, h.room, inside_many m) },
+      record { more = h.geometry.rest; all = m.all; fit = omega (arith, h.room, inside_many m, length-set c.loop.parts c.loop.at.index c.of.result) },
     )
 
 pub offset_bounds-parts-at : goal.offset_bounds-parts-at
 offset_bounds-parts-at t c =
     let h = here (c.loop.invariant _ c.requires.fit.all) (omega (arith, c.loop-test.true)) c.requires.fit.fit in
-    omega (arith, h.room, h.some, c.loop.auto.parts, c.if-has_coordinates.auto.parts)
+    omega (arith, h.room, h.some, c.loop.auto.parts)
 
 pub bounds-parts-at : goal.bounds-parts-at
 bounds-parts-at t c =
     let h = here (c.loop.invariant _ c.requires.fit.all) (omega (arith, c.loop-test.true)) c.requires.fit.fit in
-    omega (arith, h.room, h.some, c.loop.auto.parts, c.if-has_coordinates.auto.parts)
+    omega (arith, h.room, h.some, c.loop.auto.parts)
+
+pub end_part-requires : goal.end_part-requires
+end_part-requires t c =
+    let h = here (c.loop.invariant _ c.requires.fit.all) (omega (arith, c.loop-test.true)) c.requires.fit.fit in
+    omega (
+      arith,
+      h.room,
+      h.some,
+      c.loop.auto.parts,
+      c.if-has_coordinates.auto.parts,
+      length-set c.loop.parts c.loop.at.index c.of.result,
+    )
 
 pub loop-preserved : goal.loop-preserved
 loop-preserved t c = λ more all.
@@ -79,7 +92,7 @@ loop-preserved t c = λ more all.
     let buf = c.args.buf.now in
     let at = c.loop.at in
     let is = c.of_geometry-piece.ensures g in
-    let inside : LaysInside c.loop.parts c.if-has_coordinates.parts at.index c.end.result c.if-has_coordinates.next
+    let inside : LaysInside (set c.loop.parts at.index c.of.result) c.if-has_coordinates.parts at.index c.end.result c.if-has_coordinates.next
     (inner g.spelled g.value) (length (subjects g.spelled g.value)) = elim c.if-has_coordinates.branch [
       | then-has_coordinates w ↦
           let r = rings_alone (leaf_inside buf at.byte g _ is c.end.result c.end.ensures
@@ -97,7 +110,7 @@ loop-preserved t c = λ more all.
           rw (w.parts-is, w.next-is, i.are)
           (record { laid = lays.laid; index_is = omega (arith, lays.index, inside_many i); byte_is = lays.byte })
     ] in
-    item_laid buf at.byte g _ is c.end.ensures inside c.of.result c.of.ensures)
+    item_laid buf at.byte g _ is c.end.ensures c.of.result c.of.ensures inside c.end_part.ensures)
 
 pub returns : goal.returns
 returns t c = λ more all.
