@@ -1,7 +1,10 @@
 //! Prints how long calls take over 1,000 geometries of a shape, the shortest of many rounds, as rows of docs/SPEED.md.
-use porchsorrel_wkb::columns::{
-    bounds, check, encode_point, write_into, Dimension, Form, Kind, Levels, Options, Order, Reader,
-};
+use porchsorrel_wkb::canon::canonical_into;
+use porchsorrel_wkb::check::{bounds, check};
+use porchsorrel_wkb::geom::{GeometryTrait, GeometryType, PointTrait};
+use porchsorrel_wkb::reader::read_wkb;
+use porchsorrel_wkb::writer::{Form, WriteOptions};
+use porchsorrel_wkb::Endianness;
 use std::time::Instant;
 
 const ROUNDS: usize = 300;
@@ -19,30 +22,37 @@ fn time(inputs: &[Vec<u8>], mut call: impl FnMut(&[u8]) -> f64) -> f64 {
 }
 
 /// Line strings of so many coordinates, or points.
-fn shape(coordinates: usize) -> Vec<Vec<u8>> {
-    let words = |i: usize| (0..2 * coordinates).map(|j| (i * 37 + j) as f64).collect::<Vec<f64>>();
-    let options = Options::default();
-    let line = |words: &[f64]| {
-        let ring_ends = [coordinates as u64];
-        let levels = Levels { words, ring_ends: Some(&ring_ends), ..Levels::default() };
-        levels.encode(Kind::LineString, Dimension::Xy, &options).data
+fn shape(coordinates: u32) -> Vec<Vec<u8>> {
+    let words = |i: u32| (0..2 * coordinates).flat_map(move |j| f64::from(i * 37 + j).to_le_bytes());
+    let front = if coordinates == 1 {
+        vec![1, 1, 0, 0, 0]
+    } else {
+        [&[1, 2, 0, 0, 0][..], &coordinates.to_le_bytes()].concat()
     };
-    let make = |i| if coordinates == 1 { encode_point(&words(i), Dimension::Xy, &options) } else { line(&words(i)) };
-    (0..1000).map(make).collect()
+    (0..1000).map(|i| front.iter().copied().chain(words(i)).collect()).collect()
+}
+
+fn sum(input: &[u8]) -> f64 {
+    let wkb = read_wkb(input).expect("a geometry");
+    match wkb.as_type() {
+        GeometryType::Point(point) => point.coord().map_or(0.0, |it| it.x() + it.y()),
+        GeometryType::LineString(line) => line.coords().map(|it| it.x() + it.y()).sum(),
+        _ => 0.0,
+    }
 }
 
 fn main() {
     println!("| ns a geometry, from Rust |   check |  bounds | read, sum |   write |");
     println!("|--------------------------|--------:|--------:|----------:|--------:|");
-    let options = Options { order: Order::BigEndian, form: Form::Iso };
+    let options = WriteOptions { endianness: Endianness::BigEndian, form: Form::Iso };
     for (name, coordinates) in [("point", 1), ("line of 10", 10), ("line of 100", 100)] {
         let inputs = shape(coordinates);
-        let (mut reader, mut out) = (Reader::default(), Vec::new());
-        let checked = time(&inputs, |input| check(input).expect("a geometry").size as f64);
-        let bounded = time(&inputs, |input| bounds(input).expect("a geometry").x.greatest);
-        let summed = time(&inputs, |input| reader.read(input).expect("a geometry").whole().words().sum());
+        let checked = time(&inputs, |input| check(input).expect("a geometry").bytes as f64);
+        let bounded = time(&inputs, |input| bounds(input).expect("a geometry").x.max());
+        let summed = time(&inputs, sum);
+        let mut out = Vec::new();
         let written = time(&inputs, |input| {
-            write_into(input, &options, &mut out).expect("a geometry");
+            canonical_into(input, &options, &mut out).expect("a geometry");
             out.len() as f64
         });
         println!("| {name:<24} | {checked:>7.1} | {bounded:>7.1} | {summed:>9.1} | {written:>7.1} |");

@@ -1,9 +1,5 @@
 // SPDX-License-Identifier: MIT OR Apache-2.0
-//! Well-Known Binary: the reader, the writer and the canonical form, by the code of formally verified sources.
-//!
-//! `tools/erase` makes the modules of this crate of proved sources, by leaving out what only the prover reads. So no
-//! call panics on any bytes, and each returns what its contract says (docs/PROMISES.md), provided that rustc and `rt`,
-//! a page of allocation and number formats, mean what Rattle and its std do: that is tested, not proved.
+#![doc = include_str!("../README.md")]
 #![cfg_attr(not(calls), forbid(unsafe_code))]
 #![no_std]
 
@@ -14,8 +10,13 @@ extern crate alloc;
 #[cfg(feature = "std")]
 extern crate std;
 
+pub mod canon;
 pub mod columns;
+pub mod reader;
+mod refused;
 mod rt;
+mod views;
+pub mod writer;
 
 mod wkb;
 mod wkb_abi;
@@ -34,7 +35,129 @@ mod wkb_write;
 #[cfg(not(feature = "std"))]
 pub use rt::io;
 pub use rt::{AllocError, TryClone};
-pub use wkb::*;
+pub use wkb::Endianness;
+
+/// The check: whether a geometry is at the start of some bytes, what it is and where it ends, and its bounds. Nothing is
+/// allocated.
+///
+/// ```
+/// use porchsorrel_wkb::check::{bounds, check, Cause};
+///
+/// // A collection of two points, the second of which is cut off after its x: 13 bytes of 21.
+/// let mut input = b"\x01\x07\0\0\0\x02\0\0\0".to_vec();
+/// input.extend(b"\x01\x01\0\0\0\0\0\0\0\0\0\xf0\x3f\0\0\0\0\0\0\0\x40");
+/// input.extend(b"\x01\x01\0\0\0\0\0\0\0\0\0\x08\x40");
+/// let why = check(&input).unwrap_err();
+/// assert_eq!((why.part, why.offset, why.ends()), (2, 30, Some((21, 13))));
+/// assert_eq!(why.to_string(), "the input ends inside a point, at byte 30 (part 2): it needs 21 bytes and has 13");
+///
+/// input.extend([0; 8]);
+/// let found = check(&input)?;
+/// assert_eq!((found.bytes, found.parts, found.coordinates, found.srid), (51, 3, 2, None));
+/// assert_eq!((bounds(&input)?.x.max(), bounds(&input)?.y.min()), (3.0, 0.0));
+/// # Ok::<(), Box<dyn std::error::Error>>(())
+/// ```
+pub mod check {
+    pub use crate::wkb::check::*;
+}
+
+/// A walk over all coordinates of a geometry of any kind, at every level and in order. It takes no memory.
+///
+/// ```
+/// use porchsorrel_wkb::coordinates::{visit_coordinates, Visitor};
+/// use porchsorrel_wkb::geom::CoordTrait;
+/// use porchsorrel_wkb::reader::read_wkb;
+/// use porchsorrel_wkb::AllocError;
+///
+/// struct Xs(Vec<f64>);
+///
+/// impl Visitor for Xs {
+///     fn visit<C: CoordTrait>(&mut self, coord: &C) -> Result<(), AllocError> {
+///         self.0.try_reserve(1).map_err(|_| AllocError)?;
+///         self.0.push(f64::from_bits(coord.x()));
+///         Ok(())
+///     }
+/// }
+///
+/// let mut xs = Xs(vec![]);
+/// visit_coordinates(&mut xs, &read_wkb(b"\x01\x01\0\0\0\0\0\0\0\0\0\xf0\x3f\0\0\0\0\0\0\0\x40")?)?;
+/// assert_eq!(xs.0, [1.0]);
+/// # Ok::<(), porchsorrel_wkb::error::WkbError>(())
+/// ```
+pub mod coordinates {
+    pub use crate::wkb::coordinates::*;
+}
+
+/// Why a geometry is not read or not written.
+///
+/// ```
+/// use porchsorrel_wkb::error::WkbError;
+/// use porchsorrel_wkb::reader::read_wkb;
+///
+/// match read_wkb(&[1, 1, 0, 0, 0]) {
+///     Err(WkbError::General(why)) => println!("rejected: {why}"),
+///     Err(WkbError::Memory(_)) => println!("try again later"),
+///     other => println!("{other:?}"),
+/// }
+/// ```
+pub mod error {
+    pub use crate::wkb::error::*;
+}
+
+/// The traits that geometries of one's own implement, as views do; types that have them over words that are lent; and
+/// the number that a word stands for.
+///
+/// ```
+/// use porchsorrel_wkb::geom::{CoordTrait, Dimensioned, Dimensions, PointTrait};
+/// use porchsorrel_wkb::writer::{write_point, WriteOptions};
+///
+/// /// A place of one's own.
+/// #[derive(Clone, Copy)]
+/// struct Place {
+///     longitude: f64,
+///     latitude: f64,
+/// }
+///
+/// impl Dimensioned for Place {
+///     fn dim(&self) -> Dimensions {
+///         Dimensions::Xy
+///     }
+/// }
+///
+/// impl CoordTrait for Place {
+///     fn nth(&self, n: usize) -> Option<u64> {
+///         [self.longitude, self.latitude].get(n).map(|it| it.to_bits())
+///     }
+///     fn at(&self, n: usize) -> u64 {
+///         [self.longitude, self.latitude][n].to_bits()
+///     }
+///     fn x(&self) -> u64 {
+///         self.at(0)
+///     }
+///     fn y(&self) -> u64 {
+///         self.at(1)
+///     }
+///     fn x_y(&self) -> (u64, u64) {
+///         (self.x(), self.y())
+///     }
+/// }
+///
+/// impl PointTrait for Place {
+///     type CoordType = Place;
+///
+///     fn coord(&self) -> Option<Place> {
+///         Some(*self)
+///     }
+/// }
+///
+/// let mut out = Vec::new();
+/// write_point(&mut out, &Place { longitude: 1.0, latitude: 2.0 }, &WriteOptions::default())?;
+/// assert_eq!(out, b"\x01\x01\0\0\0\0\0\0\0\0\0\xf0\x3f\0\0\0\0\0\0\0\x40");
+/// # Ok::<(), porchsorrel_wkb::error::WkbError>(())
+/// ```
+pub mod geom {
+    pub use crate::wkb::geom::*;
+}
 
 /// What the calls of C take and return.
 #[cfg(calls)]
@@ -55,8 +178,3 @@ mod raw {
 #[cfg(calls)]
 #[path = "../calls.rs"]
 mod calls;
-
-/// The example of the README.
-#[cfg(doctest)]
-#[doc = include_str!("../README.md")]
-mod readme {}

@@ -143,6 +143,7 @@ pub mod io {
         UnexpectedEof,
         WriteZero,
         OutOfMemory,
+        Interrupted,
         Other,
     }
 
@@ -169,6 +170,7 @@ pub mod io {
                 ErrorKind::UnexpectedEof => "unexpected end of file",
                 ErrorKind::WriteZero => "write zero",
                 ErrorKind::OutOfMemory => "out of memory",
+                ErrorKind::Interrupted => "operation interrupted",
                 ErrorKind::Other => "other error",
             })
         }

@@ -1,22 +1,136 @@
-//! What the calls have beside the answers of lasting.rs: texts, statuses, what outputs keep, and rows that are refused.
-use porchsorrel_wkb::columns::*;
+// SPDX-License-Identifier: MIT OR Apache-2.0
+//! What users meet first: a program in the manner of the crate `wkb`, errors and their texts, and iterators of views.
+use porchsorrel_wkb::canon::{canonical, same};
+use porchsorrel_wkb::check::{bounds, check, Refused, WkbType};
+use porchsorrel_wkb::columns::{NotCollected, Status};
+use porchsorrel_wkb::error::{General, Overflow, WkbError};
+use porchsorrel_wkb::geom::{CoordTrait, GeometryTrait, GeometryType, LineStringTrait, PointTrait};
+use porchsorrel_wkb::reader::{read_wkb, Dimension, Wkb};
+use porchsorrel_wkb::writer::{geometry_wkb_size, write_geometry, write_point, WriteOptions};
+use porchsorrel_wkb::{AllocError, Endianness};
 
 const POINT: &[u8] = b"\x01\x01\0\0\0\0\0\0\0\0\0\xf0\x3f\0\0\0\0\0\0\0\x40";
 
+/// A program for the crate `wkb` 0.9, with the names of this one: it reads a point, prints it, and writes it in the
+/// other order, into a vector and into a slice.
+#[cfg(feature = "std")]
 #[test]
-fn refused() {
-    let refused = check(b"\x01\x08\0\0\0").unwrap_err();
-    let curve = "unknown geometry type code 8, a circular string, which this library does not read, at byte 0 (part 0)";
-    assert_eq!(refused.to_string(), curve);
-    assert_eq!((refused.code, check(b"\x01\0\0\0\0").unwrap_err().code), (Some(8), Some(0)));
-    let of_first = same(&[2], POINT).unwrap_err().to_string();
-    let of_second = same(POINT, &[2]).unwrap_err().to_string();
-    assert!(of_first.starts_with("the first input: a byte order is neither 0 nor 1"), "{of_first}");
-    assert!(of_second.starts_with("the second input: a byte order is neither 0 nor 1"), "{of_second}");
+fn a_program_for_upstream() -> Result<(), Box<dyn std::error::Error>> {
+    let wkb: Wkb = read_wkb(POINT)?;
+    let mut printed = String::new();
+    if let GeometryType::Point(point) = wkb.as_type() {
+        let coord = point.coord().unwrap();
+        printed = format!("POINT ({} {}), {:?}, {:?}", coord.x(), coord.y(), wkb.dimension(), wkb.geometry_type());
+        let mut output = Vec::new();
+        write_point(&mut output, point, &WriteOptions { endianness: Endianness::LittleEndian, ..Default::default() })?;
+        assert_eq!(output, POINT);
+    }
+    assert_eq!(printed, "POINT (1 2), Xy, Point");
+    let options = WriteOptions { endianness: Endianness::BigEndian, ..Default::default() };
+    let mut output: Vec<u8> = Vec::with_capacity(geometry_wkb_size(&wkb)?);
+    write_geometry(&mut output, &wkb, &options)?;
+    assert_eq!(output, b"\0\0\0\0\x01\x3f\xf0\0\0\0\0\0\0\x40\0\0\0\0\0\0\0");
+    let mut slice = [0; 21];
+    write_geometry(&mut &mut slice[..], &wkb, &options)?;
+    assert_eq!(slice[..], output);
+    let full = write_geometry(&mut &mut slice[..20], &wkb, &options).unwrap_err();
+    assert!(matches!(full, WkbError::IOError(why) if why.kind() == std::io::ErrorKind::WriteZero));
+    match read_wkb(&output[..20]) {
+        Ok(_) => panic!("a point without its end"),
+        Err(why) => println!("{why}"),
+    }
+    Ok(())
+}
+
+/// A writer that is interrupted before each write, and then takes one byte.
+#[cfg(feature = "std")]
+#[test]
+fn interrupted_writes_are_tried_again() {
+    struct Slow(Vec<u8>, bool);
+    impl std::io::Write for Slow {
+        fn write(&mut self, bytes: &[u8]) -> std::io::Result<usize> {
+            self.1 = !self.1;
+            if self.1 {
+                return Err(std::io::ErrorKind::Interrupted.into());
+            }
+            self.0.push(bytes[0]);
+            Ok(1)
+        }
+        fn flush(&mut self) -> std::io::Result<()> {
+            Ok(())
+        }
+    }
+    let mut slow = Slow(vec![], false);
+    write_geometry(&mut slow, &read_wkb(POINT).unwrap(), &WriteOptions::default()).unwrap();
+    assert_eq!(slow.0, POINT);
+}
+
+/// Each public error can be passed on, whatever the program does with errors.
+#[cfg(feature = "std")]
+#[test]
+fn errors_are_errors() {
+    fn is_error<E: std::error::Error + Send + Sync + 'static>() {}
+    is_error::<WkbError>();
+    is_error::<General>();
+    is_error::<Overflow>();
+    is_error::<AllocError>();
+    is_error::<Refused>();
+    is_error::<NotCollected>();
+    fn all(bytes: &[u8]) -> Result<(), Box<dyn std::error::Error>> {
+        check(bytes)?;
+        bounds(bytes)?;
+        canonical(bytes, &WriteOptions::default())?;
+        same(bytes, bytes)?;
+        read_wkb(bytes)?;
+        Ok(())
+    }
+    all(POINT).unwrap();
+    let text = "the input ends inside a point, at byte 0 (part 0): it needs 21 bytes and has 20";
+    assert_eq!(all(&POINT[..20]).unwrap_err().to_string(), text);
+    fn as_read(bytes: &[u8]) -> Result<WkbType, WkbError> {
+        Ok(check(bytes)?.wkb_type)
+    }
+    assert_eq!(as_read(POINT).unwrap(), WkbType::Point(Dimension::Xy));
+    assert_eq!(as_read(b"\x02").unwrap_err().to_string(), read_wkb(b"\x02").unwrap_err().to_string());
+}
+
+/// The texts of rejections are those of c/test/dump.cases, but for blobs of a GeoPackage.
+#[test]
+fn texts_of_rejections() {
+    let (mut input, mut count) = (vec![], 0);
+    for line in include_str!("../../c/test/dump.cases").lines() {
+        if let Some(case) = line.strip_prefix("> ") {
+            let digits: String = case.split(' ').skip(3).collect();
+            let digits = digits.trim_start_matches("0x").trim_start_matches("\\x");
+            let byte = |i| u8::from_str_radix(&digits[i..i + 2], 16).unwrap();
+            input = (0..digits.len()).step_by(2).map(byte).collect();
+        } else if let Some(text) = line.trim_start().strip_prefix("refused: ").filter(|_| !input.starts_with(b"GP")) {
+            assert_eq!(Some(&*check(&input).unwrap_err().to_string()), text.split("; ").next(), "{input:x?}");
+            count += 1;
+        }
+    }
+    assert!(count >= 30, "{count} texts");
+}
+
+/// What the reader says is what the crate `wkb` says.
+#[test]
+fn texts_of_the_reader() {
+    let text = |bytes: &[u8]| read_wkb(bytes).unwrap_err().to_string();
+    assert_eq!(text(&[1]), "unexpected end of file");
+    assert_eq!(text(&[2]), "General error: Invalid byte order");
+    assert_eq!(text(&[1, 8, 0, 0, 0]), "General error: WKB type code out of range. Got: 8");
+    let deep: Vec<u8> = [1, 7, 0, 0, 0, 1, 0, 0, 0].repeat(129);
+    assert_eq!(text(&deep), "WKB nesting depth exceeds the maximum of 128");
+    let short = "Invalid buffer length for Point: geometry would end at byte 21, but buffer length is 5.";
+    assert_eq!(text(&[1, 1, 0, 0, 0]), format!("General error: {short}"));
+    assert_eq!(
+        text(&[1, 4, 0, 0, 0, 1, 0, 0, 0, 1, 2, 0, 0, 0, 0, 0, 0, 0, 0, 0, 0, 0, 0, 0, 0, 0, 0, 0, 0, 0]),
+        "Incorrect type passed to operation: multi geometry member"
+    );
 }
 
 #[test]
-fn classes() {
+fn classes_of_statuses() {
     assert!(Status::OK.is_ok() && !Status::OK.is_refusal());
     assert!(!Status::BAD_LEVELS.is_refusal() && Status::SHORT_HEADER.is_refusal());
     let short = [Status::SHORT_HEADER, Status::SHORT_POINT, Status::SHORT_LINE_STRING, Status::SHORT_MULTI_POINT];
@@ -25,18 +139,7 @@ fn classes() {
     assert!(!Status::INCORRECT_TYPE.is_short() && !Status::NESTING_DEPTH_EXCEEDED.is_short());
     assert!(!Status::OK.is_short() && !Status::NULL_ROW.is_short() && !Status::BAD_LEVELS.is_short());
     assert_eq!((Status::NULL_ROW.number(), Status::NULL_ROW.text()), (16, "the row is null"));
-}
-
-#[test]
-fn written_and_read_again() {
-    let (mut out, mut reader) = (vec![7; 3], Reader::default());
-    assert_eq!(reader.parts(), []);
-    write_into(POINT, &Options::default(), &mut out).unwrap();
-    assert_eq!((&out[..], reader.read(&out).unwrap().parts().len(), reader.parts().len()), (POINT, 1, 1));
-    assert!(write_into(&POINT[..9], &Options::default(), &mut out).is_err() && out.is_empty());
-    // What is after the geometry takes no memory.
-    let long = [POINT, &[0; 1 << 17]].concat();
-    assert!(write(&long, &Options::default()).unwrap().capacity() < 1 << 16);
+    assert_eq!(format!("{:>17}|{:?}", Status::NULL_ROW, Status::OK), "  the row is null|Status(0: ok)");
 }
 
 /// Each status of `c/wkb.h` is one of this crate, but those that no call of the crate returns.
@@ -54,27 +157,20 @@ fn statuses_are_those_of_the_header() {
     assert!(count >= 17, "{count} statuses");
 }
 
+/// Iterators go from both ends, and know how long they are; numbers have the bits of words.
 #[test]
-fn rows_that_are_no_members() {
-    let options = Options::default();
-    let collect = |column: Column, kind, dimension| column.collect(kind, dimension, &options);
-    let rows = Rows::of([Some(POINT), None, Some(&[])]);
-    let null = collect(rows.column(), Kind::MultiPoint, Dimension::Xy).unwrap_err();
-    assert_eq!((null, null.to_string()), (NotCollected::NullRow(1), "row 1: the row is null".to_string()));
-    let bad = collect(Column::binary(POINT, &[0, 21, 20]), Kind::MultiPoint, Dimension::Xy).unwrap_err();
-    assert_eq!((bad, bad.status()), (NotCollected::BadOffsets(1), Status::BAD_OFFSETS));
-    let cut = collect(Column::binary(POINT, &[0, 21, 21]), Kind::GeometryCollection, Dimension::Xy).unwrap_err();
-    assert_eq!(cut.to_string(), "row 1: the input ends inside a header or before a count, at byte 0 (part 0)");
-    let why = Refused { status: Status::INCORRECT_TYPE, part: 0, offset: 0, ends: None, code: None };
-    for (kind, dimension) in [(Kind::MultiLineString, Dimension::Xy), (Kind::MultiPoint, Dimension::Xyz)] {
-        let wrong = collect(rows.column(), kind, dimension).unwrap_err();
-        assert_eq!((wrong, wrong.status()), (NotCollected::Refused(0, why), Status::INCORRECT_TYPE));
-    }
-    assert_eq!(NotCollected::TooManyRows.to_string(), "there are more rows than a count of four bytes holds");
-}
-
-#[test]
-#[should_panic(expected = "members of a Polygon")]
-fn a_polygon_has_no_geometries_as_members() {
-    let _ = Column::binary(b"", &[]).collect(Kind::Polygon, Dimension::Xy, &Options::default());
+fn views() {
+    let mut line = b"\x01\xba\x0b\0\0\x03\0\0\0".to_vec();
+    line.extend((1..=12).flat_map(|it| f64::from(it).to_le_bytes()));
+    let wkb = read_wkb(&line).unwrap();
+    let line = match wkb.as_type() {
+        GeometryType::LineString(line) => line,
+        _ => panic!("no line string"),
+    };
+    let mut coords = line.coords();
+    assert_eq!((coords.len(), coords.next_back().map(|it| it.x_y())), (3, Some((9.0, 10.0))));
+    assert_eq!((coords.next().map(|it| it.x_y()), coords.len()), (Some((1.0, 2.0)), 1));
+    let coord = line.coord(1).unwrap();
+    assert_eq!([0, 1, 2, 3, 4].map(|n| coord.nth(n)), [Some(5.0), Some(6.0), Some(7.0), Some(8.0), None]);
+    assert_eq!([0, 3].map(|n| CoordTrait::nth(&coord, n)), [5.0, 8.0].map(|it: f64| Some(it.to_bits())));
 }

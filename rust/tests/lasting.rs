@@ -1,17 +1,26 @@
-//! The inputs of c/test/lasting.rows, whose answers are those of a model: one by one, and as a column with null rows.
+// SPDX-License-Identifier: MIT OR Apache-2.0
+//! The inputs of c/test/lasting.rows, whose answers are those of a model (`checks/library/lasting --help`): one by one,
+//! by each way of writing, and as a column with null rows.
+use porchsorrel_wkb::canon::{canonical, canonical_into, canonical_with_srid, same};
+use porchsorrel_wkb::check::{bounds, check, Bounds, Cause, Refused, Summary, WkbType};
 use porchsorrel_wkb::columns::*;
+use porchsorrel_wkb::error::General;
+use porchsorrel_wkb::geom::{GeometryTrait, GeometryType, PointTrait, PolygonTrait};
+use porchsorrel_wkb::reader::{read_wkb, Dimension, LineString, LinearRing, Point, Polygon, Wkb};
+use porchsorrel_wkb::writer::{to_vec, write_geometry, write_to_slice, Form, Out, SliceSink, VecSink, WriteOptions};
+use porchsorrel_wkb::Endianness;
 
-const KINDS: [Kind; 7] = [
-    Kind::Point,
-    Kind::LineString,
-    Kind::Polygon,
-    Kind::MultiPoint,
-    Kind::MultiLineString,
-    Kind::MultiPolygon,
-    Kind::GeometryCollection,
+const TYPES: [fn(Dimension) -> WkbType; 7] = [
+    WkbType::Point,
+    WkbType::LineString,
+    WkbType::Polygon,
+    WkbType::MultiPoint,
+    WkbType::MultiLineString,
+    WkbType::MultiPolygon,
+    WkbType::GeometryCollection,
 ];
 const DIMENSIONS: [Dimension; 4] = [Dimension::Xy, Dimension::Xyz, Dimension::Xym, Dimension::Xyzm];
-const ORDERS: [Order; 2] = [Order::BigEndian, Order::LittleEndian];
+const ORDERS: [Endianness; 2] = [Endianness::BigEndian, Endianness::LittleEndian];
 
 /// An input, and the numbers of its answer: its status, what is found or the fault, and sums of what is written under
 /// each option, of the bounds, of the parts and of the levels.
@@ -36,44 +45,42 @@ fn row(line: &str) -> Row {
 fn rows() -> Vec<Row> {
     let lines = include_str!("../../c/test/lasting.rows").lines();
     let rows: Vec<Row> = lines.filter(|it| !it.starts_with('#')).map(row).collect();
-    assert!(rows.iter().filter(|it| it.sums.len() >= 11).count() > 1000);
+    assert_eq!(rows.iter().filter(|it| it.sums.len() >= 11).count(), 1574);
     rows
 }
 
 impl Row {
-    fn found(&self) -> Found {
+    fn found(&self) -> Summary {
         let of = |i: usize| self.fields[i] as usize;
-        Found {
-            size: of(0),
+        Summary {
+            bytes: of(0),
             parts: of(1),
             coordinates: of(2),
-            offset: of(3),
-            count: of(4),
             srid: (of(6) == 1).then_some(of(5) as u32),
-            kind: KINDS[of(7) - 1],
-            dimension: DIMENSIONS[of(8)],
+            wkb_type: TYPES[of(7) - 1](DIMENSIONS[of(8)]),
             order: ORDERS[of(10)],
         }
     }
 
     /// The options of a sum.
-    fn options(&self, number: usize) -> Options {
-        let form = match (number % 4, self.found().srid) {
-            (0, _) => Form::Iso,
-            (1, Some(srid)) => Form::EwkbWithSrid(srid),
-            (2, _) => Form::EwkbWithSrid(4326),
-            _ => Form::EwkbWithoutSrid,
+    fn options(&self, number: usize) -> WriteOptions {
+        let form = match number % 4 {
+            0 => Form::Iso,
+            1 => Form::Ewkb { srid: self.found().srid },
+            2 => Form::Ewkb { srid: Some(4326) },
+            _ => Form::Ewkb { srid: None },
         };
-        Options { order: ORDERS[number / 4], form }
+        WriteOptions { endianness: ORDERS[number / 4], form }
     }
 
     fn has_refused(&self, why: &Refused) -> bool {
-        let ends = (self.status >= 48).then(|| (self.fields[2], self.fields[3]));
-        let code = (self.status == 34).then(|| self.fields[4] as u32);
-        let place = (why.part, why.offset as u64);
-        why.status.number() == self.status
-            && place == (self.fields[0], self.fields[1])
-            && (why.ends, why.code) == (ends, code)
+        let code = match why.cause {
+            Cause::General(General::CodeOutOfRange(code)) => code,
+            _ => 0,
+        };
+        let (end, len) = why.ends().unwrap_or_default();
+        let fields = [why.part as u64, why.offset as u64, end, len as u64, code.into()];
+        (why.status().number(), why.ends().is_some(), &fields[..]) == (self.status, self.status >= 48, &self.fields)
     }
 }
 
@@ -84,138 +91,174 @@ fn summed(bytes: &[u8]) -> u32 {
 
 fn sum_of(bounds: &Bounds) -> u32 {
     let ranges = [bounds.x, bounds.y, bounds.z, bounds.m];
-    summed(
-        &ranges.map(|it| [it.least.to_le_bytes(), it.greatest.to_le_bytes(), it.count.to_le_bytes()].concat()).concat(),
-    )
+    summed(&ranges.map(|it| [it.min().to_bits(), it.max().to_bits(), it.count].map(u64::to_le_bytes).concat()).concat())
 }
 
-fn sum_of_parts(parts: &[Part]) -> u32 {
-    let entry = |it: &Part| {
-        let (srid, has_srid) = (it.srid().unwrap_or(0), u32::from(it.srid().is_some()));
-        let places = [it.bytes().start, it.bytes().end, it.offset(), it.count(), it.next()].map(|it| it as u64);
-        let (kind, dimension, width) = (it.kind() as u32, it.dimension() as u32, it.dimension().width() as u32);
-        let numbers = [srid, has_srid, kind, dimension, width, it.order() as u32];
-        [places.map(u64::to_le_bytes).concat(), numbers.map(u32::to_le_bytes).concat()].concat()
-    };
-    summed(&parts.iter().flat_map(entry).collect::<Vec<u8>>())
+fn coordinates(input: &[u8], dimension: Dimension) -> Coordinates {
+    Rows::of([Some(input)]).unwrap().column().coordinates(dimension).unwrap()
 }
 
 fn sum_of_levels(input: &[u8]) -> u32 {
-    let under = DIMENSIONS.map(|it| Rows::of([Some(input)]).column().coordinates(it));
+    let under = DIMENSIONS.map(|it| coordinates(input, it));
     let words = under.iter().flat_map(|it| it.words.iter().map(|it| it.to_bits()));
     let ends = under[0].ring_ends.iter().chain(&under[0].single_ends).copied();
     summed(&words.chain(ends).flat_map(u64::to_le_bytes).collect::<Vec<u8>>())
 }
 
+/// What is written of a view, by each sink.
+fn written(wkb: &Wkb<'_>, options: &WriteOptions) -> Vec<u8> {
+    let encoding = to_vec(wkb, options).unwrap();
+    let mut slice = vec![0; encoding.len()];
+    assert_eq!(write_to_slice(wkb, options, &mut slice).unwrap(), encoding.len());
+    let (mut memory, mut out, mut writer) = (VecSink::new(), Out::new(Vec::new()), Vec::new());
+    write_geometry(&mut memory, wkb, options).unwrap();
+    write_geometry(&mut out, wkb, options).unwrap();
+    write_geometry(&mut writer, wkb, options).unwrap();
+    let mut again = vec![0; encoding.len()];
+    write_geometry(&mut SliceSink::new(&mut again), wkb, options).unwrap();
+    assert_eq!([&slice, &memory.into_vec(), &out.into_inner(), &writer, &again], [&encoding; 5]);
+    encoding
+}
+
 /// The same geometry made of its coordinates, with the ends of all levels or of those that its kind needs.
-fn made_of_coordinates(it: &Row, whole: &[u8], options: &Options, has_all: bool) -> Vec<u8> {
-    let (kind, dimension) = (it.found().kind, it.found().dimension);
-    let mut out = Rows::of([Some(whole)]).column().coordinates(dimension);
-    let has_points = [Kind::Point, Kind::MultiPoint].contains(&kind);
+fn made_of_coordinates(it: &Row, options: &WriteOptions, has_all: bool) -> Vec<u8> {
+    let (found, dimension) = (it.found(), it.found().wkb_type.dimension());
+    let mut out = coordinates(&it.input[..found.bytes], dimension);
+    let kind = found.wkb_type.kind();
+    let has_points = [1, 4].contains(&kind);
     // Whatever NaNs an empty point has, those of one are written.
     if has_points {
         let points = out.words.chunks_mut(dimension.width());
         points.filter(|it| it.iter().all(|it| it.is_nan())).for_each(|it| it.fill(f64::from_bits(0x7ff8 << 48)));
     }
-    let has_rings = [Kind::Polygon, Kind::MultiPolygon].contains(&kind);
     let levels = Levels {
         words: &out.words,
         ring_ends: (has_all || !has_points).then_some(&out.ring_ends),
-        single_ends: (has_all || has_rings).then_some(&out.single_ends),
-        row_ends: (has_all || kind >= Kind::MultiPoint).then_some(&out.row_ends),
+        single_ends: (has_all || [3, 6].contains(&kind)).then_some(&out.single_ends),
+        row_ends: (has_all || kind >= 4).then_some(&out.row_ends),
     };
-    let made = levels.encode(kind, dimension, options);
+    let made = levels.encode(found.wkb_type, options).unwrap();
     assert_eq!(made.statuses, [Status::OK]);
     made.data
 }
 
-/// The same geometry made of its members.
-fn made_of_members(it: &Row, parts: &[Part], options: &Options) -> Vec<u8> {
-    let members = std::iter::successors(Some(1), |at| Some(parts[*at].next())).take(it.found().count);
-    let members = Rows::of(members.map(|at| Some(&it.input[parts[at].bytes()])));
-    members.column().collect(it.found().kind, it.found().dimension, options).unwrap()
-}
-
-/// Each part before its own members, as the table has them.
-fn preorder(view: View, found: &mut Vec<Part>) {
-    found.push(*view.part());
-    assert_eq!(view.members().size_hint(), (view.members().len(), Some(view.members().len())));
-    view.members().for_each(|it| preorder(it, found));
-}
-
-/// The views of a geometry are its parts, each with the words that its bytes have in a column.
-fn views_are_parts(input: &[u8], geometry: Geometry) {
-    let (parts, views, mut found) = (geometry.parts(), geometry.views(), vec![]);
-    assert_eq!(views.len(), parts.len());
-    assert!(views.zip(parts).all(|(view, part)| view.part() == part && view.bytes() == part.bytes()));
-    preorder(geometry.whole(), &mut found);
-    assert_eq!(found, parts);
-    let bits = |words: Vec<f64>| words.into_iter().map(f64::to_bits).collect::<Vec<_>>();
-    for view in geometry.views().filter(|it| (Kind::Point..=Kind::Polygon).contains(&it.kind())) {
-        let own = view.words().chain(view.members().flat_map(|it| it.words())).collect();
-        let rows = Rows::of([Some(&input[view.bytes()])]);
-        assert_eq!(bits(own), bits(rows.column().coordinates(view.dimension()).words));
+/// The bytes of its members, if it has geometries as members.
+fn members<'a>(wkb: &Wkb<'a>) -> Option<Vec<&'a [u8]>> {
+    match wkb.as_type() {
+        GeometryType::MultiPoint(all) => Some(all.points().map(|it| it.buf()).collect()),
+        GeometryType::MultiLineString(all) => Some(all.line_strings().map(|it| it.buf()).collect()),
+        GeometryType::MultiPolygon(all) => Some(all.polygons().map(Polygon::buf).collect()),
+        GeometryType::GeometryCollection(all) => Some(all.iter().map(Wkb::buf).collect()),
+        _ => None,
     }
+}
+
+fn walk_point(point: &Point<'_>, found: &mut Vec<f64>) {
+    let (x, y) = point.coord().map_or((f64::NAN, f64::NAN), |it| it.x_y());
+    found.extend([x, y]);
+}
+
+fn walk_line(line: &LineString<'_>, found: &mut Vec<f64>) {
+    found.extend(line.coords().flat_map(|it| [it.x(), it.y()]));
+}
+
+fn walk_polygon(polygon: &Polygon<'_>, found: &mut Vec<f64>) {
+    let mut walk = |ring: LinearRing<'_>| found.extend(ring.coords().flat_map(|it| [0, 1].map(|n| it.nth(n).unwrap())));
+    polygon.exterior().into_iter().for_each(&mut walk);
+    polygon.interiors().for_each(walk);
+}
+
+/// The numbers of all coordinates, by the iterators of views.
+fn walk(wkb: &Wkb<'_>, found: &mut Vec<f64>) {
+    match wkb.as_type() {
+        GeometryType::Point(it) => walk_point(it, found),
+        GeometryType::LineString(it) => walk_line(it, found),
+        GeometryType::Polygon(it) => walk_polygon(it, found),
+        GeometryType::MultiPoint(all) => all.points().for_each(|it| walk_point(&it, found)),
+        GeometryType::MultiLineString(all) => all.line_strings().for_each(|it| walk_line(&it, found)),
+        GeometryType::MultiPolygon(all) => all.polygons().for_each(|it| walk_polygon(it, found)),
+        GeometryType::GeometryCollection(all) => all.iter().for_each(|it| walk(it, found)),
+        _ => unreachable!("no view is another geometry"),
+    }
+}
+
+/// The bits of numbers, and one NaN for all.
+fn bits(words: &[f64]) -> Vec<u64> {
+    words.iter().map(|it| if it.is_nan() { f64::NAN.to_bits() } else { it.to_bits() }).collect()
+}
+
+fn refused(it: &Row) {
+    assert!(it.has_refused(&check(&it.input).unwrap_err()), "{:x?}", it.input);
+    assert!(it.has_refused(&bounds(&it.input).unwrap_err()), "{:x?}", it.input);
+    let text = read_wkb(&it.input).unwrap_err().to_string();
+    assert_eq!(text, Wkb::try_new(&it.input).unwrap_err().to_string());
+    assert_eq!(text, canonical(&it.input, &WriteOptions::default()).unwrap_err().to_string());
+    assert_eq!(text, same(&it.input, &[]).unwrap_err().to_string());
+    let mut out = vec![7];
+    assert_eq!(text, canonical_into(&it.input, &WriteOptions::default(), &mut out).unwrap_err().to_string());
+    assert!(out.is_empty());
+    // Inside a collection more a row may be nested too deep.
+    let (row, collection) = (Rows::of([Some(&it.input)]).unwrap(), WkbType::GeometryCollection(Dimension::Xy));
+    let why = row.column().collect(collection, &WriteOptions::default()).unwrap_err();
+    assert!(matches!(why, NotCollected::Refused(0, why) if it.has_refused(&why) || why.part > 126));
 }
 
 #[test]
 fn each_input() {
-    let mut reader = Reader::default();
+    let mut out = vec![];
     for it in rows() {
         if it.status != 0 {
-            assert!(it.has_refused(&check(&it.input).unwrap_err()), "{:x?}", it.input);
-            assert!(it.has_refused(&bounds(&it.input).unwrap_err()), "{:x?}", it.input);
-            assert!(it.has_refused(&write(&it.input, &Options::default()).unwrap_err()), "{:x?}", it.input);
-            assert!(it.has_refused(&reader.read(&it.input).unwrap_err()), "{:x?}", it.input);
-            assert!(reader.parts().is_empty(), "{:x?}", it.input);
-            // Inside a collection more a row may be nested too deep.
-            let row = Rows::of([Some(&it.input)]);
-            let why = row.column().collect(Kind::GeometryCollection, Dimension::Xy, &Options::default()).unwrap_err();
-            assert!(matches!(why, NotCollected::Refused(0, why) if it.has_refused(&why) || why.part > 126));
+            refused(&it);
             continue;
         }
-        let (found, size) = (it.found(), it.fields[0] as usize);
-        assert_eq!((check(&it.input), found.dimension.width() as u64), (Ok(found), it.fields[9]), "{:x?}", it.input);
+        let (found, wkb) = (it.found(), read_wkb(&it.input).unwrap().try_clone().unwrap());
+        assert_eq!(check(&it.input), Ok(found), "{:x?}", it.input);
+        assert_eq!((wkb.buf(), wkb.srid()), (&it.input[..found.bytes], found.srid));
         assert_eq!(sum_of(&bounds(&it.input).unwrap()), it.sums[8], "{:x?}", it.input);
-        let geometry = reader.read(&it.input).unwrap();
-        let parts = geometry.parts();
-        views_are_parts(&it.input, geometry);
-        assert_eq!((parts.len(), parts[0].next()), (found.parts, found.parts), "{:x?}", it.input);
-        assert_eq!([sum_of_parts(parts), sum_of_levels(&it.input)], it.sums[9..11], "{:x?}", it.input);
+        assert_eq!(sum_of_levels(&it.input), it.sums[10], "{:x?}", it.input);
+        let mut walked = vec![];
+        walk(&wkb, &mut walked);
+        assert_eq!(bits(&walked), bits(&coordinates(&it.input, Dimension::Xy).words), "{:x?}", it.input);
         for (i, sum) in it.sums[..8].iter().enumerate() {
-            let written = write(&it.input, &it.options(i)).unwrap();
-            assert_eq!(summed(&written), *sum, "{:x?} as {:?}", it.input, it.options(i));
-            assert_eq!(same(&it.input, &written), Ok(true), "{:x?}", it.input);
-            if found.kind >= Kind::MultiPoint {
-                let again = made_of_members(&it, parts, &it.options(i));
-                assert_eq!(summed(&again), *sum, "{:x?} as {:?}", it.input, it.options(i));
+            let options = it.options(i);
+            canonical_into(&it.input, &options, &mut out).unwrap();
+            let mut all = vec![canonical(&it.input, &options).unwrap(), written(&wkb, &options), out.clone()];
+            assert!(same(&it.input, &all[0]).unwrap(), "{:x?}", it.input);
+            if i % 4 == 1 {
+                all.push(canonical_with_srid(&it.input, options.endianness).unwrap());
             }
-            for has_all in [true, false].into_iter().filter(|_| found.kind < Kind::GeometryCollection) {
-                let again = made_of_coordinates(&it, &it.input[parts[0].bytes()], &it.options(i), has_all);
-                assert_eq!(summed(&again), *sum, "{:x?} as {:?}", it.input, it.options(i));
+            if let Some(members) = members(&wkb) {
+                let rows = Rows::of(members.into_iter().map(Some)).unwrap();
+                all.push(rows.column().collect(found.wkb_type, &options).unwrap());
             }
+            if found.wkb_type.kind() < 7 {
+                all.extend([true, false].map(|has_all| made_of_coordinates(&it, &options, has_all)));
+            }
+            assert!(all.iter().all(|it| summed(it) == *sum), "{:x?} as {options:?}", it.input);
         }
-        assert!(bounds(&it.input[..size - 1]).unwrap_err().status.is_short(), "{:x?} without its end", it.input);
+        let short = check(&it.input[..found.bytes - 1]).unwrap_err();
+        assert!(short.status().is_short(), "{:x?} without its end", it.input);
     }
 }
 
 #[test]
 fn as_a_column() {
     let rows = rows();
-    let made = Rows::of(rows.iter().flat_map(|it| [Some(&it.input), None]));
+    let made = Rows::of(rows.iter().flat_map(|it| [Some(&it.input), None])).unwrap();
     let column = made.column();
-    let (found, (boxes, statuses)) = (column.found(), column.bounds());
-    assert_eq!((&column.check(), &found.statuses), (&statuses, &statuses));
+    let (found, (boxes, statuses)) = (column.found().collect::<Vec<_>>(), column.bounds().unwrap());
+    assert_eq!(column.check().unwrap(), statuses);
     for (i, it) in rows.iter().enumerate() {
         assert_eq!((statuses[2 * i].number(), statuses[2 * i + 1]), (it.status, Status::NULL_ROW), "{:x?}", it.input);
-        assert_eq!(found.row(2 * i), (it.status == 0).then(|| it.found()), "{:x?}", it.input);
-        assert_eq!((found.row(2 * i + 1), boxes[2 * i + 1]), (None, Bounds::EMPTY));
-        let expected = if it.status == 0 { it.sums[8] } else { sum_of(&Bounds::EMPTY) };
-        assert_eq!(sum_of(&boxes[2 * i]), expected, "{:x?}", it.input);
+        let wanted = if it.status == 0 { Ok(it.found()) } else { Err(statuses[2 * i]) };
+        assert_eq!((found[2 * i], found[2 * i + 1]), (wanted, Err(Status::NULL_ROW)), "{:x?}", it.input);
+        let expected = if it.status == 0 { it.sums[8] } else { sum_of(&Bounds::empty()) };
+        assert_eq!((sum_of(&boxes[2 * i]), boxes[2 * i + 1]), (expected, Bounds::empty()), "{:x?}", it.input);
     }
     for number in 0..8 {
-        let Options { order, form } = rows[0].options(number);
-        let written = column.write(&Options { order, form: if number % 4 == 1 { Form::EwkbOwnSrid } else { form } });
+        let options = rows[0].options(number);
+        let own = number % 4 == 1;
+        let written = if own { column.write_with_srids(options.endianness) } else { column.write(&options) }.unwrap();
         assert_eq!(written.statuses, statuses);
         for (row, it) in written.rows().step_by(2).zip(&rows) {
             assert_eq!(row.map(summed), it.sums.get(number).copied(), "{:x?}", it.input);
@@ -228,11 +271,11 @@ fn as_a_column() {
 #[test]
 fn levels_of_a_column() {
     let rows = rows();
-    let made = Rows::of(rows.iter().flat_map(|it| [Some(&it.input), None]));
+    let made = Rows::of(rows.iter().flat_map(|it| [Some(&it.input), None])).unwrap();
     for dimension in DIMENSIONS {
         let (mut all, mut count) = (Coordinates::default(), 0);
         for it in &rows {
-            let own = Rows::of([Some(&it.input)]).column().coordinates(dimension);
+            let own = coordinates(&it.input, dimension);
             let (rings, singles) = (all.ring_ends.len() as u64, all.single_ends.len() as u64);
             all.ring_ends.extend(own.ring_ends.iter().map(|it| it + count));
             all.single_ends.extend(own.single_ends.iter().map(|it| it + rings));
@@ -241,7 +284,7 @@ fn levels_of_a_column() {
             count += (own.words.len() / dimension.width()) as u64;
             all.words.extend(own.words);
         }
-        let found = made.column().coordinates(dimension);
+        let found = made.column().coordinates(dimension).unwrap();
         assert!(found.words.iter().map(|it| it.to_bits()).eq(all.words.iter().map(|it| it.to_bits())));
         assert_eq!((found.ring_ends, found.single_ends), (all.ring_ends, all.single_ends));
         assert_eq!((found.row_ends, found.statuses), (all.row_ends, all.statuses));
@@ -253,6 +296,7 @@ fn levels_of_a_column() {
 fn facts() {
     let rows = rows();
     let mut expected = Facts { rows: 3 * rows.len(), null_rows: 2 * rows.len(), ..Facts::default() };
+    let mut types = std::collections::BTreeMap::new();
     for it in &rows {
         if it.status != 0 {
             expected.refused += 1;
@@ -260,21 +304,23 @@ fn facts() {
         }
         let found = it.found();
         expected.accepted += 1;
-        expected.bounds.add(&bounds(&it.input).unwrap());
-        *expected.kinds.entry((found.kind, found.dimension)).or_default() += 1;
-        match found.srid {
-            Some(srid) => drop(expected.srids.insert(srid)),
-            None => expected.without_srid += 1,
-        }
+        expected.bounds = expected.bounds.union(bounds(&it.input).unwrap());
+        *types.entry(found.wkb_type.iso_code()).or_insert(0) += 1;
+        expected.srids.extend(found.srid);
+        expected.without_srid += usize::from(found.srid.is_none());
     }
-    let made = Rows::of(rows.iter().flat_map(|it| [Some(&it.input), None, None]));
-    let (column, statuses) = (made.column(), made.column().check());
+    let of_code = |code: u32| TYPES[code as usize % 1000 - 1](DIMENSIONS[code as usize / 1000]);
+    expected.types = types.into_iter().map(|(code, rows)| (of_code(code), rows)).collect();
+    expected.srids.sort_unstable();
+    expected.srids.dedup();
+    let made = Rows::of(rows.iter().flat_map(|it| [Some(&it.input), None, None])).unwrap();
+    let (column, statuses) = (made.column(), made.column().check().unwrap());
     for columns in [1, 2, 7] {
         let (mut all, mut each) = (Facts::default(), vec![]);
         for part in column.split(columns) {
-            assert!([0, 1].contains(&(part.rows() - column.rows() / columns)));
-            all.add(&part.facts());
-            each.extend(part.check());
+            assert!([0, 1].contains(&(part.len() - column.len() / columns)));
+            all.add(&part.facts().unwrap()).unwrap();
+            each.extend(part.check().unwrap());
         }
         assert_eq!((&all, &each, column.split(columns).len()), (&expected, &statuses, columns));
     }
@@ -287,8 +333,9 @@ fn as_a_column_that_grows() {
     let rows: Vec<Row> =
         rows().into_iter().filter(|it| is_plain(it) && it.input.len() as u64 == it.fields[0]).collect();
     assert!(rows.len() > 100);
+    let made = Rows::of(rows.iter().map(|it| Some(&it.input))).unwrap();
     for number in [2, 6] {
-        let written = Rows::of(rows.iter().map(|it| Some(&it.input))).column().write(&rows[0].options(number));
+        let written = made.column().write(&rows[0].options(number)).unwrap();
         let sums: Vec<u32> = written.rows().map(|it| summed(it.unwrap())).collect();
         assert_eq!(sums, rows.iter().map(|it| it.sums[number]).collect::<Vec<_>>());
     }

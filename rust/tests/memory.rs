@@ -1,24 +1,30 @@
 // SPDX-License-Identifier: MIT OR Apache-2.0
-//! Each allocation of the calls that take memory fails in turn, and each time the answer says so.
-use porchsorrel_wkb::canon::{canonical, canonical_with_srid};
-use porchsorrel_wkb::error::{WkbError, WkbResult};
+//! Each allocation of the calls that take memory fails in turn, and each time the answer says so; and what is taken for
+//! hostile inputs.
+use porchsorrel_wkb::canon::{canonical, canonical_into, canonical_with_srid};
+use porchsorrel_wkb::check::{check, WkbType};
+use porchsorrel_wkb::columns::{Facts, Levels, NotCollected, Rows};
+use porchsorrel_wkb::error::WkbError;
 #[cfg(not(feature = "std"))]
 use porchsorrel_wkb::io;
-use porchsorrel_wkb::reader::read_wkb;
+use porchsorrel_wkb::reader::{read_wkb, Dimension, Wkb};
 use porchsorrel_wkb::writer::{to_vec, write_geometry, Form, VecSink, WriteOptions};
-use porchsorrel_wkb::Endianness;
+use porchsorrel_wkb::{AllocError, Endianness};
 use std::alloc::{GlobalAlloc, Layout, System};
 use std::cell::Cell;
+use std::fmt::Display;
 #[cfg(feature = "std")]
 use std::io;
 
-/// How many allocations of this thread succeed before one fails.
+/// How many allocations of this thread succeed before one fails, and how many bytes all took.
 struct Failing;
 
 thread_local!(static LEFT: Cell<usize> = const { Cell::new(usize::MAX) });
+thread_local!(static TAKEN: Cell<usize> = const { Cell::new(0) });
 
 impl Failing {
-    fn fails(&self) -> bool {
+    fn fails(&self, size: usize) -> bool {
+        TAKEN.with(|taken| taken.set(taken.get() + size));
         LEFT.with(|left| {
             let n = left.get();
             left.set(n.wrapping_sub(1));
@@ -29,7 +35,7 @@ impl Failing {
 
 unsafe impl GlobalAlloc for Failing {
     unsafe fn alloc(&self, layout: Layout) -> *mut u8 {
-        if self.fails() {
+        if self.fails(layout.size()) {
             std::ptr::null_mut()
         } else {
             System.alloc(layout)
@@ -41,7 +47,7 @@ unsafe impl GlobalAlloc for Failing {
     }
 
     unsafe fn realloc(&self, place: *mut u8, layout: Layout, size: usize) -> *mut u8 {
-        if self.fails() {
+        if self.fails(size) {
             std::ptr::null_mut()
         } else {
             System.realloc(place, layout, size)
@@ -53,50 +59,108 @@ unsafe impl GlobalAlloc for Failing {
 static FAILING: Failing = Failing;
 
 /// How many allocations a call takes, each of which was let fail.
-fn tried(call: impl Fn() -> WkbResult<()>) -> usize {
+fn tried<T, E: Display>(call: impl Fn() -> Result<T, E>) -> usize {
     for n in 0.. {
         LEFT.with(|left| left.set(n));
         let result = call();
         let left = LEFT.with(|left| left.replace(usize::MAX));
         match result {
-            Ok(()) => {
+            Ok(_) => {
                 assert!(left <= n);
                 return n;
             }
-            Err(why) => assert!(matches!(why, WkbError::Memory(_)), "{why}"),
+            Err(why) => assert_eq!(why.to_string(), "out of memory"),
         }
     }
     unreachable!()
 }
 
-#[test]
-fn each_allocation_fails() {
-    // Collections in one another, a polygon, a multi line string and a multi polygon.
-    let word = [0; 8];
-    let coordinate = [word, word].concat();
-    let ring = [&[1, 0, 0, 0][..], &coordinate].concat();
+/// Collections in one another, a polygon, a multi line string and a multi polygon.
+fn input() -> Vec<u8> {
+    let ring = [&[1, 0, 0, 0][..], &[0; 16]].concat();
     let polygon = [&[1, 3, 0, 0, 0, 2, 0, 0, 0][..], &ring, &ring].concat();
     let lines = [&[1, 5, 0, 0, 0, 1, 0, 0, 0, 1, 2, 0, 0, 0][..], &ring].concat();
     let polygons = [&[1, 6, 0, 0, 0, 1, 0, 0, 0][..], &polygon].concat();
     let inner = [&[1, 7, 0, 0, 0, 3, 0, 0, 0][..], &polygon, &lines, &polygons].concat();
-    let input = [&[1, 7, 0, 0, 0x20, 7, 0, 0, 0, 2, 0, 0, 0][..], &inner, &polygon].concat();
+    [&[1, 7, 0, 0, 0x20, 7, 0, 0, 0, 2, 0, 0, 0][..], &inner, &polygon].concat()
+}
+
+#[test]
+fn each_allocation_fails() {
+    let input = input();
     let options = WriteOptions { endianness: Endianness::BigEndian, form: Form::Iso };
     assert!(tried(|| read_wkb(&input).map(drop)) > 5);
-    assert!(tried(|| canonical(&input, &options).map(drop)) == 1);
-    assert!(tried(|| canonical_with_srid(&input, Endianness::LittleEndian).map(drop)) == 1);
+    assert!(tried(|| canonical(&input, &options)) == 1);
+    assert!(tried(|| canonical_into(&input, &options, &mut Vec::new())) == 1);
+    assert!(tried(|| canonical_with_srid(&input, Endianness::LittleEndian)) == 1);
     let wkb = read_wkb(&input).unwrap();
-    assert!(tried(|| wkb.try_clone().map(drop).map_err(WkbError::from)) > 5);
-    assert!(tried(|| to_vec(&wkb, &options).map(drop)) == 1);
+    assert!(tried(|| wkb.try_clone().map(drop)) > 5);
+    assert!(tried(|| to_vec(&wkb, &options)) == 1);
     let grown = tried(|| {
         let mut sink = VecSink::new();
         let result = write_geometry(&mut sink, &wkb, &options);
         // A sink's failure is an error of `io`, of the kind `OutOfMemory`.
         match result {
-            Err(WkbError::IOError(why)) if why.kind() == io::ErrorKind::OutOfMemory => {
-                Err(porchsorrel_wkb::AllocError.into())
-            }
+            Err(WkbError::IOError(why)) if why.kind() == io::ErrorKind::OutOfMemory => Err(WkbError::from(AllocError)),
             result => result,
         }
     });
     assert!(grown >= 1);
+}
+
+#[test]
+fn each_allocation_of_a_column_fails() {
+    let (input, options) = (input(), WriteOptions::default());
+    let made = || Rows::of([Some(&input), None, Some(&input)]);
+    assert!(tried(made) >= 3);
+    let rows = made().unwrap();
+    let column = rows.column();
+    assert_eq!(tried(|| column.rows().chain(column.rows()).try_for_each(|_| Ok::<(), AllocError>(()))), 0);
+    assert_eq!(tried(|| Ok::<usize, AllocError>(column.found().filter(Result::is_ok).count())), 0);
+    assert_eq!(tried(|| column.check()), 1);
+    assert_eq!(tried(|| column.bounds()), 2);
+    assert_eq!(tried(|| column.write(&options)), 3);
+    assert_eq!(tried(|| column.write_with_srids(Endianness::BigEndian)), 3);
+    assert_eq!(tried(|| column.coordinates(Dimension::Xy)), 5);
+    assert!(tried(|| column.facts()) == 2);
+    assert!(tried(|| Facts::default().add(&column.facts().map_err(|_| AllocError)?)) >= 4);
+    let collected = || column.slice(0..1).collect(WkbType::GeometryCollection(Dimension::Xy), &options);
+    assert_eq!(tried::<_, NotCollected>(collected), 1);
+    let levels = Levels { words: &[1.0; 20], ..Levels::default() };
+    assert_eq!(tried(|| levels.encode(WkbType::Point(Dimension::Xy), &options)), 4);
+}
+
+/// How many bytes are taken for each byte of an input.
+fn taken(call: impl Fn(&[u8]) -> bool, input: &[u8]) -> f64 {
+    TAKEN.with(|taken| taken.set(0));
+    let _ = call(input);
+    TAKEN.with(Cell::get) as f64 / input.len() as f64
+}
+
+/// Megabytes of counts that claim what follows, up to a byte that is no order: little is taken before they are rejected,
+/// and for the geometries whose lists are longest, as much.
+#[test]
+fn hostile_counts_take_little() {
+    const LONG: usize = 1 << 20;
+    let claims = |code: u8| [1, code, 0, 0, 0, 0xff, 0xff, 0xff, 0xff];
+    let long = |heads: Vec<u8>| [heads, vec![2; LONG]].concat();
+    let reads = |bytes: &[u8]| read_wkb(bytes).is_ok();
+    // What is behind the geometry takes no memory.
+    let behind = long(b"\x01\x02\0\0\0\0\0\0\0".to_vec());
+    assert!(taken(|bytes| canonical_into(bytes, &WriteOptions::default(), &mut Vec::new()).is_ok(), &behind) < 0.001);
+    let nested = long(claims(7).repeat(128));
+    assert!(taken(|bytes| Wkb::try_new(bytes).is_ok(), &nested) > 700.0);
+    assert_eq!(taken(reads, &nested), 0.0);
+    assert_eq!(taken(|bytes| check(bytes).is_ok(), &nested), 0.0);
+    for code in 1..8 {
+        assert!(taken(reads, &long(claims(code).to_vec())) < 9.0, "{code}");
+    }
+    assert!(taken(reads, &long([claims(6), claims(3)].concat())) < 9.0);
+    for (code, member) in
+        [(7, vec![1, 7, 0, 0, 0, 0, 0, 0, 0]), (6, [&claims(3)[..5], &[1, 0, 0, 0, 0, 0, 0, 0]].concat())]
+    {
+        let many = LONG / member.len();
+        let input = [&claims(code)[..5], &(many as u32).to_le_bytes(), &member.repeat(many)].concat();
+        assert!(read_wkb(&input).is_ok() && taken(reads, &input) < 9.0, "{code}");
+    }
 }

@@ -118,6 +118,6 @@ impl CoordTrait for Coord<'_> {
 
     #[inline]
     fn x_y(&self) -> (u64, u64) {
-        (self.x(), self.y())
+        (self.at(0), self.at(1))
     }
 }

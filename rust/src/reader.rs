@@ -1,0 +1,47 @@
+// SPDX-License-Identifier: MIT OR Apache-2.0
+//! The reader: the geometry at the start of some bytes, as a view that borrows them.
+//!
+//! ```
+//! use porchsorrel_wkb::geom::{GeometryTrait, GeometryType, PolygonTrait};
+//! use porchsorrel_wkb::reader::read_wkb;
+//!
+//! // The sum of the first ordinates of a polygon's rings; none of another geometry.
+//! fn sum_of_x(bytes: &[u8]) -> Option<f64> {
+//!     let wkb = read_wkb(bytes).ok()?;
+//!     match wkb.as_type() {
+//!         GeometryType::Polygon(polygon) => {
+//!             let rings = polygon.exterior().into_iter().chain(polygon.interiors());
+//!             Some(rings.map(|ring| ring.coords().map(|it| it.x()).sum::<f64>()).sum())
+//!         }
+//!         _ => None,
+//!     }
+//! }
+//!
+//! let mut polygon = b"\x01\x03\0\0\0\x01\0\0\0\x04\0\0\0".to_vec();
+//! polygon.extend([0., 0., 4., 0., 2., 3., 0., 0.].iter().flat_map(|it: &f64| it.to_le_bytes()));
+//! assert_eq!(sum_of_x(&polygon), Some(6.0));
+//! ```
+pub use crate::wkb::reader::*;
+
+use crate::check::{check, WkbType};
+use crate::error::WkbResult;
+use crate::wkb_geom::Head;
+
+/// Reads the geometry at the start of the bytes. Bytes after it are not looked at.
+///
+/// At most some 9 bytes are allocated for each byte of input, whatever it claims. So a collection is checked first, by
+/// [`check`]: of others in one another, each may claim the rest of the input. [`Wkb::try_new`] and [`read_wkb_counted`]
+/// return the same without a check, and may allocate 840 bytes for each byte of input that they then reject.
+///
+/// # Errors
+///
+/// The first fault from left to right: `IOError` where a header or a count is cut short, `General` for a byte order, a
+/// code or a length, `IncorrectType` for a member of another kind or dimension than its multi geometry takes,
+/// `NestingDepthExceeded` for the 129th collection inside one another. Or `Memory`.
+#[inline]
+pub fn read_wkb(bytes: &[u8]) -> WkbResult<Wkb<'_>> {
+    if let Ok(Head { wkb_type: WkbType::GeometryCollection(_), .. }) = Head::read(bytes) {
+        check(bytes)?;
+    }
+    Wkb::try_new(bytes)
+}

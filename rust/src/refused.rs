@@ -1,0 +1,163 @@
+// SPDX-License-Identifier: MIT OR Apache-2.0
+//! What a rejection says.
+use crate::check::{Cause, Refused};
+use crate::columns::Status;
+use crate::error::{General, WkbError};
+use crate::wkb_abi::fault::status_of_cause;
+use core::fmt;
+
+impl Refused {
+    /// What is wrong, as the status of a row.
+    #[must_use]
+    pub fn status(&self) -> Status {
+        Status::of(status_of_cause(self.cause))
+    }
+
+    /// Where the input ends inside the coordinates of the part: how many bytes the part needs, and how many there are
+    /// from its first one on. A stream may wait for the rest. Of an input that ends inside a header or before a count,
+    /// which [`Status::is_short`] is true of as well, there are no such numbers.
+    #[must_use]
+    pub fn ends(&self) -> Option<(u64, usize)> {
+        match self.cause {
+            Cause::General(
+                General::ShortPoint { end, len }
+                | General::ShortLineString { end, len }
+                | General::ShortLinearRing { end, len }
+                | General::ShortMultiPoint { end, len },
+            ) => Some((end, len)),
+            _ => None,
+        }
+    }
+}
+
+/// The name of a code that isn't read, by OGC 06-103r4, whatever its dimension and its SRID.
+fn unread_kind(code: u32) -> Option<&'static str> {
+    const FIRST: u32 = 8;
+    const NAMES: [&str; 10] = [
+        "a circular string",
+        "a compound curve",
+        "a curve polygon",
+        "a multi curve",
+        "a multi surface",
+        "a curve",
+        "a surface",
+        "a polyhedral surface",
+        "a TIN",
+        "a triangle",
+    ];
+    let number = code & 0x1fff_ffff;
+    let kind = (number % 1000).checked_sub(FIRST).filter(|_| number < 4000)?;
+    NAMES.get(kind as usize).copied()
+}
+
+/// One line, which says all that the fields hold.
+impl fmt::Display for Refused {
+    fn fmt(&self, f: &mut fmt::Formatter<'_>) -> fmt::Result {
+        f.write_str(self.status().text())?;
+        if let Cause::General(General::CodeOutOfRange(code)) = self.cause {
+            write!(f, " {code}")?;
+            if let Some(name) = unread_kind(code) {
+                write!(f, ", {name}, which this library does not read")?;
+            }
+        }
+        write!(f, ", at byte {} (part {})", self.offset, self.part)?;
+        match self.ends() {
+            Some((end, len)) => write!(f, ": it needs {end} bytes and has {len}"),
+            None => Ok(()),
+        }
+    }
+}
+
+#[cfg(feature = "std")]
+impl std::error::Error for Refused {}
+
+/// The error of a reader that rejects the same bytes.
+impl From<Refused> for WkbError {
+    fn from(refused: Refused) -> WkbError {
+        refused.cause.into()
+    }
+}
+
+// Until the sources derive them.
+impl fmt::Debug for Cause {
+    fn fmt(&self, f: &mut fmt::Formatter<'_>) -> fmt::Result {
+        match self {
+            Cause::EndOfInput => f.write_str("EndOfInput"),
+            Cause::General(g) => f.debug_tuple("General").field(g).finish(),
+            Cause::IncorrectType => f.write_str("IncorrectType"),
+            Cause::NestingDepthExceeded(n) => f.debug_tuple("NestingDepthExceeded").field(n).finish(),
+        }
+    }
+}
+impl PartialEq for Cause {
+    fn eq(&self, o: &Cause) -> bool {
+        match (self, o) {
+            (Cause::General(a), Cause::General(b)) => a == b,
+            (Cause::NestingDepthExceeded(a), Cause::NestingDepthExceeded(b)) => a == b,
+            (Cause::EndOfInput, Cause::EndOfInput) | (Cause::IncorrectType, Cause::IncorrectType) => true,
+            _ => false,
+        }
+    }
+}
+impl fmt::Debug for Refused {
+    fn fmt(&self, f: &mut fmt::Formatter<'_>) -> fmt::Result {
+        f.debug_struct("Refused")
+            .field("cause", &self.cause)
+            .field("part", &self.part)
+            .field("offset", &self.offset)
+            .finish()
+    }
+}
+impl PartialEq for Refused {
+    fn eq(&self, o: &Refused) -> bool {
+        (self.cause, self.part, self.offset) == (o.cause, o.part, o.offset)
+    }
+}
+use crate::check::{Bounds, Range, Summary};
+impl fmt::Debug for Summary {
+    fn fmt(&self, f: &mut fmt::Formatter<'_>) -> fmt::Result {
+        f.debug_struct("Summary")
+            .field("bytes", &self.bytes)
+            .field("parts", &self.parts)
+            .field("coordinates", &self.coordinates)
+            .field("order", &self.order)
+            .field("wkb_type", &self.wkb_type)
+            .field("srid", &self.srid)
+            .finish()
+    }
+}
+impl PartialEq for Summary {
+    fn eq(&self, o: &Summary) -> bool {
+        (self.bytes, self.parts, self.coordinates, self.order, self.wkb_type, self.srid)
+            == (o.bytes, o.parts, o.coordinates, o.order, o.wkb_type, o.srid)
+    }
+}
+impl fmt::Debug for Range {
+    fn fmt(&self, f: &mut fmt::Formatter<'_>) -> fmt::Result {
+        f.debug_struct("Range")
+            .field("least", &self.least)
+            .field("greatest", &self.greatest)
+            .field("count", &self.count)
+            .finish()
+    }
+}
+impl PartialEq for Range {
+    fn eq(&self, o: &Range) -> bool {
+        (self.least, self.greatest, self.count) == (o.least, o.greatest, o.count)
+    }
+}
+impl fmt::Debug for Bounds {
+    fn fmt(&self, f: &mut fmt::Formatter<'_>) -> fmt::Result {
+        f.debug_struct("Bounds")
+            .field("x", &self.x)
+            .field("y", &self.y)
+            .field("z", &self.z)
+            .field("m", &self.m)
+            .finish()
+    }
+}
+impl PartialEq for Bounds {
+    fn eq(&self, o: &Bounds) -> bool {
+        (self.x, self.y, self.z, self.m) == (o.x, o.y, o.z, o.m)
+    }
+}

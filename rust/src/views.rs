@@ -1,0 +1,100 @@
+// SPDX-License-Identifier: MIT OR Apache-2.0
+//! What views and bounds have beside the proved calls: iterators over parts, and numbers in the place of words.
+use crate::check::{Bounds, Range};
+use crate::geom::{
+    CoordTrait, LineStringTrait, MultiLineStringTrait, MultiPointTrait, MultiPolygonTrait, PolygonTrait,
+};
+use crate::reader::{Coord, LineString, LinearRing, MultiLineString, MultiPoint, MultiPolygon, Point, Polygon};
+
+macro_rules! parts {
+    ($($view:ident: $parts:ident by $part:ident below $count:ident, $item:ty, $says:literal;)*) => {$(
+        impl<'a> $view<'a> {
+            #[doc = $says]
+            #[inline]
+            pub fn $parts(&self) -> impl DoubleEndedIterator<Item = $item> + ExactSizeIterator + '_ {
+                (0..self.$count()).map(move |i| self.$part(i).expect("a part below the count"))
+            }
+        }
+    )*};
+}
+
+parts! {
+    LineString: coords by coord below num_coords, Coord<'a>, "The coordinates, in order.";
+    LinearRing: coords by coord below num_coords, Coord<'a>, "The coordinates, in order.";
+    Polygon: interiors by interior below num_interiors, LinearRing<'a>, "The rings behind the exterior, in order.";
+    MultiPoint: points by point below num_points, Point<'a>, "The points, in order.";
+    MultiLineString: line_strings by line_string below num_line_strings, LineString<'a>,
+        "The line strings, in order.";
+    MultiPolygon: polygons by polygon below num_polygons, &'_ Polygon<'a>, "The polygons, in order.";
+}
+
+/// Numbers. `CoordTrait` has the same calls for words, which are their bits.
+///
+/// ```
+/// use porchsorrel_wkb::geom::{CoordTrait, GeometryTrait, GeometryType, PointTrait};
+/// use porchsorrel_wkb::reader::read_wkb;
+///
+/// let wkb = read_wkb(b"\x01\x01\0\0\0\0\0\0\0\0\0\xf0\x3f\0\0\0\0\0\0\0\x40")?;
+/// if let GeometryType::Point(point) = wkb.as_type() {
+///     let coord = point.coord().expect("a point that isn't empty");
+///     assert_eq!((coord.x(), coord.y(), coord.nth(2)), (1.0, 2.0, None));
+///     assert_eq!(CoordTrait::x(&coord), 1.0_f64.to_bits());
+/// }
+/// # Ok::<(), porchsorrel_wkb::error::WkbError>(())
+/// ```
+impl Coord<'_> {
+    /// The number at an index, if there is one: x, y, and then z, m or both.
+    #[inline]
+    pub fn nth(&self, n: usize) -> Option<f64> {
+        CoordTrait::nth(self, n).map(f64::from_bits)
+    }
+
+    /// The first number.
+    #[inline]
+    pub fn x(&self) -> f64 {
+        f64::from_bits(self.at(0))
+    }
+
+    /// The second number.
+    #[inline]
+    pub fn y(&self) -> f64 {
+        f64::from_bits(self.at(1))
+    }
+
+    /// The first two numbers.
+    #[inline]
+    pub fn x_y(&self) -> (f64, f64) {
+        (self.x(), self.y())
+    }
+}
+
+impl Range {
+    /// The least number; infinity where there is none.
+    #[must_use]
+    pub fn min(&self) -> f64 {
+        f64::from_bits(self.least)
+    }
+
+    /// The greatest number; minus infinity where there is none.
+    #[must_use]
+    pub fn max(&self) -> f64 {
+        f64::from_bits(self.greatest)
+    }
+
+    fn union(self, other: Range) -> Range {
+        match (self.count, other.count) {
+            (_, 0) => self,
+            (0, _) => other,
+            (a, b) => Range { count: a + b, ..self.with_word(other.least).with_word(other.greatest) },
+        }
+    }
+}
+
+impl Bounds {
+    /// The bounds of two geometries together.
+    #[must_use]
+    pub fn union(self, other: Bounds) -> Bounds {
+        let (x, y) = (self.x.union(other.x), self.y.union(other.y));
+        Bounds { x, y, z: self.z.union(other.z), m: self.m.union(other.m) }
+    }
+}

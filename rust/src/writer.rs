@@ -1,0 +1,37 @@
+// SPDX-License-Identifier: MIT OR Apache-2.0
+//! The writers, the sizes of what they write, and the sinks that they write into.
+//!
+//! ```
+//! use porchsorrel_wkb::geom::{Dimensions, LineString};
+//! use porchsorrel_wkb::writer::{line_string_wkb_size, write_line_string, WriteOptions};
+//!
+//! let words = [1.0_f64, 2.0, 3.0, 4.0].map(f64::to_bits);
+//! let line = LineString::new(Dimensions::Xy, &words).expect("whole coordinates");
+//! let mut out = Vec::new();
+//! write_line_string(&mut out, &line, &WriteOptions::default())?;
+//! assert_eq!(out.len(), line_string_wkb_size(&line)?);
+//! # Ok::<(), porchsorrel_wkb::error::WkbError>(())
+//! ```
+//!
+//! A writer takes a `Vec<u8>`, a file or any other [`Write`](std::io::Write). [`to_vec`] and a [`VecSink`] answer where
+//! memory is refused, as a `Vec` by itself doesn't.
+pub use crate::wkb::writer::*;
+
+use crate::rt::io;
+
+/// Any writer, as it is. An interrupted write is tried again.
+impl<W: io::Write> Sink for W {
+    fn put(&mut self, bytes: &[u8]) -> io::Result<usize> {
+        loop {
+            match self.write(bytes) {
+                Err(why) if why.kind() == io::ErrorKind::Interrupted => {}
+                result => return result,
+            }
+        }
+    }
+
+    /// False: a writer doesn't tell. An [`Out`] over it does.
+    fn failed(&self) -> bool {
+        false
+    }
+}
