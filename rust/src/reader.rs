@@ -29,8 +29,8 @@ use crate::wkb_geom::Head;
 
 /// Reads the geometry at the start of the bytes. Bytes after it are not looked at.
 ///
-/// At most some 9 bytes are allocated for each byte of input, whatever it claims. So a collection is checked first, by
-/// [`check`]: of others in one another, each may claim the rest of the input. [`Wkb::try_new`] and [`read_wkb_counted`]
+/// At most 9 bytes are allocated for each byte of input, and 20 KB, whatever it claims. So a collection is checked first,
+/// by [`check`]: of collections in one another, each may claim the rest of the input. [`Wkb::try_new`] and [`read_wkb_counted`]
 /// return the same without a check, and may allocate 840 bytes for each byte of input that they then reject.
 ///
 /// # Errors

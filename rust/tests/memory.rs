@@ -130,37 +130,34 @@ fn each_allocation_of_a_column_fails() {
     assert_eq!(tried(|| levels.encode(WkbType::Point(Dimension::Xy), &options)), 4);
 }
 
-/// How many bytes are taken for each byte of an input.
-fn taken(call: impl Fn(&[u8]) -> bool, input: &[u8]) -> f64 {
+/// How many bytes a call takes for an input.
+fn taken(call: impl Fn(&[u8]) -> bool, input: &[u8]) -> usize {
     TAKEN.with(|taken| taken.set(0));
     let _ = call(input);
-    TAKEN.with(Cell::get) as f64 / input.len() as f64
+    TAKEN.with(Cell::get)
 }
 
-/// Megabytes of counts that claim what follows, up to a byte that is no order: little is taken before they are rejected,
-/// and for the geometries whose lists are longest, as much.
+/// Megabytes of counts that claim what follows, up to a byte that is no order, and the geometries whose lists are
+/// longest: none takes more than is promised.
 #[test]
 fn hostile_counts_take_little() {
     const LONG: usize = 1 << 20;
-    let claims = |code: u8| [1, code, 0, 0, 0, 0xff, 0xff, 0xff, 0xff];
-    let long = |heads: Vec<u8>| [heads, vec![2; LONG]].concat();
+    let head = |code: u8, count: u32| [&[1, code, 0, 0, 0][..], &count.to_le_bytes()].concat();
+    let claims = |code| head(code, u32::MAX);
+    let long = |heads: &[Vec<u8>]| [heads.concat(), vec![2; LONG]].concat();
+    let many =
+        |code, member: &[u8]| [head(code, (LONG / member.len()) as u32), member.repeat(LONG / member.len())].concat();
     let reads = |bytes: &[u8]| read_wkb(bytes).is_ok();
+    let nested = long(&vec![claims(7); 128]);
+    assert!(taken(|bytes| Wkb::try_new(bytes).is_ok(), &nested) > 700 * LONG);
+    assert_eq!((taken(reads, &nested), taken(|bytes| check(bytes).is_ok(), &nested)), (0, 0));
+    let rejected = (1..8).map(|code| long(&[claims(code)])).chain([long(&[claims(6), claims(3)])]);
+    let deep = [head(7, 1).repeat(127), head(7, 0)].concat();
+    let accepted = [deep, many(7, &head(7, 0)), many(6, &head(3, 0)), many(6, &[head(3, 1), vec![0; 4]].concat())];
+    for input in rejected.chain(accepted) {
+        assert!(taken(reads, &input) < 9 * input.len() + 20_000, "{:x?}", &input[..18]);
+    }
     // What is behind the geometry takes no memory.
-    let behind = long(b"\x01\x02\0\0\0\0\0\0\0".to_vec());
-    assert!(taken(|bytes| canonical_into(bytes, &WriteOptions::default(), &mut Vec::new()).is_ok(), &behind) < 0.001);
-    let nested = long(claims(7).repeat(128));
-    assert!(taken(|bytes| Wkb::try_new(bytes).is_ok(), &nested) > 700.0);
-    assert_eq!(taken(reads, &nested), 0.0);
-    assert_eq!(taken(|bytes| check(bytes).is_ok(), &nested), 0.0);
-    for code in 1..8 {
-        assert!(taken(reads, &long(claims(code).to_vec())) < 9.0, "{code}");
-    }
-    assert!(taken(reads, &long([claims(6), claims(3)].concat())) < 9.0);
-    for (code, member) in
-        [(7, vec![1, 7, 0, 0, 0, 0, 0, 0, 0]), (6, [&claims(3)[..5], &[1, 0, 0, 0, 0, 0, 0, 0]].concat())]
-    {
-        let many = LONG / member.len();
-        let input = [&claims(code)[..5], &(many as u32).to_le_bytes(), &member.repeat(many)].concat();
-        assert!(read_wkb(&input).is_ok() && taken(reads, &input) < 9.0, "{code}");
-    }
+    let keeps = |bytes: &[u8]| canonical_into(bytes, &WriteOptions::default(), &mut Vec::new()).is_ok();
+    assert!(taken(keeps, &long(&[head(2, 0)])) < 100);
 }
