@@ -13,7 +13,6 @@ const POINT: &[u8] = b"\x01\x01\0\0\0\0\0\0\0\0\0\xf0\x3f\0\0\0\0\0\0\0\x40";
 
 /// A program for the crate `wkb` 0.9, with the names of this one: it reads a point, prints it, and writes it in the
 /// other order, into a vector and into a slice.
-#[cfg(feature = "std")]
 #[test]
 fn a_program_for_upstream() -> Result<(), Box<dyn std::error::Error>> {
     let wkb: Wkb = read_wkb(POINT)?;
@@ -43,7 +42,6 @@ fn a_program_for_upstream() -> Result<(), Box<dyn std::error::Error>> {
 }
 
 /// A writer that is interrupted before each write, and then takes one byte.
-#[cfg(feature = "std")]
 #[test]
 fn interrupted_writes_are_tried_again() {
     struct Slow(Vec<u8>, bool);
@@ -66,7 +64,6 @@ fn interrupted_writes_are_tried_again() {
 }
 
 /// Each public error can be passed on, whatever the program does with errors.
-#[cfg(feature = "std")]
 #[test]
 fn errors_are_errors() {
     fn is_error<E: std::error::Error + Send + Sync + 'static>() {}
