@@ -3,13 +3,9 @@
 #![deny(missing_docs, unsafe_op_in_unsafe_fn)]
 
 mod read;
-mod table;
 mod write;
 
-pub use porchsorrel_wkb::columns::{Form, Options, Order, Refused, Status};
 pub use read::{
-    Coord, Geometry, GeometryCollection, LineString, MultiLineString, MultiPoint, MultiPolygon, Point, Polygon, View,
-    Wkb,
+    Coord, Geometry, GeometryCollection, LineString, MultiLineString, MultiPoint, MultiPolygon, Point, Polygon,
 };
-pub use table::{read_wkb, Reader};
-pub use write::{geometry_size, write_geometry, NotWritten};
+pub use write::{geometry_wkb_size, to_vec, write_geometry};

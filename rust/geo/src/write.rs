@@ -1,293 +1,222 @@
 // SPDX-License-Identifier: MIT OR Apache-2.0
 //! Encodings of any geometry that has the traits.
 use geo_traits::{
-    CoordTrait, Dimensions, GeometryCollectionTrait, GeometryTrait, GeometryType, LineStringTrait, LineTrait,
-    MultiLineStringTrait, MultiPointTrait, MultiPolygonTrait, PointTrait, PolygonTrait, RectTrait, TriangleTrait,
+    CoordTrait, GeometryCollectionTrait, GeometryTrait, GeometryType, LineStringTrait, LineTrait, MultiLineStringTrait,
+    MultiPointTrait, MultiPolygonTrait, PointTrait, PolygonTrait, RectTrait, TriangleTrait,
 };
-use porchsorrel_wkb::columns::{Dimension, Form, Kind, Levels, NotCollected, Options, Rows, Status};
-use std::error::Error;
-use std::fmt;
+use porchsorrel_wkb::error::{General, Overflow, WkbError, WkbResult};
+use porchsorrel_wkb::geom::levels::{Ends, Kind, Levels, Place};
+use porchsorrel_wkb::geom::{Dimensions, Geometry, GeometryCollection};
+use porchsorrel_wkb::reader::MAX_WKB_NESTING_DEPTH;
+use porchsorrel_wkb::{writer, AllocError, Endianness};
+use std::io::Write;
+use writer::WriteOptions;
 
-/// What the words of an empty point are.
-const NAN: f64 = f64::from_bits(0x7ff8_0000_0000_0000);
-/// How many collections may be inside one another.
-const MAX_DEPTH: usize = 128;
-
-/// Why a geometry isn't written.
-#[derive(Clone, Copy, Debug, Eq, PartialEq)]
-pub enum NotWritten {
-    /// A geometry has as many words in a coordinate, and no dimension with a name.
-    UnknownDimension(usize),
-    /// What would be written is no input that is accepted: [`Status::INCORRECT_TYPE`] where a member or a coordinate
-    /// has another dimension than the geometry around it, [`Status::NESTING_DEPTH_EXCEEDED`] where more than 128
-    /// collections are inside one another, [`Status::BAD_LEVELS`] or [`Status::TOO_MANY_ROWS`] where a count doesn't
-    /// fit 32 bits.
-    Refused(Status),
-}
-
-impl fmt::Display for NotWritten {
-    fn fmt(&self, f: &mut fmt::Formatter<'_>) -> fmt::Result {
-        match self {
-            NotWritten::UnknownDimension(words) => write!(f, "coordinates of {words} words have no dimension"),
-            NotWritten::Refused(status) => status.fmt(f),
-        }
-    }
-}
-
-impl Error for NotWritten {}
-
-type Done<T = ()> = Result<T, NotWritten>;
-
-/// The encoding of a geometry under the options: a line as a line string; a triangle as a polygon that ends as it
-/// begins; a rectangle as a polygon in x and y, from its least corner on to that of the greatest y. Coordinates of two,
-/// three or four words without names are XY, XYZ or XYZM. [`Form::EwkbOwnSrid`] writes no SRID, since the traits have
-/// none.
+/// Writes a geometry, once all of it is encoded. A line is written as a line string; a triangle as a polygon that ends as
+/// it begins; a rectangle as a polygon in x and y, from its least corner on to that of the greatest y. Coordinates of
+/// two, three or four words without names are XY, XYZ or XYZM.
 ///
 /// # Errors
 ///
-/// The first member or coordinate that can't be written.
-pub fn write_geometry(geometry: &impl GeometryTrait<T = f64>, options: &Options) -> Done<Vec<u8>> {
-    encoded(geometry, options, 0)
+/// For the first part that can't be written: `General(UnsupportedDimensions)`, where a geometry or a coordinate has so
+/// many words, and no dimension with a name; `IncorrectType`, where a coordinate, a ring or a member of a multi geometry
+/// has another dimension than the whole; `NestingDepthExceeded`, where more than 128 collections are inside one another;
+/// `OverflowError`, where a count doesn't fit 32 bits; `Memory`. Where the writer fails: `IOError`.
+pub fn write_geometry(
+    writer: &mut impl Write,
+    geometry: &impl GeometryTrait<T = f64>,
+    options: &WriteOptions,
+) -> WkbResult<()> {
+    Ok(writer.write_all(&to_vec(geometry, options)?)?)
 }
 
-/// How many bytes [`write_geometry`] writes of a geometry. Nothing is allocated.
+/// Returns what [`write_geometry`] writes.
 ///
 /// # Errors
 ///
-/// As [`write_geometry`], but for counts that don't fit 32 bits.
-pub fn geometry_size(geometry: &impl GeometryTrait<T = f64>, options: &Options) -> Done<usize> {
-    let srid = matches!(options.form, Form::EwkbWithSrid(_));
-    Ok(size(geometry, 0)? + 4 * usize::from(srid))
-}
-
-fn encoded(geometry: &impl GeometryTrait<T = f64>, options: &Options, depth: usize) -> Done<Vec<u8>> {
+/// As [`write_geometry`].
+pub fn to_vec(geometry: &impl GeometryTrait<T = f64>, options: &WriteOptions) -> WkbResult<Vec<u8>> {
     let mut out = Vec::new();
-    append(geometry, options, depth, &mut out)?;
+    append(&mut out, geometry, options, 0)?;
     Ok(out)
 }
 
-/// Appends the encoding of a geometry. A collection's is its head, and then those of its members, which have no SRID.
-fn append(geometry: &impl GeometryTrait<T = f64>, options: &Options, depth: usize, out: &mut Vec<u8>) -> Done {
-    if let GeometryType::GeometryCollection(all) = geometry.as_type() {
-        let dimension = dimension_of_collection(geometry, depth)?;
-        let empty = Rows::of::<&[u8]>([]);
-        let head = empty.column().collect(Kind::GeometryCollection, dimension, options);
-        out.extend(head.map_err(|why: NotCollected| NotWritten::Refused(why.status()))?);
-        let (behind, mut count) = (out.len(), 0_u32);
-        let form = if options.form == Form::Iso { Form::Iso } else { Form::EwkbWithoutSrid };
-        let of_members = Options { form, ..*options };
-        for it in all.geometries() {
-            append(&it, &of_members, depth + 1, out)?;
-            count = count.checked_add(1).ok_or(NotWritten::Refused(Status::TOO_MANY_ROWS))?;
-        }
-        let is_big = options.order == porchsorrel_wkb::columns::Order::BigEndian;
-        out[behind - 4..behind].copy_from_slice(&if is_big { count.to_be_bytes() } else { count.to_le_bytes() });
-        return Ok(());
-    }
-    let mut lists = Lists::default();
-    let (kind, dimension) = levels(geometry, &mut lists)?;
-    let row_ends = [lists.single_ends.len() as u64];
-    let levels = Levels {
-        words: &lists.words,
-        ring_ends: Some(&lists.ring_ends),
-        single_ends: Some(&lists.single_ends),
-        row_ends: Some(&row_ends),
-    };
-    let made = levels.encode(kind, dimension, options);
-    if made.statuses[0].is_ok() {
-        out.extend(made.data);
-        Ok(())
-    } else {
-        Err(NotWritten::Refused(made.statuses[0]))
-    }
+/// Returns how many bytes [`write_geometry`] writes in ISO codes. It takes as much time and memory as writing them.
+///
+/// # Errors
+///
+/// As [`write_geometry`].
+pub fn geometry_wkb_size(geometry: &impl GeometryTrait<T = f64>) -> WkbResult<usize> {
+    Ok(to_vec(geometry, &WriteOptions::default())?.len())
 }
 
-/// The size without an SRID.
-fn size(geometry: &impl GeometryTrait<T = f64>, depth: usize) -> Done<usize> {
-    if let GeometryType::GeometryCollection(all) = geometry.as_type() {
-        dimension_of_collection(geometry, depth)?;
-        return all.geometries().try_fold(9, |sum, it| Ok(sum + size(&it, depth + 1)?));
-    }
-    let mut counts = Counts::default();
-    let (kind, dimension) = levels(geometry, &mut counts)?;
-    let Counts { coordinates, rings, singles } = counts;
-    let words = 8 * dimension.width() * coordinates;
-    Ok(words
-        + match kind {
-            Kind::Point => 5,
-            Kind::Polygon => 9 + 4 * rings,
-            Kind::MultiPoint => 9 + 5 * singles,
-            Kind::MultiLineString => 9 + 9 * singles,
-            Kind::MultiPolygon => 9 + 9 * singles + 4 * rings,
-            Kind::LineString | Kind::Ring | Kind::GeometryCollection => 9,
-        })
-}
+/// The words of an empty point.
+const EMPTY: u64 = 0x7ff8_0000_0000_0000;
 
-fn dimension_of_collection(geometry: &impl GeometryTrait<T = f64>, depth: usize) -> Done<Dimension> {
-    if depth < MAX_DEPTH {
-        named(geometry.dim())
-    } else {
-        Err(NotWritten::Refused(Status::NESTING_DEPTH_EXCEEDED))
-    }
+fn extend<T: Copy>(list: &mut Vec<T>, items: &[T]) -> WkbResult<()> {
+    list.try_reserve(items.len()).map_err(|_| AllocError)?;
+    list.extend_from_slice(items);
+    Ok(())
 }
 
 /// The dimension that coordinates are written in.
-fn named(dimensions: Dimensions) -> Done<Dimension> {
-    match dimensions {
-        Dimensions::Xy | Dimensions::Unknown(2) => Ok(Dimension::Xy),
-        Dimensions::Xyz | Dimensions::Unknown(3) => Ok(Dimension::Xyz),
-        Dimensions::Xym => Ok(Dimension::Xym),
-        Dimensions::Xyzm | Dimensions::Unknown(4) => Ok(Dimension::Xyzm),
-        Dimensions::Unknown(words) => Err(NotWritten::UnknownDimension(words)),
+fn named(dim: geo_traits::Dimensions) -> WkbResult<Dimensions> {
+    match dim {
+        geo_traits::Dimensions::Xy | geo_traits::Dimensions::Unknown(2) => Ok(Dimensions::Xy),
+        geo_traits::Dimensions::Xyz | geo_traits::Dimensions::Unknown(3) => Ok(Dimensions::Xyz),
+        geo_traits::Dimensions::Xym => Ok(Dimensions::Xym),
+        geo_traits::Dimensions::Xyzm | geo_traits::Dimensions::Unknown(4) => Ok(Dimensions::Xyzm),
+        geo_traits::Dimensions::Unknown(words) => Err(WkbError::General(General::UnsupportedDimensions(words))),
     }
 }
 
-/// A coordinate or a member has the dimension of the geometry around it.
-fn fits(dimensions: Dimensions, dimension: Dimension) -> Done {
-    if named(dimensions)? == dimension {
+/// Appends the encoding of a geometry inside so many collections. A collection's is that of an empty one, with the
+/// number of the members instead of 0, and then those of the members, which have no SRID.
+fn append(
+    out: &mut Vec<u8>,
+    geometry: &impl GeometryTrait<T = f64>,
+    options: &WriteOptions,
+    depth: usize,
+) -> WkbResult<()> {
+    let GeometryType::GeometryCollection(all) = geometry.as_type() else {
+        let mut parts =
+            Parts { dim: named(geometry.dim())?, words: Vec::new(), rings: Vec::new(), singles: Vec::new() };
+        let kind = parts.fill(geometry)?;
+        return parts.append(out, kind, options);
+    };
+    let empty = GeometryCollection::new(named(geometry.dim())?, Vec::new());
+    if depth == MAX_WKB_NESTING_DEPTH {
+        return Err(WkbError::NestingDepthExceeded(depth));
+    }
+    extend(out, &writer::to_vec(&Geometry::GeometryCollection(empty), options)?)?;
+    let (behind, mut count) = (out.len(), 0_u32);
+    for it in all.geometries() {
+        append(out, &it, &options.inner(), depth + 1)?;
+        count = count.checked_add(1).ok_or(WkbError::OverflowError(Overflow::Count))?;
+    }
+    out[behind - 4..behind].copy_from_slice(&match options.endianness {
+        Endianness::BigEndian => count.to_be_bytes(),
+        Endianness::LittleEndian => count.to_le_bytes(),
+    });
+    Ok(())
+}
+
+/// The levels of a geometry that is no collection: its words, the ends of its rings in coordinates, and those of its
+/// points, line strings or polygons in rings.
+struct Parts {
+    dim: Dimensions,
+    words: Vec<u64>,
+    rings: Vec<u64>,
+    singles: Vec<u64>,
+}
+
+impl Parts {
+    /// Rejects a part of another dimension than the whole.
+    fn fits(&self, dim: geo_traits::Dimensions) -> WkbResult<()> {
+        if named(dim)? == self.dim {
+            Ok(())
+        } else {
+            Err(WkbError::IncorrectType("part of another dimension"))
+        }
+    }
+
+    /// Appends a coordinate of these numbers.
+    fn numbers(&mut self, number: impl Fn(usize) -> f64) -> WkbResult<()> {
+        self.words.try_reserve(4).map_err(|_| AllocError)?;
+        self.words.extend((0..self.dim.size()).map(|n| number(n).to_bits()));
         Ok(())
-    } else {
-        Err(NotWritten::Refused(Status::INCORRECT_TYPE))
-    }
-}
-
-/// What the levels of a geometry are told to: its words, and the ends of its rings and singles.
-trait Sink {
-    fn coordinate(&mut self, words: impl Iterator<Item = f64>);
-    fn end_ring(&mut self, width: usize);
-    fn end_single(&mut self);
-}
-
-#[derive(Default)]
-struct Lists {
-    words: Vec<f64>,
-    ring_ends: Vec<u64>,
-    single_ends: Vec<u64>,
-}
-
-impl Sink for Lists {
-    fn coordinate(&mut self, words: impl Iterator<Item = f64>) {
-        self.words.extend(words);
     }
 
-    fn end_ring(&mut self, width: usize) {
-        self.ring_ends.push((self.words.len() / width) as u64);
+    fn coordinate(&mut self, it: &impl CoordTrait<T = f64>) -> WkbResult<()> {
+        self.fits(it.dim())?;
+        self.numbers(|n| it.nth_or_panic(n))
     }
 
-    fn end_single(&mut self) {
-        self.single_ends.push(self.ring_ends.len() as u64);
-    }
-}
-
-#[derive(Default)]
-struct Counts {
-    coordinates: usize,
-    rings: usize,
-    singles: usize,
-}
-
-impl Sink for Counts {
-    fn coordinate(&mut self, _: impl Iterator<Item = f64>) {
-        self.coordinates += 1;
+    fn end_ring(&mut self) -> WkbResult<()> {
+        extend(&mut self.rings, &[(self.words.len() / self.dim.size()) as u64])
     }
 
-    fn end_ring(&mut self, _: usize) {
-        self.rings += 1;
+    fn end_single(&mut self) -> WkbResult<()> {
+        extend(&mut self.singles, &[self.rings.len() as u64])
     }
 
-    fn end_single(&mut self) {
-        self.singles += 1;
+    fn ring<C: CoordTrait<T = f64>>(&mut self, mut coords: impl Iterator<Item = C>) -> WkbResult<()> {
+        coords.try_for_each(|it| self.coordinate(&it))?;
+        self.end_ring()
     }
-}
 
-/// Tells the levels of a geometry that is no collection, and returns what it is written as.
-fn levels(geometry: &impl GeometryTrait<T = f64>, to: &mut impl Sink) -> Done<(Kind, Dimension)> {
-    let dimension = match geometry.as_type() {
-        GeometryType::Rect(_) => named(geometry.dim()).map(|_| Dimension::Xy)?,
-        _ => named(geometry.dim())?,
-    };
-    let kind = match geometry.as_type() {
-        GeometryType::Point(it) => point(it, dimension, to).map(|()| Kind::Point),
-        GeometryType::LineString(it) => line(it.coords(), dimension, to).map(|()| Kind::LineString),
-        GeometryType::Polygon(it) => polygon(it, dimension, to).map(|()| Kind::Polygon),
-        GeometryType::MultiPoint(it) => {
-            it.points().try_for_each(|it| point(&it, dimension, to)).map(|()| Kind::MultiPoint)
+    fn line<C: CoordTrait<T = f64>>(&mut self, coords: impl Iterator<Item = C>) -> WkbResult<()> {
+        self.ring(coords)?;
+        self.end_single()
+    }
+
+    fn member_line(&mut self, it: &impl LineStringTrait<T = f64>) -> WkbResult<()> {
+        self.fits(it.dim())?;
+        self.line(it.coords())
+    }
+
+    fn point(&mut self, it: &impl PointTrait<T = f64>) -> WkbResult<()> {
+        self.fits(it.dim())?;
+        match it.coord() {
+            Some(it) => self.coordinate(&it)?,
+            None => self.numbers(|_| f64::from_bits(EMPTY))?,
         }
-        GeometryType::MultiLineString(it) => {
-            let mut lines = it.line_strings();
-            let member = |it| member_line(&it, dimension, to);
-            lines.try_for_each(member).map(|()| Kind::MultiLineString)
+        self.end_ring()?;
+        self.end_single()
+    }
+
+    fn polygon(&mut self, it: &impl PolygonTrait<T = f64>) -> WkbResult<()> {
+        self.fits(it.dim())?;
+        for ring in it.exterior().into_iter().chain(it.interiors()) {
+            self.fits(ring.dim())?;
+            self.ring(ring.coords())?;
         }
-        GeometryType::MultiPolygon(it) => {
-            it.polygons().try_for_each(|it| polygon(&it, dimension, to)).map(|()| Kind::MultiPolygon)
+        self.end_single()
+    }
+
+    fn rect(&mut self, it: &impl RectTrait<T = f64>) -> WkbResult<()> {
+        self.dim = Dimensions::Xy;
+        let ((left, bottom), (right, top)) = (it.min().x_y(), it.max().x_y());
+        for corner in [[left, bottom], [left, top], [right, top], [right, bottom], [left, bottom]] {
+            self.numbers(|n| corner[n])?;
         }
-        GeometryType::Rect(it) => rect(it, to).map(|()| Kind::Polygon),
-        GeometryType::Triangle(it) => {
-            let corners = [it.first(), it.second(), it.third(), it.first()];
-            line(corners.into_iter(), dimension, to).map(|()| Kind::Polygon)
+        self.end_ring()?;
+        self.end_single()
+    }
+
+    /// Takes the parts of a geometry, and returns the kind that it is written as.
+    fn fill(&mut self, geometry: &impl GeometryTrait<T = f64>) -> WkbResult<Kind> {
+        match geometry.as_type() {
+            GeometryType::Point(it) => self.point(it).map(|()| Kind::Point),
+            GeometryType::LineString(it) => self.line(it.coords()).map(|()| Kind::LineString),
+            GeometryType::Polygon(it) => self.polygon(it).map(|()| Kind::Polygon),
+            GeometryType::MultiPoint(it) => it.points().try_for_each(|it| self.point(&it)).map(|()| Kind::MultiPoint),
+            GeometryType::MultiLineString(it) => {
+                it.line_strings().try_for_each(|it| self.member_line(&it)).map(|()| Kind::MultiLineString)
+            }
+            GeometryType::MultiPolygon(it) => {
+                it.polygons().try_for_each(|it| self.polygon(&it)).map(|()| Kind::MultiPolygon)
+            }
+            GeometryType::Rect(it) => self.rect(it).map(|()| Kind::Polygon),
+            GeometryType::Triangle(it) => {
+                let corners = [it.first(), it.second(), it.third(), it.first()];
+                self.line(corners.into_iter()).map(|()| Kind::Polygon)
+            }
+            GeometryType::Line(it) => self.line([it.start(), it.end()].into_iter()).map(|()| Kind::LineString),
+            GeometryType::GeometryCollection(_) => unreachable!("a collection has members, and no levels"),
         }
-        GeometryType::Line(it) => line([it.start(), it.end()].into_iter(), dimension, to).map(|()| Kind::LineString),
-        GeometryType::GeometryCollection(_) => unreachable!("a collection has members, and no levels"),
-    };
-    Ok((kind?, dimension))
-}
-
-fn coordinate(it: &impl CoordTrait<T = f64>, dimension: Dimension, to: &mut impl Sink) -> Done {
-    fits(it.dim(), dimension)?;
-    to.coordinate((0..dimension.width()).map(|n| it.nth_or_panic(n)));
-    Ok(())
-}
-
-fn ring<C: CoordTrait<T = f64>>(coords: impl Iterator<Item = C>, dimension: Dimension, to: &mut impl Sink) -> Done {
-    for it in coords {
-        coordinate(&it, dimension, to)?;
     }
-    to.end_ring(dimension.width());
-    Ok(())
-}
 
-fn line<C: CoordTrait<T = f64>>(coords: impl Iterator<Item = C>, dimension: Dimension, to: &mut impl Sink) -> Done {
-    ring(coords, dimension, to)?;
-    to.end_single();
-    Ok(())
-}
-
-fn member_line(it: &impl LineStringTrait<T = f64>, dimension: Dimension, to: &mut impl Sink) -> Done {
-    fits(it.dim(), dimension)?;
-    line(it.coords(), dimension, to)
-}
-
-fn point(it: &impl PointTrait<T = f64>, dimension: Dimension, to: &mut impl Sink) -> Done {
-    fits(it.dim(), dimension)?;
-    match it.coord() {
-        Some(it) => coordinate(&it, dimension, to)?,
-        None => to.coordinate([NAN; 4].into_iter().take(dimension.width())),
+    /// Appends the encoding of a geometry of this kind.
+    fn append(&self, out: &mut Vec<u8>, kind: Kind, options: &WriteOptions) -> WkbResult<()> {
+        let ends = |ends| Ends::At { start: 0, ends };
+        let all = [self.singles.len() as u64];
+        let (words, ring_ends, single_ends) = (&self.words[..], ends(&self.rings), ends(&self.singles));
+        let levels = Levels { words, ring_ends, single_ends, row_ends: ends(&all) };
+        let row = levels.row(kind, self.dim, 0, &mut Place::front()).expect("levels of this kind");
+        let (at, size) = (out.len(), row.size(options)?);
+        out.try_reserve(size).map_err(|_| AllocError)?;
+        out.resize(at + size, 0);
+        row.write(options, &mut out[at..]).map(drop)
     }
-    to.end_ring(dimension.width());
-    to.end_single();
-    Ok(())
-}
-
-fn polygon(it: &impl PolygonTrait<T = f64>, dimension: Dimension, to: &mut impl Sink) -> Done {
-    fits(it.dim(), dimension)?;
-    if let Some(it) = it.exterior() {
-        ring(it.coords(), dimension, to)?;
-    }
-    for it in it.interiors() {
-        ring(it.coords(), dimension, to)?;
-    }
-    to.end_single();
-    Ok(())
-}
-
-fn rect(it: &impl RectTrait<T = f64>, to: &mut impl Sink) -> Done {
-    let (least, greatest) = (it.min(), it.max());
-    let (left, bottom) = (least.x(), least.y());
-    let (right, top) = (greatest.x(), greatest.y());
-    for corner in [[left, bottom], [left, top], [right, top], [right, bottom], [left, bottom]] {
-        to.coordinate(corner.into_iter());
-    }
-    to.end_ring(2);
-    to.end_single();
-    Ok(())
 }

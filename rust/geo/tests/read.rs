@@ -1,0 +1,67 @@
+//! What was read, by the traits.
+use geo_traits::*;
+use porchsorrel_wkb::reader::read_wkb;
+use porchsorrel_wkb::writer::{Form, WriteOptions};
+use porchsorrel_wkb::Endianness;
+use porchsorrel_wkb_geo::{to_vec, Geometry};
+
+/// FNV-1a in 32 bits.
+fn summed(bytes: &[u8]) -> String {
+    let sum = bytes.iter().fold(0x811c_9dc5, |sum: u32, byte| (sum ^ u32::from(*byte)).wrapping_mul(0x0100_0193));
+    format!("{sum:08x}")
+}
+
+/// The options of a sum, for a geometry with this SRID.
+fn options(number: usize, own: Option<u32>) -> WriteOptions {
+    let form = match (number % 4, own) {
+        (0, _) => Form::Iso,
+        (1, Some(_)) => Form::Ewkb { srid: own },
+        (2, _) => Form::Ewkb { srid: Some(4326) },
+        _ => Form::Ewkb { srid: None },
+    };
+    WriteOptions { endianness: [Endianness::BigEndian, Endianness::LittleEndian][number / 4], form }
+}
+
+/// The inputs of c/test/lasting.rows, whose answers are those of a model: what is read by the traits is written as the
+/// model writes it.
+#[test]
+fn each_input() {
+    let mut accepted = 0;
+    for row in include_str!("../../../c/test/lasting.rows").lines().filter(|it| !it.starts_with('#')) {
+        let words: Vec<&str> = row.split(' ').collect();
+        let byte = |i| u8::from_str_radix(&words[0][i..i + 2], 16).unwrap();
+        let input: Vec<u8> = (0..words[0].len()).step_by(2).map(byte).collect();
+        let read = read_wkb(&input);
+        assert_eq!(read.is_ok(), words[1] == "0", "{row}");
+        let Ok(wkb) = read else { continue };
+        for (number, sum) in words[13..21].iter().enumerate() {
+            let written = to_vec(&Geometry::from(&wkb), &options(number, wkb.srid())).unwrap();
+            assert_eq!(summed(&written), *sum, "{number} of {row}");
+        }
+        accepted += 1;
+    }
+    assert!(accepted > 1000);
+}
+
+/// A polygon of XYZM in big endian, whose rings have two coordinates each: an exterior and three interiors.
+#[test]
+fn a_third_interior() {
+    let mut input = b"\0\0\0\x0b\xbb\0\0\0\x04".to_vec();
+    for ring in 0..4 {
+        input.extend(b"\0\0\0\x02");
+        input.extend((8 * ring..8 * ring + 8).flat_map(|n| f64::from(n).to_be_bytes()));
+    }
+    let wkb = read_wkb(&input).unwrap();
+    let geometry = Geometry::from(&wkb);
+    let GeometryType::Polygon(polygon) = geometry.as_type() else { panic!("no polygon") };
+    assert_eq!((polygon.dim(), polygon.num_interiors()), (Dimensions::Xyzm, 3));
+    let numbers = |it: &dyn Fn(usize) -> f64| (0..4).map(it).collect::<Vec<_>>();
+    let ring = polygon.interior(2).unwrap();
+    let coord = ring.coord(1).unwrap();
+    assert_eq!((coord.x_y(), numbers(&|n| coord.nth_or_panic(n))), ((28.0, 29.0), vec![28.0, 29.0, 30.0, 31.0]));
+    assert_eq!((ring.dim(), coord.dim(), ring.num_coords()), (Dimensions::Xyzm, Dimensions::Xyzm, 2));
+    assert!(coord.nth(4).is_none() && ring.coord(2).is_none() && polygon.interior(3).is_none());
+    let rings = polygon.exterior().into_iter().chain(polygon.interiors());
+    let firsts = rings.flat_map(|it| it.coords().map(|it| it.x()).collect::<Vec<_>>());
+    assert_eq!(firsts.collect::<Vec<_>>(), [0.0, 4.0, 8.0, 12.0, 16.0, 20.0, 24.0, 28.0]);
+}

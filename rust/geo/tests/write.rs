@@ -1,0 +1,295 @@
+//! What is written of geometries that no input has, or that are rejected.
+use geo_traits::*;
+use porchsorrel_wkb::error::{General, WkbError};
+use porchsorrel_wkb::writer::{Form, WriteOptions};
+use porchsorrel_wkb::Endianness;
+use porchsorrel_wkb_geo::{geometry_wkb_size, to_vec, write_geometry};
+
+/// A geometry that has these members, rings or coordinates, or a coordinate that has these numbers.
+#[derive(Clone)]
+struct Made(Of, Dimensions, Vec<Made>, Vec<f64>);
+
+#[derive(Clone, Copy, Debug)]
+enum Of {
+    Coord,
+    Point,
+    LineString,
+    Polygon,
+    MultiPoint,
+    MultiLineString,
+    MultiPolygon,
+    GeometryCollection,
+    Rect,
+    Triangle,
+    Line,
+}
+
+impl CoordTrait for Made {
+    type T = f64;
+
+    fn dim(&self) -> Dimensions {
+        self.1
+    }
+
+    fn x(&self) -> f64 {
+        self.3[0]
+    }
+
+    fn y(&self) -> f64 {
+        self.3[1]
+    }
+
+    fn nth_or_panic(&self, n: usize) -> f64 {
+        self.3[n]
+    }
+}
+
+impl GeometryTrait for Made {
+    type T = f64;
+    type PointType<'a> = Made;
+    type LineStringType<'a> = Made;
+    type PolygonType<'a> = Made;
+    type MultiPointType<'a> = Made;
+    type MultiLineStringType<'a> = Made;
+    type MultiPolygonType<'a> = Made;
+    type GeometryCollectionType<'a> = Made;
+    type RectType<'a> = Made;
+    type TriangleType<'a> = Made;
+    type LineType<'a> = Made;
+
+    fn dim(&self) -> Dimensions {
+        self.1
+    }
+
+    fn as_type(&self) -> GeometryType<'_, Made, Made, Made, Made, Made, Made, Made, Made, Made, Made> {
+        match self.0 {
+            Of::Point => GeometryType::Point(self),
+            Of::LineString => GeometryType::LineString(self),
+            Of::Polygon => GeometryType::Polygon(self),
+            Of::MultiPoint => GeometryType::MultiPoint(self),
+            Of::MultiLineString => GeometryType::MultiLineString(self),
+            Of::MultiPolygon => GeometryType::MultiPolygon(self),
+            Of::GeometryCollection => GeometryType::GeometryCollection(self),
+            Of::Rect => GeometryType::Rect(self),
+            Of::Triangle => GeometryType::Triangle(self),
+            Of::Line => GeometryType::Line(self),
+            Of::Coord => unreachable!("a coordinate is no geometry"),
+        }
+    }
+}
+
+/// A kind whose parts are these.
+macro_rules! parts {
+    ($trait:ident, $type:ident, $count:ident, $get:ident) => {
+        impl $trait for Made {
+            type $type<'a> = Made;
+
+            fn $count(&self) -> usize {
+                self.2.len()
+            }
+
+            unsafe fn $get(&self, i: usize) -> Made {
+                self.2[i].clone()
+            }
+        }
+    };
+}
+
+parts!(LineStringTrait, CoordType, num_coords, coord_unchecked);
+parts!(MultiPointTrait, InnerPointType, num_points, point_unchecked);
+parts!(MultiLineStringTrait, InnerLineStringType, num_line_strings, line_string_unchecked);
+parts!(MultiPolygonTrait, InnerPolygonType, num_polygons, polygon_unchecked);
+parts!(GeometryCollectionTrait, GeometryType, num_geometries, geometry_unchecked);
+
+/// A kind whose corners are these coordinates.
+macro_rules! corners {
+    ($trait:ident, $($name:ident $i:literal),*) => {
+        impl $trait for Made {
+            type CoordType<'a> = Made;
+
+            $(fn $name(&self) -> Made {
+                self.2[$i].clone()
+            })*
+        }
+    };
+}
+
+corners!(LineTrait, start 0, end 1);
+corners!(RectTrait, min 0, max 1);
+corners!(TriangleTrait, first 0, second 1, third 2);
+
+impl PointTrait for Made {
+    type CoordType<'a> = Made;
+
+    fn coord(&self) -> Option<Made> {
+        self.2.first().cloned()
+    }
+}
+
+impl PolygonTrait for Made {
+    type RingType<'a> = Made;
+
+    fn exterior(&self) -> Option<Made> {
+        self.2.first().cloned()
+    }
+
+    fn num_interiors(&self) -> usize {
+        self.2.len().saturating_sub(1)
+    }
+
+    unsafe fn interior_unchecked(&self, i: usize) -> Made {
+        self.2[i + 1].clone()
+    }
+}
+
+fn coord(dimensions: Dimensions, numbers: &[f64]) -> Made {
+    Made(Of::Coord, dimensions, vec![], numbers.to_vec())
+}
+
+fn made(of: Of, dimensions: Dimensions, parts: Vec<Made>) -> Made {
+    Made(of, dimensions, parts, vec![])
+}
+
+fn point(dimensions: Dimensions, numbers: &[f64]) -> Made {
+    made(Of::Point, dimensions, vec![coord(dimensions, numbers)])
+}
+
+fn collection(members: Vec<Made>) -> Made {
+    made(Of::GeometryCollection, Dimensions::Xy, members)
+}
+
+/// A geometry of these corners.
+fn cornered(of: Of, corners: &[&[f64]]) -> Made {
+    let dimensions = Dimensions::Unknown(corners[0].len());
+    made(of, dimensions, corners.iter().map(|it| coord(dimensions, it)).collect())
+}
+
+/// The encoding in big endian of a code, a list of counts and words.
+fn bytes(code: u32, counts: &[u32], words: &[f64]) -> Vec<u8> {
+    let mut made = vec![0];
+    made.extend(code.to_be_bytes());
+    made.extend(counts.iter().flat_map(|it| it.to_be_bytes()));
+    made.extend(words.iter().flat_map(|it| it.to_be_bytes()));
+    made
+}
+
+fn big(form: Form) -> WriteOptions {
+    WriteOptions { endianness: Endianness::BigEndian, form }
+}
+
+/// What is written has these bytes.
+fn expect(geometry: &impl GeometryTrait<T = f64>, expected: &[u8]) {
+    let mut out = Vec::new();
+    write_geometry(&mut out, geometry, &big(Form::Iso)).unwrap();
+    assert!(out == expected, "{out:x?} for {expected:x?}");
+    assert_eq!(geometry_wkb_size(geometry).unwrap(), expected.len());
+}
+
+#[test]
+fn kinds_that_no_input_has() {
+    let line = cornered(Of::Line, &[&[1., 2., 3.], &[4., 5., 6.]]);
+    expect(&line, &bytes(1002, &[2], &[1., 2., 3., 4., 5., 6.]));
+    // A rectangle is written in x and y.
+    let corners = [1., 2., 1., 5., 4., 5., 4., 2., 1., 2.];
+    expect(&cornered(Of::Rect, &[&[1., 2., 3.], &[4., 5., 6.]]), &bytes(3, &[1, 5], &corners));
+    let triangle = cornered(Of::Triangle, &[&[0., 0.], &[1., 0.], &[0., 1.]]);
+    expect(&triangle, &bytes(3, &[1, 4], &[0., 0., 1., 0., 0., 1., 0., 0.]));
+}
+
+const DIMENSIONS: [(Dimensions, u32, usize); 7] = [
+    (Dimensions::Xy, 1, 2),
+    (Dimensions::Xyz, 1001, 3),
+    (Dimensions::Xym, 2001, 3),
+    (Dimensions::Xyzm, 3001, 4),
+    (Dimensions::Unknown(2), 1, 2),
+    (Dimensions::Unknown(3), 1001, 3),
+    (Dimensions::Unknown(4), 3001, 4),
+];
+
+#[test]
+fn points() {
+    let nan = f64::from_bits(0x7ff8_0000_0000_0000);
+    for (dimensions, code, width) in DIMENSIONS {
+        let words = &[1., 2., 3., 4.][..width];
+        expect(&point(dimensions, words), &bytes(code, &[], words));
+        let empty = made(Of::Point, dimensions, vec![]);
+        expect(&empty, &bytes(code, &[], &[nan; 4][..width]));
+    }
+}
+
+#[test]
+fn an_srid() {
+    let whole = collection(vec![point(Dimensions::Xyz, &[1., 2., 3.])]);
+    let mut expected = bytes(0x2000_0007, &[4326, 1], &[]);
+    expected.extend(bytes(0x8000_0001, &[], &[1., 2., 3.]));
+    assert_eq!(to_vec(&whole, &big(Form::Ewkb { srid: Some(4326) })).unwrap(), expected);
+}
+
+/// More coordinates, and more members, than 16 bits count.
+#[test]
+fn counts() {
+    let numbers: Vec<f64> = (0..140_000).map(f64::from).collect();
+    let coords = numbers.chunks(2).map(|it| coord(Dimensions::Xy, it)).collect();
+    expect(&made(Of::LineString, Dimensions::Xy, coords), &bytes(2, &[70_000], &numbers));
+    let mut expected = bytes(7, &[70_000], &[]);
+    expected.extend(bytes(2, &[0], &[]).repeat(70_000));
+    expect(&collection(vec![made(Of::LineString, Dimensions::Xy, vec![]); 70_000]), &expected);
+}
+
+fn refused(geometry: &impl GeometryTrait<T = f64>) -> WkbError {
+    to_vec(geometry, &big(Form::Iso)).unwrap_err()
+}
+
+/// An empty member of another dimension is rejected as one with a coordinate is, and so are a ring and a coordinate.
+#[test]
+fn parts_of_another_dimension() {
+    for ((outer, code, _), (inner, other, _)) in DIMENSIONS.iter().flat_map(|a| DIMENSIONS.map(|b| (*a, b))) {
+        let coords = || vec![coord(inner, &[1.; 4])];
+        let rings = || vec![made(Of::LineString, inner, coords())];
+        let mut wholes = vec![
+            made(Of::LineString, outer, coords()),
+            made(Of::Polygon, outer, rings()),
+            made(Of::Polygon, outer, vec![made(Of::LineString, inner, vec![])]),
+        ];
+        for (kind, of, parts) in [
+            (Of::MultiPoint, Of::Point, coords()),
+            (Of::MultiLineString, Of::LineString, coords()),
+            (Of::MultiPolygon, Of::Polygon, rings()),
+        ] {
+            wholes.extend([vec![], parts].map(|it| made(kind, outer, vec![made(of, inner, it)])));
+        }
+        for whole in wholes {
+            if code == other {
+                assert!(to_vec(&whole, &big(Form::Iso)).is_ok(), "{:?} {outer:?} of {inner:?}", whole.0);
+            } else {
+                let why = refused(&whole);
+                assert!(matches!(why, WkbError::IncorrectType(_)), "{:?} {outer:?} of {inner:?}: {why}", whole.0);
+            }
+        }
+    }
+}
+
+#[test]
+fn words_without_a_dimension() {
+    for words in [0, 1, 5] {
+        let dimensions = Dimensions::Unknown(words);
+        let corners = vec![coord(dimensions, &[1.; 5]); 3];
+        let kinds = [Of::Point, Of::GeometryCollection, Of::Rect, Of::Triangle, Of::Line];
+        let mut all = kinds.map(|of| made(of, dimensions, corners.clone())).to_vec();
+        all.push(made(Of::MultiPoint, Dimensions::Xy, vec![made(Of::Point, dimensions, vec![])]));
+        for it in all {
+            let why = refused(&it);
+            assert!(matches!(why, WkbError::General(General::UnsupportedDimensions(n)) if n == words), "{why}");
+        }
+    }
+}
+
+#[test]
+fn depth() {
+    let around = |it: Made| collection(vec![it]);
+    let whole = (0..128).fold(point(Dimensions::Xy, &[1., 2.]), |it, _| around(it));
+    let mut expected = bytes(7, &[1], &[]).repeat(128);
+    expected.extend(bytes(1, &[], &[1., 2.]));
+    expect(&whole, &expected);
+    assert!(matches!(refused(&around(whole)), WkbError::NestingDepthExceeded(128)));
+}
