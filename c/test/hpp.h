@@ -10,10 +10,6 @@
 #include <string_view>
 #include <vector>
 
-// Of hpp_refuse.cpp: how many allocations are granted before the rest is rejected, and how many blocks are allocated.
-constexpr std::size_t ALL = SIZE_MAX;
-extern std::size_t granted, blocks;
-
 // Prints what is wrong, and ends.
 inline void expect(bool holds, std::string_view what) {
   if (holds) return;

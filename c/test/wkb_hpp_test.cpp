@@ -1,204 +1,337 @@
-// Tries what wkb.hpp has beside the answers of hpp_lasting.cpp: exceptions, readers that are moved, long inputs, and
-// words and facts that no input has. It prints nothing, and an error if there is one.
-#include "test/hpp.h"
+// Compares wkb.hpp with wkb.h, call by call, over the inputs of test/lasting.rows, over changed ones, and over columns
+// of both with null rows and bad offsets; test/lasting.c compares wkb.h with the file's answers. It is compiled without
+// exceptions. It prints nothing, and an error if there is one.
+#include "hpp.h"
 
 #include "wkb_facts.hpp"
 
+#include <algorithm>
+#include <cmath>
 #include <cstring>
-#include <utility>
+#include <fstream>
+#include <set>
 
-static_assert(std::forward_iterator<wkb::part::iterator>);
+namespace {
 
-// Offsets are those that Arrow has.
+using input = std::vector<std::byte>;
+constexpr wkb_fault UNTOLD{7, 7, 7, 7, 7, 7};
+constexpr std::byte KEPT{7};
+constexpr std::size_t ROWS = 70, MOST_BITS = 200, CHANGED = 4;
+
+// The same numbers in each run.
+std::uint64_t below(std::uint64_t count) {
+  static std::uint64_t state = 1;
+  state ^= state << 13, state ^= state >> 7, state ^= state << 17;
+  return state % count;
+}
+
+template <typename Record>
+bool is_same(const Record &a, const Record &b) {
+  return std::memcmp(&a, &b, sizeof a) == 0;
+}
+
+template <typename A, typename B>
+bool are_same(const A &a, const B &b) {
+  return std::ranges::equal(std::as_bytes(std::span(a)), std::as_bytes(std::span(b)));
+}
+
+// An input with a few bytes changed, or the front of one.
+input changed(input it) {
+  for (std::uint64_t left = below(4); left > 0 && !it.empty(); left--) it[below(it.size())] = std::byte(1 << below(8));
+  if (below(3) == 0) it.resize(below(it.size() + 1));
+  return it;
+}
+
+// Each call tells the fault, and leaves what it would have written to.
+void refuses(wkb::bytes in, const wkb_fault &wanted) {
+  static const auto POINT = spelled("0101000000000000000000f03f0000000000000040");
+  wkb_fault fault = UNTOLD;
+  std::uint32_t which = 0;
+  input out(3, KEPT), room(in.size() + 4, KEPT);
+  std::vector<wkb_part> table(in.size() + 1);
+  wkb::reader reader;
+  const auto is_told = [&](bool is_refused, const char *call) {
+    expect(is_refused && is_same(fault, wanted), call);
+    fault = UNTOLD;
+  };
+  (void)reader.try_read(POINT);
+  is_told(!wkb::try_bounds(in, &fault), "the fault of try_bounds");
+  is_told(!wkb::try_write(in, {}, out, &fault), "the fault of try_write");
+  is_told(!wkb::try_write(in, {}, std::span(room), &fault), "the fault of try_write into a span");
+  is_told(!wkb::try_read(in, table, &fault), "the fault of try_read");
+  is_told(!reader.try_read(in, &fault) && reader.table().empty(), "the fault of a reader");
+  is_told(!wkb::try_same(in, POINT, &fault, &which) && which == 1, "the fault of the first of two");
+  is_told(!wkb::try_same(POINT, in, &fault, &which) && which == 2, "the fault of the second of two");
+  expect(!wkb::try_bounds(in) && !wkb::try_write(in, {}, out), "a fault that nobody wants");
+  room.insert(room.end(), out.begin(), out.end());
+  expect(std::ranges::count(room, KEPT) == std::ssize(room) && table[0].end == 0, "what a refusal leaves");
+}
+
+// Under options, of which some are unknown: into a vector, into a span, and into one that is too small.
+void writes(wkb::bytes in, const wkb_options &options) {
+  input wanted(in.size() + 4), out(below(2 * in.size()), KEPT), room = wanted;
+  const input before = out;
+  std::size_t size = 0;
+  wkb_fault fault = UNTOLD;
+  const wkb_status status = wkb_write(in.data(), in.size(), &options, wanted.data(), wanted.size(), &size, nullptr);
+  wanted.resize(size);
+  const wkb_fault refusal = {0, 0, 0, 0, 0, status}, no_room = {0, 0, 0, 0, 0, WKB_STATUS_NO_ROOM};
+  if (status != WKB_STATUS_OK) {
+    expect(!wkb::try_write(in, options, out, &fault) && is_same(fault, refusal) && out == before, "unknown options");
+    return;
+  }
+  expect(wkb::try_write(in, options, out, &fault) && out == wanted, "try_write");
+  expect(wkb::try_write(in, options, std::span(room), &fault) == size, "try_write into a span");
+  expect(std::equal(wanted.begin(), wanted.end(), room.begin()) && is_same(fault, UNTOLD), "what it writes there");
+  expect(wkb::try_same(in, out, &fault) == true && is_same(fault, UNTOLD), "the same value");
+  const auto less = wkb::try_write(in, options, std::span(room).first(size - 1), &fault);
+  expect(!less && is_same(fault, no_room), "room for all bytes but one");
+}
+
+void copies(wkb::bytes in, const wkb::part &part) {
+  const wkb_part &e = part.entry();
+  std::vector<double> words(e.count * e.width), each;
+  wkb_words(in.data(), &e, 0, e.count, words.data());
+  for (std::size_t i = 0; i < words.size(); i++)
+    each.push_back(part.word(i / e.width, static_cast<unsigned>(i % e.width)));
+  expect(are_same(part.words(), words) && are_same(each, words), "words");
+  for (std::size_t room = 0, first = e.count / 2; room <= 2 * e.width; room++) {
+    std::vector<double> out(room, -1), expected = out;
+    const std::size_t count = std::min<std::size_t>(e.count - first, room / e.width);
+    std::copy_n(words.begin() + static_cast<std::ptrdiff_t>(e.width * first), e.width * count, expected.begin());
+    expect(part.copy(out, first) == count && are_same(out, expected), "words that are copied");
+    expect(part.copy(out, e.count + 1) == 0, "words after the last");
+  }
+}
+
+// Goes over a part and its own, from an entry on, by all calls. Returns the entry behind them.
+const wkb_part *walked(wkb::bytes in, const wkb::part &part, const wkb_part *entry) {
+  const wkb_part &e = *entry++;
+  expect(is_same(part.entry(), e) && part.kind() == e.kind && part.dimension() == e.dimension, "what a part is");
+  expect(part.order() == e.order && part.width() == e.width && part.size() == e.count, "its numbers");
+  expect(part.empty() == (e.count == 0) && part.has_coordinates() == (e.kind <= WKB_KIND_LINE_STRING), "what it has");
+  expect(part.srid() == (e.has_srid ? std::optional(e.srid) : std::nullopt), "its SRID");
+  expect(part.encoding().data() == in.data() + e.begin && part.encoding().size() == e.end - e.begin, "its bytes");
+  if (part.has_coordinates()) {
+    copies(in, part);
+    expect(part.begin() == part.end(), "members of a part that has coordinates");
+    return entry;
+  }
+  std::size_t members = 0;
+  for (const wkb::part member : part) entry = walked(in, member, entry), members++;
+  expect(members == e.count, "how many members there are");
+  return entry;
+}
+
+void reads(wkb::bytes in, std::size_t parts) {
+  static wkb::reader kept;
+  const wkb_fault no_room = {0, 0, 0, 0, 0, WKB_STATUS_NO_ROOM};
+  wkb_fault fault = UNTOLD;
+  std::vector<wkb_part> wanted(parts), table(parts);
+  wkb_parts(in.data(), in.size(), wanted.data(), parts, nullptr, nullptr);
+  expect(!wkb::try_read(in, std::span(table).first(parts - 1), &fault) && is_same(fault, no_room), "a smaller table");
+  expect(table[0].end == 0, "what it holds");
+  fault = UNTOLD;
+  for (const auto &whole : {kept.try_read(in, &fault), wkb::try_read(in, table, &fault)})
+    expect(walked(in, *whole, wanted.data()) == wanted.data() + parts && is_same(fault, UNTOLD), "all parts");
+  expect(are_same(kept.table(), wanted), "the table of a reader");
+}
+
+void compares(wkb::bytes a, wkb::bytes b) {
+  std::uint32_t equal = 0;
+  const wkb_status status = wkb_same(a.data(), a.size(), b.data(), b.size(), &equal, nullptr, nullptr);
+  const auto same = wkb::try_same(a, b);
+  expect(same == (status == WKB_STATUS_OK ? std::optional(equal != 0) : std::nullopt), "a comparison");
+}
+
+void is_one(wkb::bytes in) {
+  wkb_found found{};
+  wkb_fault fault = UNTOLD, told = UNTOLD;
+  const bool is_good = wkb_check(in.data(), in.size(), &found, &fault) == WKB_STATUS_OK;
+  const auto checked = wkb::check(in, &told);
+  expect(checked.has_value() == is_good && is_same(told, fault) && wkb::check(in).has_value() == is_good, "check");
+  if (!is_good) return refuses(in, fault);
+  wkb_box box;
+  wkb_bounds(in.data(), in.size(), &box, nullptr);
+  expect(is_same(*checked, found) && is_same(*wkb::try_bounds(in, &told), box) && is_same(told, UNTOLD), "bounds");
+  for (wkb_order order = 0; order < 3; order++)
+    for (wkb_form form = 0; form < 5; form++) writes(in, {order, form, static_cast<std::uint32_t>(below(1ull << 32))});
+  reads(in, found.parts);
+}
+
+// A column of inputs, with null rows and offsets that are bad, whose bits of validity begin anywhere.
 template <typename Offset>
-concept is_offset = requires(std::span<const Offset> offsets) { wkb::column(wkb::bytes(), offsets); };
-static_assert(is_offset<std::int32_t> && is_offset<std::int64_t>);
-static_assert(!is_offset<std::uint32_t> && !is_offset<std::uint64_t> && !is_offset<std::int16_t>);
+struct filled {
+  std::size_t first = below(MOST_BITS);
+  input data{};
+  std::vector<Offset> offsets{0};
+  std::vector<std::uint8_t> validity = std::vector<std::uint8_t>((ROWS + MOST_BITS) / 8 + 1);
 
-static const std::string ONE_AND_TWO = "000000000000f03f0000000000000040";
-static const auto POINT = spelled("0101000020e6100000" + ONE_AND_TWO);
-// A big endian multi polygon: one polygon without rings, one with a ring of one coordinate and an empty ring.
-static const auto POLYGONS = spelled(
-    "000000000600000002"
-    "000000000300000000"
-    "000000000300000002" "00000001" "3ff00000000000004000000000000000" "00000000");
-
-constexpr wkb_options BIG{WKB_ORDER_BIG, WKB_FORM_ISO, 0}, LITTLE{WKB_ORDER_LITTLE, WKB_FORM_ISO, 0};
-
-// The text of what a call throws, or none. LOOK looks at what it throws.
-template <typename Exception>
-static std::string thrown(auto call, auto look) {
-  try {
-    call();
-  } catch (const Exception &it) {
-    expect(look(it), it.what());
-    return it.what();
+  void add(const input &it) {
+    data.insert(data.end(), it.begin(), it.end());
+    offsets.push_back(static_cast<Offset>(data.size()));
   }
-  return {};
+  // All rows are there. Then some are null, and some have a bad offset.
+  wkb_column column() {
+    for (std::uint8_t &byte : validity) byte = static_cast<std::uint8_t>(below(4) ? 255 : below(256));
+    if (below(2) == 0) offsets[below(offsets.size())] = static_cast<Offset>(below(data.size() + 9)) - 4;
+    return wkb::column(data, std::span<const Offset>(offsets), below(8) ? validity.data() : nullptr, first);
+  }
+};
+
+void checks(const wkb_column &column, const wkb::statuses &wanted) {
+  std::vector<wkb_found> entries(column.rows);
+  std::vector<wkb_box> boxes(column.rows);
+  wkb::statuses statuses = wanted;
+  wkb_column_found(&column, entries.data(), statuses.data());
+  wkb_column_bounds(&column, boxes.data(), statuses.data());
+  const auto found = wkb::found_of_rows(column);
+  const auto bounds = wkb::bounds_of_rows(column);
+  expect(wkb::check_rows(column) == wanted && found.statuses == wanted && bounds.statuses == wanted, "statuses");
+  expect(are_same(found.found, entries) && are_same(bounds.boxes, boxes), "what is found, and bounds");
 }
 
-template <typename Exception>
-static std::string thrown(auto call) {
-  return thrown<Exception>(call, [](const Exception &) { return true; });
+void lists(const wkb_column &column, const wkb::statuses &wanted, const wkb_options &options) {
+  wkb::statuses statuses(column.rows);
+  std::vector<std::uint64_t> ends(column.rows);
+  std::vector<wkb_part> parts(column.size + 1);
+  parts.resize(wkb_column_parts(&column, parts.data(), parts.size(), ends.data(), statuses.data()));
+  const auto listed = wkb::parts_of_rows(column);
+  expect(listed.statuses == wanted && listed.ends == ends && are_same(listed.parts, parts), "parts_of_rows");
+  input out(column.size + 4 * column.rows);
+  out.resize(wkb_column_write(&column, &options, out.data(), out.size(), ends.data(), statuses.data()));
+  const auto written = wkb::write_rows(column, options);
+  expect(written.statuses == statuses && written.ends == ends && written.data == out, "write_rows");
 }
 
-// What the calls that throw return, what they throw, and what that leaves.
-static void exceptions() {
-  const std::string ended = "the input ends inside a header or before a count, at byte 0 (part 0)";
-  const std::string cut = "the input ends inside a point, at byte 0 (part 0): it needs 25 bytes and has 20";
-  auto out = POLYGONS;
-  wkb::reader reader;
-  expect(wkb::bounds(POLYGONS).y.greatest == 2 && wkb::write(POINT, LITTLE).size() == 21, "bounds and a writing");
-  expect(wkb::same(POINT, wkb::write(POINT, BIG)) && !wkb::same(POINT, POLYGONS), "comparisons");
-  const auto is_of_point = [](const wkb::refused &it) {
-    return it.status() == WKB_STATUS_SHORT_POINT && it.fault().end == 25;
-  };
-  expect(thrown<wkb::refused>([] { wkb::bounds(wkb::bytes(POINT).first(20)); }, is_of_point) == cut, "bounds");
-  expect(thrown<wkb::refused>([&] { wkb::write({}, BIG, out); }) == ended && out == POLYGONS, "what a refusal leaves");
-  const std::string unknown = thrown<std::invalid_argument>([&] { wkb::write(POINT, {2, WKB_FORM_ISO, 0}, out); });
-  expect(unknown == wkb_status_text(WKB_STATUS_UNKNOWN_OPTION) && out == POLYGONS, "what an unknown order leaves");
-  const auto is = [](unsigned n) { return [=](const wkb::refused_of_two &it) { return it.which() == n; }; };
-  expect(thrown<wkb::refused_of_two>([] { wkb::same({}, POINT); }, is(1)) == ended, "the first of two");
-  expect(thrown<wkb::refused_of_two>([] { wkb::same(POINT, {}); }, is(2)) == ended, "the second of two");
-  expect(reader.table().empty() && reader.read(POLYGONS).size() == 2 && reader.table().size() == 5, "a table");
-  expect(thrown<wkb::refused>([&] { reader.read({}); }) == ended && reader.table().empty(), "no table");
+// Also of an unknown kind and dimension.
+void collects(const wkb_column &column, wkb_kind kind, wkb_dim dimension, const wkb_options &options) {
+  input wanted(column.size + 13), out(below(2 * column.size + 1), KEPT);
+  const input before = out;
+  std::size_t size = 0, row = 7, bad = 7;
+  wkb_fault fault{}, told = UNTOLD;
+  fault.status =
+      wkb_collect(&column, kind, dimension, &options, wanted.data(), wanted.size(), &size, &fault, &bad);
+  wanted.resize(size);
+  const bool is_made = wkb::try_collect(column, kind, dimension, options, out, &told, &row);
+  expect(is_made == (fault.status == WKB_STATUS_OK) && row == bad && out == (is_made ? wanted : before), "try_collect");
+  expect(is_same(told, is_made ? UNTOLD : fault), "the fault of try_collect");
 }
 
-// A reader that was copied or moved, and one that was moved from.
-static void reader_moves() {
-  wkb::reader reader;
-  const wkb::part whole = reader.read(POLYGONS);
-  const wkb::reader copy = reader, moved = std::move(reader);
-  expect(copy.table().size() == 5 && moved.table().size() == 5, "tables that were copied and moved");
-  expect(moved.table().data() == &whole.entry() && copy.table().data() != &whole.entry(), "whose parts they are");
-  expect(reader.table().empty(), "no table of a reader that was moved from");
-  expect(reader.read(POINT).size() == 1 && reader.table().size() == 1, "a reader that was moved from reads again");
-  reader = wkb::reader(copy);
-  expect(reader.table().size() == 5, "a table that was assigned");
-}
-
-// An input that is longer than its geometry takes no more room for that, and a long one is written.
-static void long_inputs() {
-  std::vector<std::byte> input = spelled("0102000000ffff0000"), out;
-  input.resize(9 + 16 * 65535 + 5000000);
-  wkb::write(input, {WKB_ORDER_BIG, WKB_FORM_EWKB_WITH_SRID, 4326}, out);
-  expect(out.size() == 13 + 16 * 65535 && out.capacity() < 2000000, "a long input");
-  input.resize(100000);
-  expect(!wkb::try_write(input, BIG, out), "a long input that is cut off");
-  expect(out.size() == 13 + 16 * 65535, "what it leaves");
-  std::vector<std::byte> little;
-  expect(!wkb::try_write(input, BIG, little), "the same for an output without memory");
-  input = POINT;
-  input.resize(70000);
-  expect(wkb::try_write(input, {WKB_ORDER_LITTLE, WKB_FORM_EWKB_OWN_SRID, 0}, little), "a point and much behind it");
-  expect(little == POINT && little.capacity() < 100, "no more memory than these take");
-}
-
-// Rows as one geometry, and the row that can't be a member.
-static void collects() {
-  const auto big = spelled("000000000400000001" "0000000001" "3ff00000000000004000000000000000");
-  std::vector<std::byte> data = POINT, out = POLYGONS;
-  data.insert(data.end(), POLYGONS.begin(), POLYGONS.end());
-  const std::int32_t end = static_cast<std::int32_t>(data.size()), offsets[] = {0, 25, end, end};
-  const std::uint8_t validity = 1;
-  const auto of = [&](std::size_t rows, const void *valid = nullptr) {
-    return wkb::column(data, std::span<const std::int32_t>(offsets, rows + 1), valid);
-  };
-  const auto refused = [&](const wkb_column &column, wkb_kind kind) {
-    const auto is_last = [&](const wkb::refused_row &it) { return it.row() == column.rows - 1; };
-    return thrown<wkb::refused_row>([&] { wkb::collect(column, kind, WKB_DIM_XY, BIG); }, is_last);
-  };
-  expect(wkb::collect(of(1), WKB_KIND_MULTI_POINT, WKB_DIM_XY, BIG) == big, "a multi point");
-  expect(wkb::try_collect(of(1), WKB_KIND_MULTI_POINT, WKB_DIM_XY, BIG, out) && out == big, "a shorter one");
-  expect(wkb::collect(of(0), WKB_KIND_GEOMETRY_COLLECTION, WKB_DIM_XY, BIG).size() == 9, "an empty one");
-  expect(refused(of(2), WKB_KIND_MULTI_POINT) ==
-             "a member has the wrong kind, dimension or SRID for its multi geometry, at byte 0 (part 0)",
-         "another kind");
-  expect(refused(of(3), WKB_KIND_GEOMETRY_COLLECTION) ==
-             "the input ends inside a header or before a count, at byte 0 (part 0)",
-         "an empty row");
-  expect(refused(of(2, &validity), WKB_KIND_GEOMETRY_COLLECTION) == "the row is null", "a null row");
-  const auto kind = [&] { wkb::collect(of(3), WKB_KIND_POINT, WKB_DIM_XY, BIG); };
-  expect(!thrown<std::invalid_argument>(kind).empty(), "a kind without members");
-  wkb_fault fault{};
-  std::size_t row = 7;
-  expect(!wkb::try_collect(of(3), WKB_KIND_GEOMETRY_COLLECTION, 4, BIG, out, &fault, &row), "an unknown dimension");
-  expect(fault.status == WKB_STATUS_UNKNOWN_OPTION && out == big && row == 7, "what it leaves");
-}
-
-// Points of one's own with a null row, and no rows.
-static void rows_of_ones_own() {
-  const std::vector<double> words = {1, 2, 1, 2};
-  const std::uint8_t validity = 0x04;
-  const auto points = wkb::rows_from_coordinates({.words = words, .validity = &validity, .validity_offset = 1},
-                                                 WKB_KIND_POINT, WKB_DIM_XY,
-                                                 {WKB_ORDER_LITTLE, WKB_FORM_EWKB_WITH_SRID, 4326});
-  expect(points.statuses == wkb::statuses{WKB_STATUS_NULL_ROW, WKB_STATUS_OK} && points.data == POINT, "points");
-  expect(wkb::rows_from_coordinates({}, WKB_KIND_POINT, WKB_DIM_XY, LITTLE).ends.empty(), "no rows of one's own");
-  expect(wkb::check_rows(wkb::column({}, std::span<const std::int32_t>())).empty(), "no rows");
-}
-
-// Words that are no whole number of coordinates: no row is written, whichever levels have ends.
-static void words_without_a_whole_coordinate() {
-  const std::vector<std::uint64_t> one{1}, none{0};
-  const std::uint8_t validity = 0xfe;
-  for (wkb_dim dimension = WKB_DIM_XY; dimension <= WKB_DIM_XYZM; dimension++) {
-    const std::size_t width = wkb::width_of(dimension);
-    const std::vector<double> words(3 * width);
-    for (std::size_t count = 1; count < words.size(); count += 1 + ((count + 1) % width == 0)) {
-      wkb::levels levels{.words = std::span(words).first(count), .validity = &validity};
-      const auto points = wkb::rows_from_coordinates(levels, WKB_KIND_POINT, dimension, LITTLE);
-      wkb::statuses expected(count / width + 1, WKB_STATUS_BAD_LEVELS);
-      expected[0] = WKB_STATUS_NULL_ROW;
-      expect(points.statuses == expected && points.data.empty(), "points of words that are no whole coordinates");
-      levels.ring_ends = one, levels.validity = nullptr;
-      const auto line = wkb::rows_from_coordinates(levels, WKB_KIND_LINE_STRING, dimension, LITTLE);
-      expect(line.statuses == wkb::statuses{WKB_STATUS_BAD_LEVELS} && line.data.empty(), "a line string of such words");
-      levels.ring_ends = {}, levels.row_ends = none;
-      const auto empty = wkb::rows_from_coordinates(levels, WKB_KIND_MULTI_POINT, dimension, LITTLE);
-      expect(empty.statuses == line.statuses, "a row of no points beside such words");
-    }
+// From levels of which some have no ends, as by wkb.h in more room than they need.
+void comes_back(const wkb::row_coordinates &it, const wkb_column &column, wkb_dim dimension,
+                const wkb_options &options) {
+  for (std::uint64_t with = 0; with < 8; with++) {
+    const auto kind = static_cast<wkb_kind>(1 + below(6));
+    wkb::levels from{.words = it.words};
+    wkb_levels raw{it.words.data(), it.words.size(), nullptr, it.words.size() / wkb::width_of(dimension), nullptr, 0,
+                   nullptr, 0, nullptr, 0};
+    if (with & 1) from.ring_ends = it.ring_ends, raw.ring_ends = it.ring_ends.data(), raw.rings = it.ring_ends.size();
+    raw.singles = raw.rings;
+    if (with & 2) from.single_ends = it.single_ends, raw.single_ends = it.single_ends.data();
+    if (with & 2) raw.singles = it.single_ends.size();
+    raw.rows = raw.singles;
+    if (with & 4) from.row_ends = it.row_ends, raw.row_ends = it.row_ends.data(), raw.rows = column.rows;
+    if (with & 4) from.validity = raw.validity = column.validity;
+    from.validity_offset = raw.validity_offset = column.validity_offset;
+    wkb::statuses statuses(raw.rows);
+    std::vector<std::uint64_t> ends(raw.rows);
+    input out(8 * it.words.size() + 50 * (raw.singles + raw.rows));
+    out.resize(wkb_column_from_coordinates(&raw, kind, dimension, &options, out.data(), out.size(), ends.data(),
+                                           statuses.data()));
+    const auto written = wkb::rows_from_coordinates(from, kind, dimension, options);
+    expect(written.statuses == statuses && written.ends == ends && written.data == out, "rows_from_coordinates");
   }
 }
 
-// Facts of no rows, of rows that are none, and of zeros of both signs, infinities and NaNs in any order.
-static void facts() {
-  const auto of = [](const std::vector<std::string> &rows) {
-    std::vector<std::byte> data;
-    std::vector<std::int32_t> offsets{0};
-    for (const std::string &it : rows) {
-      const auto row = spelled(it);
-      data.insert(data.end(), row.begin(), row.end());
-      offsets.push_back(static_cast<std::int32_t>(data.size()));
-    }
-    return wkb::facts_of_rows(wkb::column(data, std::span<const std::int32_t>(offsets)));
-  };
-  constexpr double INFINITE = std::numeric_limits<double>::infinity();
-  for (const auto &none : {of({}), of({"", "0201000000"}), wkb::facts_of_rows(wkb_column{})}) {
-    expect(none.accepted == 0 && none.refused == none.rows && none.srids.empty(), "rows without facts");
-    for (const wkb_range &it : {none.box.x, none.box.y, none.box.z, none.box.m})
-      expect(it.count == 0 && it.least == INFINITE && it.greatest == -INFINITE, "the box of no rows");
-  }
-  const std::int32_t offsets[] = {21, 0, 0, 5};
-  const auto bad = wkb::facts_of_rows(wkb::column(POINT, std::span<const std::int32_t>(offsets)));
-  expect(bad.rows == 3 && bad.accepted == 0 && bad.refused == 2, "an offset that decreases is no refusal");
-  const auto x_of = [&](std::vector<std::string> words) {
-    for (std::string &it : words) it = "0101000000" + it + "0000000000000000";
-    return of(words).box.x;
-  };
-  const std::string zero = "0000000000000000", minus = "0000000000000080";
-  for (const wkb_range &x : {x_of({zero, minus}), x_of({minus, zero})})
-    expect(x.least == 0 && std::signbit(x.least) && x.greatest == 0 && !std::signbit(x.greatest), "zeros");
-  const wkb_range x = x_of({"000000000000f03f", "000000000000f0ff", "000000000000f87f", "000000000000f07f", zero});
-  expect(x.least == -INFINITE && x.greatest == INFINITE && x.count == 4, "infinities");
+void splits(const wkb_column &column, const wkb::statuses &wanted, wkb_dim dimension, const wkb_options &options) {
+  wkb::row_coordinates it{wanted, std::vector<std::uint64_t>(column.rows), {}, {}, {}};
+  wkb_coordinates to{nullptr, 0, nullptr, 0, nullptr, 0, it.row_ends.data(), 0, 0, 0};
+  wkb_column_coordinates(&column, dimension, &to, it.statuses.data());
+  it.words.resize(to.words_room = to.coordinates * wkb::width_of(dimension)), to.words = it.words.data();
+  it.ring_ends.resize(to.ring_room = to.rings), to.ring_ends = it.ring_ends.data();
+  it.single_ends.resize(to.single_room = to.singles), to.single_ends = it.single_ends.data();
+  wkb_column_coordinates(&column, dimension, &to, it.statuses.data());
+  const auto found = wkb::coordinates_of_rows(column, dimension);
+  expect(found.statuses == wanted && found.row_ends == it.row_ends && found.single_ends == it.single_ends, "ends");
+  expect(found.ring_ends == it.ring_ends && are_same(found.words, it.words), "coordinates_of_rows");
+  comes_back(it, column, dimension, options);
 }
+
+// Numbers have no NaN among them, and -0 is below +0.
+void join(wkb_range &all, const wkb_range &own) {
+  const auto is_less = [](double a, double b) { return a < b || (a == b && std::signbit(a) > std::signbit(b)); };
+  all = {std::min(all.least, own.least, is_less), std::max(all.greatest, own.greatest, is_less), all.count + own.count};
+}
+
+// The facts of a column, which wkb.h doesn't have.
+void joins(const wkb_column &column, const wkb::statuses &wanted) {
+  const auto found = wkb::found_of_rows(column);
+  const auto bounds = wkb::bounds_of_rows(column);
+  wkb::column_facts all{column.rows, 0, 0, 0, {}, 0, {}, wkb::facts_of_rows({}).box};
+  std::set<std::uint32_t> srids;
+  for (std::size_t i = 0; i < column.rows; i++) {
+    const wkb_box &box = bounds.boxes[i];
+    all.null_rows += wanted[i] == WKB_STATUS_NULL_ROW, all.refused += wanted[i] >= WKB_STATUS_SHORT_HEADER;
+    if (wanted[i] != WKB_STATUS_OK) continue;
+    join(all.box.x, box.x), join(all.box.y, box.y), join(all.box.z, box.z), join(all.box.m, box.m);
+    all.accepted++, all.of_kind[found.found[i].kind][found.found[i].dimension]++;
+    if (found.found[i].has_srid) srids.insert(found.found[i].srid);
+    else all.without_srid++;
+  }
+  const auto facts = wkb::facts_of_rows(column);
+  expect(facts.rows == all.rows && facts.null_rows == all.null_rows, "how many rows there are");
+  expect(facts.accepted == all.accepted && facts.refused == all.refused, "how many are accepted and refused");
+  expect(facts.of_kind == all.of_kind && facts.without_srid == all.without_srid, "kinds and rows without an SRID");
+  expect(std::ranges::equal(facts.srids, srids) && is_same(facts.box, all.box), "the SRIDs and the box");
+}
+
+void are_rows(const wkb_column &column) {
+  const wkb_options options{static_cast<wkb_order>(below(2)), static_cast<wkb_form>(below(4)), 4326};
+  const wkb_options known_or_not{static_cast<wkb_order>(below(3)), static_cast<wkb_form>(below(5)), 4326};
+  wkb::statuses wanted(column.rows);
+  wkb_column_check(&column, wanted.data());
+  checks(column, wanted);
+  lists(column, wanted, known_or_not);
+  joins(column, wanted);
+  for (wkb_dim dimension = WKB_DIM_XY; dimension <= WKB_DIM_XYZM; dimension++)
+    splits(column, wanted, dimension, options);
+  for (std::size_t rows = 0; rows < column.rows; rows += 1 + rows) {
+    wkb_column some = column;
+    some.rows = rows;
+    collects(some, WKB_KIND_GEOMETRY_COLLECTION, static_cast<wkb_dim>(below(4)), options);
+    collects(some, static_cast<wkb_kind>(below(9)), static_cast<wkb_dim>(below(5)), known_or_not);
+  }
+}
+
+template <typename Offset>
+void as_columns(const std::vector<input> &rows) {
+  filled<Offset> it;
+  for (const input &row : rows) {
+    it.add(row);
+    if (it.offsets.size() <= ROWS) continue;
+    are_rows(it.column());
+    it = {};
+  }
+  are_rows(it.column());
+}
+
+}  // namespace
 
 int main() {
-  exceptions();
-  reader_moves();
-  long_inputs();
-  collects();
-  rows_of_ones_own();
-  words_without_a_whole_coordinate();
-  facts();
+  std::ifstream file("test/lasting.rows", std::ios::binary);
+  std::vector<input> rows, all;
+  for (std::string line; std::getline(file, line);)
+    if (!line.starts_with('#')) rows.push_back(spelled(line.substr(0, line.find(' '))));
+  expect(rows.size() > 2000, "the rows");
+  for (const input &row : rows) {
+    all.push_back(row);
+    for (std::size_t i = 0; i < CHANGED; i++) all.push_back(changed(row));
+  }
+  for (std::size_t i = 0; i < all.size(); i++) {
+    is_one(all[i]);
+    compares(all[i], all[below(i + 1)]);
+  }
+  as_columns<std::int32_t>(rows);
+  as_columns<std::int64_t>(all);
 }
