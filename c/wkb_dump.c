@@ -315,47 +315,63 @@ static bool put_whole(dump *it) {
   return more == 0;
 }
 
-/* The ranges of an envelope in the header of a GeoPackage. */
-static bool put_envelope(dump *it, const char *names, bool is_big) {
-  for (; *names != 0; names++)
-    for (int i = 0; i < 2; i++) {
-      char text[NUMBER_ROOM];
-      spell(next_double(it, is_big), text);
-      if (!put_bytes(it, 8, "%s %c %s", i == 0 ? "least" : "greatest", *names, text)) return false;
-    }
-  return true;
-}
+/* The flags of a GeoPackage's header, and the envelopes that it may have, by their numbers. */
+enum { LITTLE = 1, EMPTY = 16, EXTENDED = 32, FRONT = 8, ENVELOPE_COUNT = 5 };
+static const char *const ENVELOPES[ENVELOPE_COUNT] = {"", "xy", "xyz", "xym", "xyzm"};
+static unsigned envelope_of(uint8_t flags) { return flags >> 1 & 7; }
 
-/* Shows the header of a GeoPackage: "GP", a version, flags, the srs_id and an envelope. Returns its error,
- * or NULL. */
-static const char *put_header(dump *it) {
-  static const char *const ENVELOPES[] = {"", "xy", "xyz", "xym", "xyzm"};
-  enum { LITTLE = 1, EMPTY = 16, EXTENDED = 32, KNOWN_ENVELOPES = 5 };
-  const char *cut = "the input ends inside its GeoPackage header";
-  put_bytes(it, 2, "the header of a GeoPackage");
-  if (it->len - it->at < 2) {
-    put_bytes(it, 2, "version and flags");
-    return cut;
-  }
-  uint8_t version = it->bytes[it->at], flags = it->bytes[it->at + 1];
-  uint32_t envelope = flags >> 1 & 7;
-  bool is_big = (flags & LITTLE) == 0, is_known = envelope < KNOWN_ENVELOPES;
-  put_bytes(it, 1, "version %d", version + 1);
-  put_bytes(it, 1, "flags: %s, %s%s envelope%s%s", is_big ? "big endian" : "little endian",
-            !is_known ? "an unknown" : envelope == 0 ? "no" : "an ", !is_known ? "" : ENVELOPES[envelope],
-            flags & EMPTY ? ", empty" : "", flags & EXTENDED ? ", extended" : "");
-  if (!put_bytes(it, 4, "SRID %" PRId32, (int32_t)next_number(it, is_big))) return cut;
+const char *wkb_dump_read_header(const void *buf, size_t len, wkb_dump_header *header) {
+  static const char CUT[] = "the input ends inside its GeoPackage header";
+  const wkb_dump_header none = {.axes = ""};
+  dump it = {.bytes = buf, .len = len, .at = 4};
+  *header = none;
+  if (len < 2 || memcmp(buf, "GP", 2) != 0) return NULL;
+  if (len < FRONT) return CUT;
+  uint8_t version = it.bytes[2], flags = it.bytes[3];
+  bool is_big = (flags & LITTLE) == 0;
+  header->srs_id = (int32_t)next_number(&it, is_big);
   if (version != 0) return "unknown version of a GeoPackage header";
   if (flags & EXTENDED) return "an extended GeoPackage geometry, which is not WKB";
-  if (!is_known) return "unknown envelope in a GeoPackage header";
-  return put_envelope(it, ENVELOPES[envelope], is_big) ? NULL : cut;
+  if (envelope_of(flags) >= ENVELOPE_COUNT) return "unknown envelope in a GeoPackage header";
+  header->axes = ENVELOPES[envelope_of(flags)];
+  it.at = FRONT;
+  for (size_t i = 0; i < 2 * strlen(header->axes); i++, it.at += 8) {
+    if (len - it.at < 8) return CUT;
+    header->envelope[i] = next_double(&it, is_big);
+  }
+  header->size = it.at;
+  return NULL;
+}
+
+/* Shows the header of a GeoPackage as far as it goes. */
+static void put_header(dump *it, const wkb_dump_header *header) {
+  put_bytes(it, 2, "the header of a GeoPackage");
+  if (it->len < 4) {
+    put_bytes(it, 2, "version and flags");
+    return;
+  }
+  uint8_t flags = it->bytes[3];
+  unsigned envelope = envelope_of(flags);
+  const bool is_known = envelope < ENVELOPE_COUNT;
+  put_bytes(it, 1, "version %d", it->bytes[2] + 1);
+  put_bytes(it, 1, "flags: %s, %s%s envelope%s%s", flags & LITTLE ? "little endian" : "big endian",
+            !is_known ? "an unknown" : envelope == 0 ? "no" : "an ", is_known ? ENVELOPES[envelope] : "",
+            flags & EMPTY ? ", empty" : "", flags & EXTENDED ? ", extended" : "");
+  bool is_there = put_bytes(it, 4, "SRID %" PRId32, header->srs_id);
+  for (size_t i = 0; is_there && i < 2 * strlen(header->axes); i++) {
+    char text[NUMBER_ROOM];
+    spell(header->envelope[i], text);
+    is_there = put_bytes(it, 8, "%s %c %s", i % 2 == 0 ? "least" : "greatest", header->axes[i / 2], text);
+  }
 }
 
 int wkb_dump(const void *buf, size_t len, const wkb_dump_options *options, wkb_dump_put *put, void *to,
              wkb_dump_walk *walk) {
   static const wkb_dump_options USUAL = {WKB_DUMP_ITEMS, WKB_DUMP_LINES};
   dump it = {.bytes = buf, .len = len, .options = options ? *options : USUAL, .put = put, .to = to};
-  const char *wrong = len >= 2 && memcmp(buf, "GP", 2) == 0 ? put_header(&it) : NULL;
+  wkb_dump_header header;
+  const char *wrong = wkb_dump_read_header(buf, len, &header);
+  if (wrong != NULL || header.size > 0) put_header(&it, &header);
   bool is_alone = wrong == NULL && put_whole(&it);
   if (wrong != NULL) put_line(&it, "%10srefused: %s", "", wrong);
   if (walk != NULL) *walk = it.walk;

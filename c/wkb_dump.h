@@ -1,8 +1,9 @@
 /* SPDX-License-Identifier: MIT OR Apache-2.0 */
-/* Shows the bytes of a geometry line by line, with their meaning, and the place and reason of an error. This is plain
- * C over wkb.h, and no part of the library: to use it, compile wkb_dump.c too. It is tested, and not proved.
+/* Shows the bytes of a geometry line by line, with their meaning, and the place and reason of an error; and reads the
+ * header of a GeoPackage's blob. This is plain C over wkb.h, and no part of the library: to use it, compile wkb_dump.c
+ * too. It is tested, and not proved.
  *
- * It decides nothing itself. It calls wkb_check, and ends at the geometry's end that this finds, or with the part
+ * The dump decides nothing itself. It calls wkb_check, and ends at the geometry's end that this finds, or with the part
  * that it rejects. It doesn't allocate, has no global state, and takes at most 8 KB of stack besides that of printf.
  * As for each call of wkb.h, the input must not change during a call. */
 #ifndef WKB_DUMP_H
@@ -51,6 +52,19 @@ int wkb_dump(const void *buf, size_t len, const wkb_dump_options *options, wkb_d
 /* Returns what an input is that wkb_check has rejected with this fault, if it is none of WKB from its first bytes on but
  * text, the blob of a GeoPackage or one of SpatiaLite: words that follow those of the fault. Else "". */
 const char *wkb_dump_other(const wkb_fault *fault, const void *buf, size_t len);
+
+/* The header that a GeoPackage has before the geometry of a blob: OGC 12-128r18, clause 2.1.3. */
+typedef struct wkb_dump_header {
+  size_t size;         /* its length in bytes: where the geometry begins; 0 if there is no such header */
+  int32_t srs_id;      /* the SRID; 0 and -1 stand for undefined ones */
+  const char *axes;    /* the ordinates of its envelope: "", "xy", "xyz", "xym" or "xyzm" */
+  double envelope[8];  /* of each of them the least and the greatest number, as the header says: of the geometry they
+                          may be others */
+} wkb_dump_header;
+
+/* Reads the header at the start of a blob, which begins with "GP". Returns NULL, also if there is none; or why no
+ * geometry of WKB is behind it, and then SIZE is 0, and what couldn't be read is 0 or "". */
+const char *wkb_dump_read_header(const void *buf, size_t len, wkb_dump_header *header);
 
 /* Decodes hex to bytes at the start of TEXT, and returns how many there are. Hex is an even number of digits of either
  * case, with white space anywhere between bytes, and optionally 0x or \x before it. If the text is something else it is

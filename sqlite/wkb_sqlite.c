@@ -59,45 +59,14 @@ SQLITE_EXTENSION_INIT1
 typedef struct input {
   const uint8_t *data;
   size_t size;
-  size_t header;      /* the bytes in front of it, of the header that a GeoPackage has there */
-  bool has_srs_id;
-  int32_t srs_id;     /* of that header */
-  const char *fault;  /* what is wrong with the blob before any WKB, or NULL */
+  wkb_dump_header header;  /* the header of a GeoPackage in front of it */
+  const char *fault;       /* what is wrong with the blob before any WKB, or NULL */
 } input;
-
-/* The bits of a GeoPackage header's flags, the envelope that has x and y, and the length of a header that has it. */
-enum { LITTLE_ENDIAN_HEADER = 1, ENVELOPE_SHIFT = 1, ENVELOPE_MASK = 7, EMPTY = 16, EXTENDED = 32 };
-enum { ENVELOPE_XY = 1, HEADER_ROOM = 40 };
 
 static uint32_t number_at(const uint8_t *bytes, bool is_little) {
   uint32_t number = 0;
   for (int i = 0; i < 4; i++) number = number << 8 | bytes[is_little ? 3 - i : i];
   return number;
-}
-
-/* Goes past the header of a GeoPackage: "GP", a version, flags, the srs_id and an envelope. */
-static void skip_header(input *in) {
-  static const size_t ENVELOPES[] = {0, 32, 48, 48, 64};
-  const char *cut = "the blob ends inside its GeoPackage header";
-  if (in->size < 2 || memcmp(in->data, "GP", 2) != 0) return;
-  if (in->size < 8) {
-    in->fault = cut;
-    return;
-  }
-  unsigned envelope = in->data[3] >> ENVELOPE_SHIFT & ENVELOPE_MASK;
-  in->has_srs_id = true;
-  in->srs_id = (int32_t)number_at(in->data + 4, in->data[3] & LITTLE_ENDIAN_HEADER);
-  if (in->data[2] != 0)
-    in->fault = "unknown version of a GeoPackage header";
-  else if (in->data[3] & EXTENDED)
-    in->fault = "an extended GeoPackage geometry, which is not WKB";
-  else if (envelope >= sizeof ENVELOPES / sizeof ENVELOPES[0])
-    in->fault = "unknown envelope in a GeoPackage header";
-  else if (ENVELOPES[envelope] > in->size - 8)
-    in->fault = cut;
-  else
-    in->header = 8 + ENVELOPES[envelope];
-  in->data += in->header, in->size -= in->header;
 }
 
 static bool has_null(int n, sqlite3_value **values) {
@@ -116,7 +85,8 @@ static input input_of(sqlite3_value *value) {
   }
   in.data = sqlite3_value_blob(value);
   if (in.data != NULL) in.size = (size_t)sqlite3_value_bytes(value);
-  skip_header(&in);
+  in.fault = wkb_dump_read_header(in.data, in.size, &in.header);
+  if (in.header.size > 0) in.data += in.header.size, in.size -= in.header.size;
   return in;
 }
 
@@ -157,7 +127,7 @@ static void go_on(walk *it) {
 
 /* Whether a code in the geometry of a GeoPackage has one of EWKB's flags; the first part that has one is WHERE. */
 static bool has_ewkb(const input *in, wkb_fault *where) {
-  for (walk it = {in->data, 0, in->has_srs_id}; it.to_come > 0; go_on(&it)) {
+  for (walk it = {in->data, 0, in->header.size > 0}; it.to_come > 0; go_on(&it)) {
     where->part = it.part, where->offset = (uint64_t)(it.at - in->data);
     if (number_at(it.at + 1, it.at[0] == WKB_ORDER_LITTLE) & 0xe0000000) return true;
   }
@@ -178,14 +148,14 @@ static char *refusal_of(const input *in, const wkb_fault *fault) {
   char text[WKB_FAULT_TEXT_ROOM];
   if (in->fault != NULL) return sqlite3_mprintf("%s", in->fault);
   wkb_fault of_blob = *fault;
-  of_blob.offset += in->header;
+  of_blob.offset += in->header.size;
   wkb_fault_text(&of_blob, text, sizeof text);
   return sqlite3_mprintf("%s%s", text, wkb_dump_other(fault, in->data, in->size));
 }
 
 /* Says where the input has EWKB behind a header of a GeoPackage. */
 static void tell_ewkb(const input *in, const wkb_fault *where, char text[WKB_FAULT_TEXT_ROOM]) {
-  sqlite3_uint64 part = where->part, offset = in->header + where->offset;
+  sqlite3_uint64 part = where->part, offset = in->header.size + where->offset;
   sqlite3_snprintf(WKB_FAULT_TEXT_ROOM, text, "EWKB in a GeoPackage, at byte %llu (part %llu)", offset, part);
 }
 
@@ -202,7 +172,7 @@ static void fault(sqlite3_context *context, int n, sqlite3_value **values) {
     tell_ewkb(&in, &where, ewkb);
     text = sqlite3_mprintf("%s", ewkb);
   } else if (found.size < in.size) {
-    sqlite3_uint64 end = in.header + found.size;
+    sqlite3_uint64 end = in.header.size + found.size;
     text = sqlite3_mprintf("bytes after the geometry, from %llu on", end);
   } else {
     return;
@@ -258,8 +228,8 @@ static void srid(sqlite3_context *context, int n, sqlite3_value **values) {
   if (has_null(n, values)) return;
   input in = input_of(values[0]);
   if (!has_geometry(&in, &found)) return;
-  if (in.has_srs_id)
-    sqlite3_result_int(context, in.srs_id);
+  if (in.header.size > 0)
+    sqlite3_result_int(context, in.header.srs_id);
   else if (found.has_srid)
     sqlite3_result_int64(context, found.srid);
 }
@@ -311,9 +281,9 @@ static void ewkb(sqlite3_context *context, int n, sqlite3_value **values) {
   wkb_options options = {WKB_ORDER_LITTLE, WKB_FORM_EWKB_OWN_SRID, 0};
   if (has_null(n, values)) return;
   input in = input_of(values[0]);
-  if (in.has_srs_id) {
-    options.form = in.srs_id > 0 ? WKB_FORM_EWKB_WITH_SRID : WKB_FORM_EWKB_WITHOUT_SRID;
-    options.srid = in.srs_id > 0 ? (uint32_t)in.srs_id : 0;
+  if (in.header.size > 0) {
+    options.form = in.header.srs_id > 0 ? WKB_FORM_EWKB_WITH_SRID : WKB_FORM_EWKB_WITHOUT_SRID;
+    options.srid = in.header.srs_id > 0 ? (uint32_t)in.header.srs_id : 0;
   }
   rewritten(context, &in, &options);
 }
@@ -338,6 +308,9 @@ static void put_little(uint8_t *to, uint64_t bits, int bytes) {
   for (int i = 0; i < bytes; i++) to[i] = (uint8_t)(bits >> 8 * i);
 }
 
+/* The flags of a header that is written, one of them for an envelope of x and y, and its length with that. */
+enum { LITTLE_ENDIAN_HEADER = 1, ENVELOPE_XY = 2, EMPTY = 16, HEADER_ROOM = 40 };
+
 /* Writes the header of a geometry with these bounds, and returns its length, which is 8 without an envelope. */
 static size_t write_header(uint8_t *header, int32_t srs_id, bool has_envelope, const wkb_box *box) {
   const double sides[] = {box->x.least, box->x.greatest, box->y.least, box->y.greatest};
@@ -345,7 +318,7 @@ static size_t write_header(uint8_t *header, int32_t srs_id, bool has_envelope, c
   header[3] = (uint8_t)(LITTLE_ENDIAN_HEADER | (is_empty(box) ? EMPTY : 0));
   put_little(header + 4, (uint32_t)srs_id, 4);
   if (!has_envelope) return 8;
-  header[3] |= ENVELOPE_XY << ENVELOPE_SHIFT;
+  header[3] |= ENVELOPE_XY;
   for (int i = 0; i < 4; i++) {
     uint64_t bits;
     memcpy(&bits, &sides[i], sizeof bits);
@@ -356,7 +329,7 @@ static size_t write_header(uint8_t *header, int32_t srs_id, bool has_envelope, c
 
 /* The SRID that a geometry has by itself or in its header, or 0. */
 static sqlite3_int64 own_srs_id(const input *in, const wkb_found *found) {
-  if (in->has_srs_id) return in->srs_id;
+  if (in->header.size > 0) return in->header.srs_id;
   return found->has_srid ? (sqlite3_int64)found->srid : 0;
 }
 

@@ -4,8 +4,8 @@ which python/tests/test_lasting.py tries the package, and over geometries with e
     python3 hostile.py sqlite PACKAGE EXTENSION    # tries all functions, also over the blobs of GeoPackages
     python3 hostile.py rows PACKAGE                # prints what the functions have to return, for postgres/run
 
-The results have to be those of the Python package, which is in the folder PACKAGE, for the same bytes, and dumps those
-of the program wkb_dump in the folder around it.
+The results have to be those of the Python package, which is in the folder PACKAGE, for the same bytes, and dumps and
+errors those of the program wkb_dump in the folder around it, or of c/test/dump.cases.
 """
 import itertools
 import os
@@ -19,9 +19,9 @@ import sys
 sys.path.insert(0, sys.argv[2])
 
 import porchsorrel_wkb as wkb
-from porchsorrel_wkb import Form, Kind, Refused, Status
+from porchsorrel_wkb import Form, Kind, Refused
 
-TABLE = pathlib.Path(__file__).resolve().parents[2] / "c/test/lasting.rows"
+TESTS = pathlib.Path(__file__).resolve().parents[2] / "c/test"
 SEEDS = [bytes.fromhex(it) for it in (
     "0101000000000000000000f03f0000000000000040",
     "00000000013ff00000000000004000000000000000",
@@ -63,16 +63,26 @@ GEOPACKAGE = (
 
 def table():
     """The inputs of c/test/lasting.rows with the words of their answers, as `checks/library/lasting --help` tells."""
-    for line in TABLE.read_text(encoding="utf-8").splitlines():
+    for line in (TESTS / "lasting.rows").read_text(encoding="utf-8").splitlines():
         if not line.startswith("#"):
             data, *words = line.split(" ")
             yield bytes.fromhex(data), words
 
 
+def cases():
+    """The inputs of c/test/dump.cases that have the usual options, with the lines of their dumps."""
+    for case in re.split(r"(?m)^> ", (TESTS / "dump.cases").read_text(encoding="utf-8"))[1:]:
+        head, _, lines = case.partition("\n")
+        _, items, most, text = head.split(" ", 3)
+        if (items, most) == ("3", "0"):
+            yield bytes.fromhex(re.sub(r"^\s*(\\x|0x)", "", text)), lines[:-1]
+
+
 def listed():
-    """The inputs of the table, and behind each that is accepted the same without its last byte."""
+    """The inputs of the table, and behind each that is accepted the same without its last byte; and of the cases."""
     for data, words in table():
         yield from [data, data[: int(words[1]) - 1]] if words[0] == "0" else [data]
+    yield from (data for data, _ in cases() if not data.startswith(b"GP"))
 
 
 def changed():
@@ -85,40 +95,20 @@ def changed():
                 yield seed[:i] + bytes([other]) + seed[i + 1 :]
 
 
-def place(text, part, offset):
-    return f"{text}, at byte {offset} (part {part})"
+def fault_in(dump, before=0):
+    """The error in bytes with this dump, behind so many others."""
+    refused, end = re.search("refused: (.*)", dump), re.search(r"(\d+)  the end of the geometry, and", dump)
+    fault = refused[1] if refused else end and f"bytes after the geometry, from {end[1]} on"
+    return fault and re.sub(r"(at byte|from) (\d+)", lambda it: f"{it[1]} {before + int(it[2])}", fault)
 
 
-# The types of the codes from 8 on, which the library doesn't read.
-UNREAD = (
-    "a circular string", "a compound curve", "a curve polygon", "a multi curve", "a multi surface", "a curve",
-    "a surface", "a polyhedral surface", "a TIN", "a triangle",
-)
-
-
-def named(code):
-    """A code that is out of range, with its name if it has one."""
-    dimension, kind = divmod(code & 0x1fffffff, 1000)
-    known = dimension < 4 and 8 <= kind < 8 + len(UNREAD)
-    return f" {code}, {UNREAD[kind - 8]}, which this library does not read" if known else f" {code}"
-
-
-def refusal_of(refused, before):
-    """The errors in bytes that are rejected, with so many bytes before them."""
-    fault, text = refused.fault, refused.text
-    if refused.status == Status.CODE_OUT_OF_RANGE:
-        text += named(fault.code)
-    end = f": it needs {fault.end} bytes and has {fault.len}" if fault.end else ""
-    return place(text, fault.part, before + fault.offset) + end
-
-
-def fault_of(data, found, header):
-    """The errors in bytes that begin with a geometry: EWKB behind a header, or bytes after it."""
-    for index, part in enumerate(wkb.parts(data) if header else ()):
+def ewkb_in(data, before):
+    """The error in a geometry behind the header of a GeoPackage that has codes of EWKB."""
+    for index, part in enumerate(wkb.parts(data)):
         highest = data[part.begin + (4 if data[part.begin] == 1 else 1)]
         if part.kind != Kind.RING and highest & 0xe0:
-            return place("EWKB in a GeoPackage", index, len(header) + part.begin)
-    return None if found.size == len(data) else f"bytes after the geometry, from {len(header) + found.size} on"
+            return f"EWKB in a GeoPackage, at byte {before + part.begin} (part {index})"
+    return None
 
 
 def counts(found):
@@ -128,13 +118,14 @@ def counts(found):
     return 2 + has_z + has_m, 2 * has_z + has_m, found.coordinates, members, found.parts
 
 
-def results(data, header=b"", srs_id=None):
-    """The results of the functions for a geometry with this header before it."""
+def results(data, dump, header=b"", srs_id=None):
+    """The results of the functions for a geometry with this dump and with this header before it."""
+    fault = fault_in(dump, len(header))
     try:
         found = wkb.check(data)
-    except Refused as refused:
-        return (0, refusal_of(refused, len(header))) + (None,) * (13 + len(SIDES))
-    fault = fault_of(data, found, header)
+    except Refused:
+        return (0, fault) + (None,) * (13 + len(SIDES))
+    fault = header and ewkb_in(data, len(header)) or fault
     srid = found.srid if srs_id is None else srs_id
     form = Form.EWKB_WITH_SRID if srid is not None and (srid > 0 or srs_id is None) else Form.EWKB_WITHOUT_SRID
     ewkb = wkb.write(data, form=form, srid=srid if form == Form.EWKB_WITH_SRID else None)
@@ -168,12 +159,12 @@ def geopackage(data, srs_id):
 
 
 def dumps():
-    """The program's output for each input, without empty lines."""
+    """The dumps of the cases, and the program's for each other input."""
     every = list(dict.fromkeys(it for it in (*listed(), *changed()) if it))
     lines = "".join(f"{it.hex()}\n" for it in every).encode()
     ran = subprocess.run([f"{sys.argv[2]}/../wkb_dump", "-l"], input=lines, stdout=subprocess.PIPE)
     shown = re.split(r"(?m)^line \d+\n", ran.stdout.decode())[1:]
-    return {b"": f"{'':10}refused: {results(b'')[1]}", **{it: text[:-1] for it, text in zip(every, shown)}}
+    return {**{it: text[:-1] for it, text in zip(every, shown)}, **dict(cases())}
 
 
 def headers():
@@ -193,6 +184,10 @@ def try_sqlite(extension):
     # Python's call has no entry point before 3.12.
     database.execute("select load_extension(?, 'sqlite3_wkbst_init')", (os.fspath(extension),))
     shown, every, in_turn = dumps(), list(headers()), itertools.cycle(headers())
+    for data, dump in cases():
+        returned = database.execute("select wkb_dump(?1), wkb_fault(?1)", (data,)).fetchone()
+        if returned != (dump, fault_in(dump)):
+            sys.exit(f"{data.hex()}:\n  expected {dump}\n  returned {returned}")
     # Each header before the seeds and what is made of them, and one in turn before what is in the table.
     tried = [*((data, [next(in_turn)]) for data in listed()), *((data, every) for data in changed())]
     for data, before in tried:
@@ -201,7 +196,7 @@ def try_sqlite(extension):
             sys.exit(f"{data.hex()}:\n{dump}\n  and by the program:\n{shown[data]}")
         for header, srs_id in [(b"", None), *before]:
             returned = database.execute(f"{QUERY}, {GEOPACKAGE}", (header + data, SEEDS[0])).fetchone()
-            expected = results(data, header, srs_id) + geopackage(data, srs_id)
+            expected = results(data, dump, header, srs_id) + geopackage(data, srs_id)
             count += 1
             if returned != expected:
                 sys.exit(f"{(header + data).hex()}:\n  expected {expected}\n  returned {returned}")
@@ -219,7 +214,7 @@ def print_rows():
     """A line for each input with the functions' results, for the database's COPY."""
     shown = dumps()
     for data in (*listed(), *changed()):
-        print("\t".join(map(copied, (data, *results(data), shown[data]))))
+        print("\t".join(map(copied, (data, *results(data, shown[data]), shown[data]))))
 
 
 def main():

@@ -15,7 +15,6 @@ import functools
 import os
 import pathlib
 import re
-import sqlite3
 import subprocess
 import tempfile
 
@@ -41,7 +40,6 @@ SOURCES = {
 }
 # Whose examples are proved nowhere.
 SKETCHED = ["crates/wkb/src/check.rt", "crates/wkb/src/lib.rt"]
-LINE = "010200000002000000" + 2 * POINT[10:]
 # The program as such commands run it: in its folder, or at the top.
 RUNS = re.compile(r"\(cd crates/wkb_hex && rt try -- (\S+) < \.\./\.\./(\S+)\)|\./wkb_hex (\S+) < (\S+)$")
 # The folders of our scripts.
@@ -51,7 +49,7 @@ CROSS = "checks/systems/cross_test"
 
 
 def make_files(cls):
-    """The folder of a class of tests, with what the commands read: a file of raw bytes, rows of hex, a GeoPackage."""
+    """The folder of a class of tests, with what the commands read: a file of raw bytes, and rows of hex."""
     around = tempfile.TemporaryDirectory()
     cls.addClassCleanup(around.cleanup)
     # A command may make a folder beside this one (`../mine`).
@@ -62,12 +60,6 @@ def make_files(cls):
     (folder / "point.wkb").write_bytes(bytes.fromhex(POINT))
     (folder / "rows.hex").write_text(f"{POINT}\n{BIG_POINT}\n\n", encoding="utf-8")
     # The version, then flags: little endian, an envelope of four numbers; the SRID; the envelope.
-    header = b"GP\0\3" + (4326).to_bytes(4, "little") + bytes(32)
-    roads = sqlite3.connect(folder / "roads.gpkg")
-    roads.execute("create table roads (geom blob)")
-    roads.execute("insert into roads values (?)", (header + bytes.fromhex(LINE),))
-    roads.commit()
-    roads.close()
 
 
 def difference(where, expected, status, ran):
