@@ -197,7 +197,7 @@ static void is_told(size_t rows, wkb_kind kind, wkb_dim dimension, wkb_options o
   uint8_t out[8], before[8];
   size_t size = 77, row = 77;
   wkb_fault fault = {7, 7, 7, 7, 7, 7};
-  if (!unreadable) unreadable = end_of_a_page();
+  if (!unreadable) unreadable = end_of_pages(1);
   memset(out, UNTOUCHED, sizeof out), memset(before, UNTOUCHED, sizeof before);
   for (size_t offset_size = 3; offset_size < 9; offset_size++) {
     const wkb_column column = {unreadable, 42, unreadable, offset_size, unreadable, 0, rows};

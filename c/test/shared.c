@@ -12,13 +12,14 @@
 #endif
 
 #ifdef _WIN32
-uint8_t *end_of_a_page(void) {
+uint8_t *end_of_pages(size_t size) {
   SYSTEM_INFO info;
   DWORD before;
   GetSystemInfo(&info);
-  uint8_t *pages = VirtualAlloc(NULL, 2 * info.dwPageSize, MEM_RESERVE | MEM_COMMIT, PAGE_READWRITE);
-  expect(pages && VirtualProtect(pages + info.dwPageSize, info.dwPageSize, PAGE_NOACCESS, &before), "two pages", "");
-  return pages + info.dwPageSize;
+  const size_t page = info.dwPageSize, whole = (size + page - 1) / page * page;
+  uint8_t *pages = VirtualAlloc(NULL, whole + page, MEM_RESERVE | MEM_COMMIT, PAGE_READWRITE);
+  expect(pages && VirtualProtect(pages + whole, page, PAGE_NOACCESS, &before), "pages", "");
+  return pages + whole;
 }
 
 void can_be_written(uint8_t *end, bool can) {
@@ -42,11 +43,11 @@ void release(uint8_t *taken, size_t size) {
   VirtualFree(taken, 0, MEM_RELEASE);
 }
 #else
-uint8_t *end_of_a_page(void) {
-  size_t page = (size_t)sysconf(_SC_PAGESIZE);
-  uint8_t *pages = addresses(2 * page);
-  expect(mprotect(pages + page, page, PROT_NONE) == 0, "two pages", "");
-  return pages + page;
+uint8_t *end_of_pages(size_t size) {
+  const size_t page = (size_t)sysconf(_SC_PAGESIZE), whole = (size + page - 1) / page * page;
+  uint8_t *pages = addresses(whole + page);
+  expect(mprotect(pages + whole, page, PROT_NONE) == 0, "pages", "");
+  return pages + whole;
 }
 
 void can_be_written(uint8_t *end, bool can) {
@@ -62,6 +63,13 @@ uint8_t *addresses(size_t size) {
 
 void release(uint8_t *taken, size_t size) { munmap(taken, size); }
 #endif
+
+void *at_the_end(int place, const void *from, size_t len) {
+  static uint8_t *ends[PLACES];
+  expect(len <= PLACE_MOST, "too much for a place", "");
+  if (ends[place] == NULL) ends[place] = end_of_pages(PLACE_MOST);
+  return memcpy(ends[place] - len, from, len);
+}
 
 void expect(bool holds, const char *what, const char *where) {
   if (holds) return;

@@ -32,8 +32,12 @@ void fill(filled *f);
 enum { ASKED_MOST = 13, UNKNOWN = 6, COLUMN_CALLS = 8 };
 void ask(int call, const wkb_column *of, uint8_t *statuses);
 
-/* The end of a page that may be read and written, before one that may not. */
-uint8_t *end_of_a_page(void);
+/* The end of pages of so many bytes that may be read and written, before one that may not. */
+uint8_t *end_of_pages(size_t size);
+
+/* A copy that ends where such pages do. Each place has one at a time, of at most PLACE_MOST bytes. */
+enum { PLACES = 8, PLACE_MOST = 1 << 20 };
+void *at_the_end(int place, const void *from, size_t len);
 
 /* Whether the page before this end can be written to. */
 void can_be_written(uint8_t *end, bool can);
@@ -46,9 +50,7 @@ void release(uint8_t *taken, size_t size);
 void calls_are_right(void);
 void texts_are_right(void);
 void levels_are_right(void);
-void nothing_is_read_after_the_input(void);
 void little_stack_is_taken(void);
-void calls_run_at_the_same_time(void);
 void calls_run_anywhere(void);
 void what_lasts_is_as_it_was(void);
 

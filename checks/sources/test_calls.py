@@ -10,7 +10,7 @@ from pages import text_of
 
 DECLARED = "c/wkb_raw.h"
 # In handlers and children, at the end of a page, over a painted stack, and through a fault on Windows.
-EVERY = [f"c/test/{it}.c" for it in ("interrupted", "pages", "stack", "alone/unwind_test")]
+EVERY = [f"c/test/{it}.c" for it in ("interrupted", "lasting", "stack", "alone/unwind_test")]
 
 
 def calls():
@@ -24,7 +24,7 @@ class Calls(judge.Judge):
     def wrong(self):
         for path in EVERY:
             code = text_of(path)
-            if path.endswith("/pages.c"):
-                code += text_of("c/test/lasting.c") + text_of("c/test/calls.c")
+            if path.endswith("/lasting.c"):
+                code += text_of("c/test/lasting_columns.c")
             code = re.sub(r"/\*.*?\*/", "", code, flags=re.S)
             yield from (f"{path}: {it} is not called" for it in calls() if not re.search(rf"\b{it}\(", code))
