@@ -38,24 +38,3 @@ create view different_error as select wkb from hostile, (values
     ($$select wkb_same('\x0101000000000000000000f03f0000000000000040', $1)$$, ' in the second argument')
   ) as calls (call, place)
   where kind is null and raised(call, wkb) is distinct from format('invalid WKB%s: %s', place, fault);
--- The views that don't see it where a column lacks what it has to hold.
-create function blind() returns setof text language plpgsql as $$
-declare
-  it record;
-  sees boolean;
-begin
-  for it in
-    select attname as name, 'different_' || unnest(case attname when 'well_formed' then '{check}' when 'dump' then '{check}'
-        when 'kind' then '{error}'
-        when 'fault' then '{check, error}' else '{geometry}' end::text[]) as view
-      from pg_attribute where attrelid = 'hostile'::regclass and attnum > 1
-  loop
-    begin
-      execute format('update hostile set %I = null', it.name);
-      execute format('select exists (select from %I)', it.view) into sees;
-      raise 'undone';
-    exception when raise_exception then
-      if not sees then return next it.view || ': ' || it.name; end if;
-    end;
-  end loop;
-end $$;

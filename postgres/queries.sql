@@ -18,11 +18,11 @@ select wkb_same(wkb, 'POINT (1 2)') from point;
 \set VERBOSITY terse
 -- The blob of a GeoPackage is named.
 select wkb_fault('\x47500001e61000000101000000000000000000f03f0000000000000040');
--- All that the database keeps of the functions: each is immutable, safe in parallel and strict, those that raise no
--- error over their argument are leakproof, and each has its cost and a comment.
-select proname, pg_get_function_arguments(oid), prorettype::regtype, provolatile, proparallel, proisstrict,
-    proleakproof, procost, obj_description(oid, 'pg_proc')
-  from pg_proc where proname like 'wkb\_%' order by proname, pronargs;
+-- Each function is immutable, safe in parallel and strict, and has a comment; those that raise no error over their
+-- argument are leakproof.
+select count(*), sum(procost), bool_and(provolatile = 'i' and proparallel = 's' and proisstrict and
+    obj_description(oid, 'pg_proc') <> ''), string_agg(proname, ' ' order by proname) filter (where proleakproof)
+  from pg_proc where proname like 'wkb\_%';
 -- Their calls, as texts, with null in one place, or in none, which is place 0. One that has null is null.
 create view calls as
   select proname, place, prorettype, format('%I(%s)', proname, (

@@ -4,29 +4,31 @@
 /* What is to be said of a number: whether the call failed, the row or the input is at fault, or bytes are missing. */
 typedef enum class { FINE, FAILURE, OF_ROW, REFUSAL, EARLY_END } class;
 
+/* The numbers stay within version 1. */
 static const struct {
+  uint32_t number;
   wkb_status status;
   class is;
   const char *text;
 } NAMED[] = {
-    {WKB_STATUS_OK, FINE, "ok"},
-    {WKB_STATUS_NO_MEMORY, FAILURE, "out of memory"},
-    {WKB_STATUS_NO_ROOM, FAILURE, "the output buffer is too small"},
-    {WKB_STATUS_UNKNOWN_OPTION, FAILURE, "unknown byte order, form, kind or dimension"},
-    {WKB_STATUS_TOO_MANY_ROWS, FAILURE, "there are more rows than a count of four bytes holds"},
-    {WKB_STATUS_NULL_ROW, OF_ROW, "the row is null"},
-    {WKB_STATUS_BAD_OFFSETS, OF_ROW,
+    {0, WKB_STATUS_OK, FINE, "ok"},
+    {1, WKB_STATUS_NO_MEMORY, FAILURE, "out of memory"},
+    {2, WKB_STATUS_NO_ROOM, FAILURE, "the output buffer is too small"},
+    {3, WKB_STATUS_UNKNOWN_OPTION, FAILURE, "unknown byte order, form, kind or dimension"},
+    {4, WKB_STATUS_TOO_MANY_ROWS, FAILURE, "there are more rows than a count of four bytes holds"},
+    {16, WKB_STATUS_NULL_ROW, OF_ROW, "the row is null"},
+    {17, WKB_STATUS_BAD_OFFSETS, OF_ROW,
      "the row's offsets are negative, decrease or pass the end of the data, or it begins before a row ends"},
-    {WKB_STATUS_BAD_LEVELS, OF_ROW, "the row's levels don't fit its kind or each other"},
-    {WKB_STATUS_SHORT_HEADER, EARLY_END, "the input ends inside a header or before a count"},
-    {WKB_STATUS_INVALID_BYTE_ORDER, REFUSAL, "a byte order is neither 0 nor 1"},
-    {WKB_STATUS_CODE_OUT_OF_RANGE, REFUSAL, "unknown geometry type code"},
-    {WKB_STATUS_INCORRECT_TYPE, REFUSAL, "a member has the wrong kind, dimension or SRID for its multi geometry"},
-    {WKB_STATUS_NESTING_DEPTH_EXCEEDED, REFUSAL, "a collection is inside 128 others"},
-    {WKB_STATUS_SHORT_POINT, EARLY_END, "the input ends inside a point"},
-    {WKB_STATUS_SHORT_LINE_STRING, EARLY_END, "the input ends inside a line string"},
-    {WKB_STATUS_SHORT_MULTI_POINT, EARLY_END, "the input ends inside a multi point"},
-    {WKB_STATUS_SHORT_LINEAR_RING, EARLY_END, "the input ends inside a ring"},
+    {18, WKB_STATUS_BAD_LEVELS, OF_ROW, "the row's levels don't fit its kind or each other"},
+    {32, WKB_STATUS_SHORT_HEADER, EARLY_END, "the input ends inside a header or before a count"},
+    {33, WKB_STATUS_INVALID_BYTE_ORDER, REFUSAL, "a byte order is neither 0 nor 1"},
+    {34, WKB_STATUS_CODE_OUT_OF_RANGE, REFUSAL, "unknown geometry type code"},
+    {35, WKB_STATUS_INCORRECT_TYPE, REFUSAL, "a member has the wrong kind, dimension or SRID for its multi geometry"},
+    {36, WKB_STATUS_NESTING_DEPTH_EXCEEDED, REFUSAL, "a collection is inside 128 others"},
+    {48, WKB_STATUS_SHORT_POINT, EARLY_END, "the input ends inside a point"},
+    {49, WKB_STATUS_SHORT_LINE_STRING, EARLY_END, "the input ends inside a line string"},
+    {50, WKB_STATUS_SHORT_MULTI_POINT, EARLY_END, "the input ends inside a multi point"},
+    {51, WKB_STATUS_SHORT_LINEAR_RING, EARLY_END, "the input ends inside a ring"},
 };
 enum { NAMED_COUNT = sizeof NAMED / sizeof NAMED[0], STATUSES_MOST = 300 };
 
@@ -54,7 +56,10 @@ static void status_is(wkb_status status, class is, const char *text) {
 
 /* Each status has a text and a class, and any other number those of its class. */
 static void statuses_are_told(void) {
-  for (int i = 0; i < NAMED_COUNT; i++) status_is(NAMED[i].status, NAMED[i].is, NAMED[i].text);
+  for (int i = 0; i < NAMED_COUNT; i++) {
+    expect(NAMED[i].number == NAMED[i].status, "the number of a status", NAMED[i].text);
+    status_is(NAMED[i].status, NAMED[i].is, NAMED[i].text);
+  }
   for (int i = 0; i < UNNAMED_COUNT; i++) {
     status_is(UNNAMED[i].last, UNNAMED[i].is, UNNAMED[i].text);
     for (wkb_status k = UNNAMED[i].first; k < UNNAMED[i].last; k++) status_is(k, UNNAMED[i].is, UNNAMED[i].text);

@@ -1,5 +1,5 @@
-/* Compiled as C and as C++, with WKB_FIRST and without it: the names of wkb.h keep their values beside those that
- * PostGIS (liblwgeom.h, liblwgeom_internal.h) and MapServer (mappostgis.h) define, whichever come first. */
+/* Compiled as C and as C++, with WKB_FIRST and without it: wkb.h has no name that PostGIS (liblwgeom.h,
+ * liblwgeom_internal.h) or MapServer (mappostgis.h) defines, whichever come first. */
 #ifdef WKB_FIRST
 #include "wkb.h"
 #endif
@@ -54,43 +54,6 @@ static const int wkb_postgis20[1] = {0};
 #else
 #define IS(name, value) _Static_assert(name == value, #name)
 #endif
-IS(WKB_VERSION_MAJOR, 1);
-IS(WKB_STATUS_OK, 0);
-IS(WKB_STATUS_NO_MEMORY, 1);
-IS(WKB_STATUS_NO_ROOM, 2);
-IS(WKB_STATUS_UNKNOWN_OPTION, 3);
-IS(WKB_STATUS_TOO_MANY_ROWS, 4);
-IS(WKB_STATUS_NULL_ROW, 16);
-IS(WKB_STATUS_BAD_OFFSETS, 17);
-IS(WKB_STATUS_BAD_LEVELS, 18);
-IS(WKB_STATUS_SHORT_HEADER, 32);
-IS(WKB_STATUS_INVALID_BYTE_ORDER, 33);
-IS(WKB_STATUS_CODE_OUT_OF_RANGE, 34);
-IS(WKB_STATUS_INCORRECT_TYPE, 35);
-IS(WKB_STATUS_NESTING_DEPTH_EXCEEDED, 36);
-IS(WKB_STATUS_SHORT_POINT, 48);
-IS(WKB_STATUS_SHORT_LINE_STRING, 49);
-IS(WKB_STATUS_SHORT_MULTI_POINT, 50);
-IS(WKB_STATUS_SHORT_LINEAR_RING, 51);
-IS(WKB_KIND_RING, 0);
-IS(WKB_KIND_POINT, 1);
-IS(WKB_KIND_LINE_STRING, 2);
-IS(WKB_KIND_POLYGON, 3);
-IS(WKB_KIND_MULTI_POINT, 4);
-IS(WKB_KIND_MULTI_LINE_STRING, 5);
-IS(WKB_KIND_MULTI_POLYGON, 6);
-IS(WKB_KIND_GEOMETRY_COLLECTION, 7);
-IS(WKB_DIM_XY, 0);
-IS(WKB_DIM_XYZ, 1);
-IS(WKB_DIM_XYM, 2);
-IS(WKB_DIM_XYZM, 3);
-IS(WKB_ORDER_BIG, 0);
-IS(WKB_ORDER_LITTLE, 1);
-IS(WKB_FORM_ISO, 0);
-IS(WKB_FORM_EWKB_OWN_SRID, 1);
-IS(WKB_FORM_EWKB_WITH_SRID, 2);
-IS(WKB_FORM_EWKB_WITHOUT_SRID, 3);
-IS(WKB_FAULT_TEXT_ROOM, 256);
 IS(sizeof(wkb_status), 4);
 IS(sizeof(wkb_kind), 4);
 IS(sizeof(wkb_dim), 4);
