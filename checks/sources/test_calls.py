@@ -9,8 +9,8 @@ from checks import judge
 from pages import text_of
 
 DECLARED = "c/wkb_raw.h"
-# In handlers and children, at the end of a page, over a painted stack, and through a fault on Windows.
-EVERY = [f"c/test/{it}.c" for it in ("interrupted", "lasting", "stack", "alone/unwind_test")]
+# In handlers and children, over a painted stack, and through a fault on Windows; and where a page ends.
+EVERY = [f"c/test/{it}.c" for it in ("every", "lasting")]
 
 
 def calls():

@@ -1,49 +1,24 @@
 /* On Windows: calls that fault, since their input ends before it says, at a page that may not be read. Each fault is
  * unwound by the tables of the library's code to the function that has called, which goes on with the registers that it
  * had, as the tables say. Each call faults. */
-#include "wkb.h"
+#include "../every.h"
 #include <stdio.h>
 #include <stdlib.h>
 #include <windows.h>
 
-enum { CALLS = 13, ROOM = 256 };
+static int faults[EVERY_LEVELS + 1], deepest, calling;
 
-static int faults[CALLS], deepest, calling;
-static size_t size;
-static uint32_t equal;
-static uint64_t end, rings[ROOM], singles[ROOM];
-static double words[ROOM];
-static wkb_box box;
-static wkb_found found;
-static wkb_part parts[ROOM];
-static uint8_t out[4096], row;
-
-/* One of the calls. A column has one row, which is the input; the words of a multi point are the input, too. */
+/* One of the calls up to that of levels. For that the words of a multi point are the input. */
 static __attribute__((noinline)) unsigned call(int which, const uint8_t *bytes, size_t len) {
-  static const wkb_options LITTLE = {WKB_ORDER_LITTLE, WKB_FORM_ISO, 0};
-  const int64_t offsets[2] = {0, (int64_t)len};
-  const wkb_column column = {bytes, len, offsets, sizeof offsets[0], NULL, 0, 1};
+  static every written;
   const uint64_t points = len / 16;
   const wkb_levels levels = {(const double *)(const void *)bytes, 2 * points, NULL, points, NULL, points,
                              &points, 1, NULL, 0};
-  wkb_coordinates to = {words, ROOM, rings, ROOM, singles, ROOM, &end, 0, 0, 0};
   volatile unsigned status = 0;
-  switch (which) {
-    case 0: status = wkb_check(bytes, len, NULL, NULL); break;
-    case 1: status = wkb_bounds(bytes, len, &box, NULL); break;
-    case 2: status = wkb_write(bytes, len, &LITTLE, out, sizeof out, &size, NULL); break;
-    case 3: status = wkb_parts(bytes, len, parts, ROOM, &size, NULL); break;
-    case 4: status = wkb_same(bytes, len, bytes, len, &equal, NULL, NULL); break;
-    case 5: wkb_column_check(&column, &row); break;
-    case 6: wkb_column_found(&column, &found, &row); break;
-    case 7: wkb_column_bounds(&column, &box, &row); break;
-    case 8: wkb_column_parts(&column, parts, ROOM, &end, &row); break;
-    case 9: wkb_column_write(&column, &LITTLE, out, sizeof out, &end, &row); break;
-    case 10: wkb_column_coordinates(&column, WKB_DIM_XY, &to, &row); break;
-    case 11: status = wkb_collect(&column, WKB_KIND_GEOMETRY_COLLECTION, 0, &LITTLE, out, sizeof out, &size, NULL, NULL);
-             break;
-    case 12: wkb_column_from_coordinates(&levels, WKB_KIND_MULTI_POINT, WKB_DIM_XY, &LITTLE, out, sizeof out, &end, &row);
-  }
+  if (which < EVERY_LEVELS) status = every_call(which, bytes, len, &written);
+  else
+    status = (unsigned)wkb_column_from_coordinates(&levels, WKB_KIND_MULTI_POINT, WKB_DIM_XY, &written.options,
+                                                   written.out, EVERY_BYTES, &written.level_end, &written.row);
   return status;
 }
 
@@ -81,7 +56,7 @@ int main(void) {
   uint8_t *pages = VirtualAlloc(NULL, 8192, MEM_RESERVE | MEM_COMMIT, PAGE_READWRITE), *end = pages + 4096;
   if (!pages || !VirtualProtect(end, 4096, PAGE_NOACCESS, &before)) return 1;
   if (!AddVectoredExceptionHandler(1, unwind)) return 1;
-  for (calling = 0; calling < CALLS; calling++) {
+  for (calling = 0; calling <= EVERY_LEVELS; calling++) {
     for (size_t depth = 0; depth <= 120; depth += 8) {
       for (size_t cut = 1; cut < 64; cut++) {
         size_t len = depth * sizeof OPEN + sizeof POLYGONS;
@@ -93,7 +68,7 @@ int main(void) {
     }
   }
   int all = 0, least = faults[0];
-  for (int i = 0; i < CALLS; i++) {
+  for (int i = 0; i <= EVERY_LEVELS; i++) {
     all += faults[i];
     if (faults[i] < least) least = faults[i];
   }
