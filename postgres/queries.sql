@@ -23,23 +23,6 @@ select wkb_fault('\x47500001e61000000101000000000000000000f03f0000000000000040')
 select count(*), sum(procost), bool_and(provolatile = 'i' and proparallel = 's' and proisstrict and
     obj_description(oid, 'pg_proc') <> ''), string_agg(proname, ' ' order by proname) filter (where proleakproof)
   from pg_proc where proname like 'wkb\_%';
--- Their calls, as texts, with null in one place, or in none, which is place 0. One that has null is null.
-create view calls as
-  select proname, place, prorettype, format('%I(%s)', proname, (
-      select string_agg(case when nth = place then 'null' when type = 'bytea'::regtype then 'wkb' else '1' end ||
-        '::' || type::regtype, ', ' order by nth)
-      from unnest(proargtypes) with ordinality as arguments (type, nth))) as call
-    from pg_proc, generate_series(0, pronargs) as place where proname like 'wkb\_%';
-do $$
-declare
-  call text;
-  is_null boolean;
-begin
-  for call in select calls.call from calls where place > 0 loop
-    execute format('select %s is null from point', call) into is_null;
-    if not is_null then raise 'not null: %', call; end if;
-  end loop;
-end $$;
 -- No call keeps the copy that a large value is read into: beside what it returns, which is as long as the value for
 -- three of them, it leaves little memory in use until the row ends. A server before version 14 doesn't tell.
 create table large as
@@ -56,10 +39,12 @@ begin
 end $$;
 select to_regclass('pg_backend_memory_contexts') is not null as counts_memory \gset
 \if :counts_memory
-select call from calls
-  where place = 0 and in_use(call) > case prorettype when 'bytea'::regtype then 1350000 else 450000 end;
+select call from (select prorettype, format('%I(%s)', proname, (
+      select string_agg(case type when 'bytea'::regtype then 'wkb' else '1' end, ', ' order by nth)
+      from unnest(proargtypes) with ordinality as arguments (type, nth))) as call
+    from pg_proc where proname like 'wkb\_%') as calls
+  where in_use(call) > case prorettype when 'bytea'::regtype then 1350000 else 450000 end;
 \endif
-drop view calls;
 drop function in_use;
 -- The recipe of docs/RECIPES.md, over a point in both byte orders and with an SRID, an empty one, and one that is cut.
 create table rows (id int primary key, wkb bytea);

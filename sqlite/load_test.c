@@ -190,21 +190,6 @@ static void try_with_statement(const char *name, int n, bool again) {
   go_on(db, again, n);
 }
 
-/* Another extension has a function for N arguments: for one that is called as before, and so is one that is made later.
- */
-static void try_beside(int n) {
-  char *text;
-  sqlite3 *db = opened();
-  const char *is_theirs = "select ST_MinX(x'0101000000000000000000f03f0000000000000040') is null";
-  sqlite3_create_function(db, "st_minX", n, SQLITE_UTF8, NULL, nothing, NULL, NULL);
-  expect(load(db, &text) == SQLITE_OK, text != NULL ? text : "no text", n);
-  expect(holds(db, is_theirs) == (n != 2), "ST_MinX is the function of the wrong extension", n);
-  expect(holds(db, "select ST_MaxX(x'0101000000000000000000f03f0000000000000040') = 1.0"), "there is no ST_MaxX", n);
-  sqlite3_create_function(db, "ST_MaxX", 1, SQLITE_UTF8, NULL, nothing, NULL, NULL);
-  expect(!holds(db, "select ST_MaxX(x'0101000000000000000000f03f0000000000000040') = 1.0"), "ST_MaxX stays", n);
-  closed(db, n);
-}
-
 /* The functions of one blob. The answers are those of another test. */
 static const char OF_A_BLOB[] =
     "select wkb_well_formed(?1), wkb_fault(?1), wkb_dump(?1), wkb_kind(?1), wkb_srid(?1), wkb_ndims(?1), wkb_ewkb(?1),"
@@ -276,7 +261,6 @@ int main(int count, char **words) {
   if (count != 2) return 2;
   extension = words[1];
   install_memory();
-  for (int n = 1; n <= 2; n++) try_beside(n);
   try_default_alone();
   try_pages();
   for (size_t i = 0; i < 5; i++) try_before(TRIGGER_NAMES[i]);
