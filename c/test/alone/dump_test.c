@@ -1,5 +1,5 @@
-/* The dump over worked cases, whose lines are in test/dump.cases; and over the inputs of test/lasting.rows, in its first
- * lines and its last one: its walk ends at the part and the byte that wkb_check rejects, or at the size that it finds,
+/* The dump over worked cases, whose lines are in test/dump.cases; and over the inputs of test/lasting.rows, in its last
+ * line: its walk ends at the part and the byte that wkb_check rejects, or at the size that it finds,
  * and it puts no more lines than its options say. */
 #include "../../wkb_dump.h"
 #include "../lasting.h"
@@ -143,55 +143,41 @@ static void try_hex(void) {
   }
 }
 
-/* How the first lines of a dump end, and one of all, and which of these were put. */
-typedef struct told {
-  char first[3][64], one[WKB_FAULT_TEXT_ROOM + 64];
-  unsigned lines, put;
-} told;
+/* A line that a dump has to have. */
+typedef struct sought {
+  char line[WKB_FAULT_TEXT_ROOM + 64];
+  bool is_put;
+} sought;
 
-static bool ends_so(const char *line, size_t length, const char *with) {
-  const size_t size = strlen(with);
-  return size <= length && memcmp(line + length - size, with, size) == 0;
-}
-
-static int hear(void *to, const char *line, size_t length) {
-  told *it = to;
-  if (it->lines < 3 && ends_so(line, length, it->first[it->lines])) it->put |= 1u << it->lines;
-  if (ends_so(line, length, it->one)) it->put |= 8;
-  it->lines++;
+static int seek(void *to, const char *line, size_t length) {
+  sought *it = to;
+  it->is_put |= strlen(it->line) == length && memcmp(it->line, line, length) == 0;
   return 0;
 }
 
-/* What the dump of an accepted row says of its order, kind, dimension, SRID and size. */
-static void tell_of_accepted(const lasting *r, told *to) {
-  static const char *const KINDS[] = {"", "point", "linestring", "polygon", "multipoint", "multilinestring",
-                                      "multipolygon", "geometrycollection"};
-  static const char *const DIMENSIONS[] = {"xy", "xyz", "xym", "xyzm"};
-  const unsigned long long size = r->fields[0], srid = r->fields[5], more = r->len - r->fields[0];
-  snprintf(to->first[0], sizeof to->first[0], "  %s endian\n", r->fields[10] == WKB_ORDER_BIG ? "big" : "little");
-  snprintf(to->first[1], sizeof to->first[1], ": %s, %s\n", KINDS[r->fields[7]], DIMENSIONS[r->fields[8]]);
-  if (r->fields[6]) snprintf(to->first[2], sizeof to->first[2], "  SRID %llu\n", srid);
-  snprintf(to->one, sizeof to->one, "%8llu  the end\n", size);
-  if (more > 0)
-    snprintf(to->one, sizeof to->one, "%8llu  the end of the geometry, and %llu more byte%s\n", size, more,
-             more == 1 ? "" : "s");
+/* The line that says where an accepted row ends, or why another is refused. */
+static void seek_end(const lasting *r, sought *it) {
+  const uint64_t *f = r->fields;
+  const wkb_fault fault = {f[0], f[1], f[2], f[3], (uint32_t)f[4], r->status};
+  const unsigned long long size = f[0], more = r->len - f[0];
+  char text[WKB_FAULT_TEXT_ROOM];
+  wkb_fault_text(&fault, text, sizeof text);
+  if (r->status != WKB_STATUS_OK) snprintf(it->line, sizeof it->line, "%10srefused: %s\n", "", text);
+  else if (more == 0) snprintf(it->line, sizeof it->line, "%8llu  the end\n", size);
+  else snprintf(it->line, sizeof it->line, "%8llu  the end of the geometry, and %llu more byte%s\n", size, more,
+                more == 1 ? "" : "s");
 }
 
 /* What is wrong with the dumps of a row, or NULL. */
 static const char *wrong_row(const lasting *r) {
-  told it = {0};
-  const uint64_t *f = r->fields;
-  const wkb_fault fault = {f[0], f[1], f[2], f[3], (uint32_t)f[4], r->status};
-  const size_t begin = (size_t)snprintf(it.one, sizeof it.one, "%10srefused: ", "");
-  wkb_fault_text(&fault, it.one + begin, sizeof it.one - begin - 1);
-  strcat(it.one, "\n");
-  if (r->status == WKB_STATUS_OK) tell_of_accepted(r, &it);
+  sought it = {.is_put = false};
+  seek_end(r, &it);
   /* In a block of its own, so that a sanitizer sees what is read after it. */
   uint8_t *bytes = malloc(r->len > 0 ? r->len : 1);
   if (bytes == NULL) exit(3);
   memcpy(bytes, r->bytes, r->len);
-  wkb_dump(bytes, r->len, NULL, hear, &it, NULL);
-  const char *wrong = it.put < (r->status == WKB_STATUS_OK ? 15 : 8) ? "lines are other ones" : wrong_walk(bytes, r->len);
+  wkb_dump(bytes, r->len, NULL, seek, &it, NULL);
+  const char *wrong = it.is_put ? wrong_walk(bytes, r->len) : "its end is another one";
   free(bytes);
   return wrong;
 }
