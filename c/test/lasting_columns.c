@@ -230,80 +230,51 @@ static void are_split(const wkb_column *column) {
   }
 }
 
-/* The status and the fault of a row as a member: those of a collection of it, whose fault is a part and nine bytes
- * farther. */
-enum { FRONT = 9, MEMBERS_MOST = 3, WHOLE_MOST = FRONT + 4 + MEMBERS_MOST * INPUT_MOST };
-static uint32_t status_as_member(const lasting *r, uint32_t kind, uint32_t dimension, wkb_fault *fault) {
-  static const wkb_fault OTHER = {0, 0, 0, 0, 0, WKB_STATUS_INCORRECT_TYPE};
-  static uint8_t whole[FRONT + INPUT_MOST] = {1, WKB_KIND_GEOMETRY_COLLECTION, 0, 0, 0, 1, 0, 0, 0};
-  memcpy(whole + FRONT, r->bytes, r->len);
-  const uint32_t status = wkb_check(whole, FRONT + r->len, NULL, fault);
-  fault->part -= 1, fault->offset -= FRONT;
-  if (status != WKB_STATUS_OK || kind == WKB_KIND_GEOMETRY_COLLECTION) return status;
-  if (r->fields[7] == kind - 3 && r->fields[8] == dimension) return status;
-  *fault = OTHER;
-  return OTHER.status;
-}
-
-static size_t put_header(uint8_t *to, uint32_t kind, uint32_t dimension, const wkb_options *options, size_t members) {
-  const bool is_iso = options->form == WKB_FORM_ISO, has_srid = options->form == WKB_FORM_EWKB_WITH_SRID;
-  const uint32_t flags = dimension % 2 * 0x80000000 + dimension / 2 * 0x40000000 + has_srid * 0x20000000;
-  const uint32_t numbers[] = {kind + (is_iso ? 1000 * dimension : flags), options->srid, (uint32_t)members};
-  size_t size = 0;
-  to[size++] = (uint8_t)options->order;
-  for (int i = 0; i < 3; i++)
-    for (int k = 0; k < 4 && (i != 1 || has_srid); k++)
-      to[size++] = (uint8_t)(numbers[i] >> 8 * (options->order == WKB_ORDER_LITTLE ? k : 3 - k));
-  return size;
-}
-
-/* A collection of these rows, which have a row's answers in turn, has their encodings behind a header. */
-static void has_members(const lasting *r, size_t members, size_t size, size_t at, uint32_t number) {
-  const uint32_t inner = number % 4 == WKB_FORM_ISO ? number : number / 4 * 4 + WKB_FORM_EWKB_WITHOUT_SRID;
-  for (size_t i = 0; i < members; i++) {
-    wkb_found member = {0};
-    wkb_check(out + at, size - at, &member, NULL);
-    expect(summed(NO_SUM, out + at, (size_t)member.size) == r[i].sums[inner], "a member of a collection", "");
-    at += (size_t)member.size;
-  }
-  expect(at == size && is_kept(out + size, WHOLE_MOST - size), "the end of a collection", "");
-}
-
-static void is_collected(const wkb_column *column, const lasting *r, uint32_t kind, uint32_t dimension,
-                         uint32_t number) {
-  const wkb_options options = {number / 4, number % 4, CALLER_SRID};
-  wkb_fault fault = {0}, wanted = {0};
-  size_t size = 0, row = 0, bad = 0;
-  uint32_t status = WKB_STATUS_OK;
-  uint8_t header[FRONT + 4];
-  for (; bad < column->rows && status == WKB_STATUS_OK; bad++)
-    status = status_as_member(&r[bad], kind, dimension, &wanted);
-  memset(out, UNTOUCHED, WHOLE_MOST);
-  uint32_t found = wkb_collect(column, kind, dimension, &options, out, WHOLE_MOST, &size, &fault, &row);
-  expect(found == status, "the status of a collection", "");
-  if (status != WKB_STATUS_OK) {
-    expect(row == bad - 1 && memcmp(&fault, &wanted, sizeof fault) == 0, "the fault of a collection", "");
-    expect(size == 0 && is_kept(out, WHOLE_MOST), "a collection without members is written", "");
-    return;
-  }
-  const size_t front = put_header(header, kind, dimension, &options, column->rows);
-  expect(memcmp(out, header, front) == 0, "the header of a collection", "");
-  has_members(r, column->rows, size, front, number);
+/* The members of a geometry as rows are collected into what is written of it, and not in less room. */
+enum { MEMBERS_MOST = ROW_PARTS_MOST };
+static void members_are_collected(const lasting *r, wkb_options options, uint32_t sum) {
+  static wkb_part table[ROW_PARTS_MOST];
+  static int64_t begins[MEMBERS_MOST + 1];
+  const uint32_t kind = (uint32_t)r->fields[7], dimension = (uint32_t)r->fields[8];
+  wkb_column column = {r->bytes, r->len, begins, sizeof begins[0], NULL, 0, 0};
+  size_t size = 0, needed = 0;
+  wkb_parts(r->bytes, r->len, table, ROW_PARTS_MOST, NULL, NULL);
+  begins[0] = (int64_t)r->fields[3];
+  for (uint64_t at = 1; at < table[0].next; at = table[at].next) begins[++column.rows] = (int64_t)table[at].end;
+  memset(out, UNTOUCHED, r->len + 5);
+  wkb_status status = wkb_collect(&column, kind, dimension, &options, out, r->len + 4, &size, NULL, NULL);
+  expect(status == WKB_STATUS_OK && summed(NO_SUM, out, size) == sum, "what is collected", "");
+  expect(is_kept(out + size, r->len + 5 - size), "more is collected", "");
   memset(out, UNTOUCHED, size);
-  found = wkb_collect(column, kind, dimension, &options, out, size - 1, &row, NULL, NULL);
-  expect(found == WKB_STATUS_NO_ROOM && row == size && is_kept(out, size), "a collection without room", "");
+  status = wkb_collect(&column, kind, dimension, &options, out, size - 1, &needed, NULL, NULL);
+  expect(status == WKB_STATUS_NO_ROOM && needed == size && is_kept(out, size), "a collection without room", "");
 }
 
-/* Up to three rows from each on as one geometry of each kind, also in another dimension than theirs. */
+/* A row that is rejected is told, unless one more collection around it is too many, and nothing is written. */
+static void is_no_member(wkb_column column, size_t row) {
+  const lasting *r = &of[row - 1];
+  wkb_fault fault = {0};
+  size_t at = 7, size = 7;
+  column.offsets = (const uint8_t *)column.offsets + row * column.offset_size, column.validity_offset += row;
+  column.rows = 1;
+  memset(out, UNTOUCHED, r->len);
+  const wkb_status status = wkb_collect(&column, WKB_KIND_GEOMETRY_COLLECTION, WKB_DIM_XY, &LITTLE_ISO, out, OUT_MOST,
+                                        &size, &fault, &at);
+  if (r->fields[0] >= 127) return;
+  const uint64_t found_fault[FAULT_COUNT] = {fault.part, fault.offset, fault.end, fault.len, fault.code};
+  expect(status == r->status && memcmp(found_fault, r->fields, sizeof found_fault) == 0, "the fault of a member", "");
+  expect(at == 0 && size == 7 && is_kept(out, r->len), "what a member that is none writes", "");
+}
+
 static void are_collected(const wkb_column *column) {
-  for (size_t i = 1; i + MEMBERS_MOST < rows; i++) {
-    wkb_column some = *column;
-    some.offsets = (const uint8_t *)column->offsets + i * column->offset_size, some.validity_offset += i;
-    for (some.rows = 0; some.rows <= MEMBERS_MOST; some.rows++)
-      for (uint32_t kind = WKB_KIND_MULTI_POINT; kind <= WKB_KIND_GEOMETRY_COLLECTION; kind++) {
-        const uint32_t dimension = (uint32_t)of[i - 1].fields[8] + (some.rows == 2);
-        is_collected(&some, &of[i - 1], kind, of[i - 1].status ? kind % 4 : dimension % 4, (i + kind) % OPTION_COUNT);
-      }
+  static const uint32_t NUMBERS[] = {0, 2, 3, 4, 6, 7};
+  for (size_t i = 1; i + 1 < rows; i++) {
+    const lasting *r = &of[i - 1];
+    if (!is_good(i)) is_no_member(*column, i);
+    for (int k = 0; k < 6 && is_good(i) && r->fields[7] >= WKB_KIND_MULTI_POINT; k++) {
+      const wkb_options options = {NUMBERS[k] / 4, NUMBERS[k] % 4, CALLER_SRID};
+      members_are_collected(r, options, r->sums[NUMBERS[k]]);
+    }
   }
 }
 
