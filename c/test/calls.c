@@ -98,19 +98,6 @@ static void hostile_columns_are_told(void) {
   }
 }
 
-/* A negative offset of four bytes is bad also where the data go on to where it would be without its sign. */
-static void offsets_have_a_sign(void) {
-  static const int32_t NEGATIVE[] = {-64, -43};
-  const size_t size = (size_t)1 << 32;
-  uint8_t *data = addresses(size);
-  spelled("01 01000000 P", data + size - 64);
-  wkb_column column = {data, size, NEGATIVE, sizeof NEGATIVE[0], NULL, 0, 1};
-  uint8_t status = UNTOUCHED;
-  wkb_column_check(&column, &status);
-  expect(status == BAD, "a negative offset", "four bytes");
-  release(data, size);
-}
-
 /* Null may be given for what is empty and for results that aren't wanted. */
 static void null_is_allowed(void) {
   uint8_t point[21];
@@ -224,7 +211,6 @@ static void no_row_is_read_in_vain(void) {
 
 void calls_are_right(void) {
   hostile_columns_are_told();
-  offsets_have_a_sign();
   null_is_allowed();
   null_is_allowed_without_rows();
   null_is_allowed_in_collections();

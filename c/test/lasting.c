@@ -78,9 +78,6 @@ static bool is_fault(const lasting *r, const wkb_fault *f) {
   return memcmp(fault, r->fields, sizeof fault) == 0 && f->status == r->status;
 }
 
-/* Where a call has a pointer to a size, of whichever type. */
-static void *size_at(size_t *size) { return size; }
-
 bool is_kept(const void *from, size_t len) {
   for (size_t i = 0; i < len; i++)
     if (((const uint8_t *)from)[i] != UNTOUCHED) return false;
@@ -95,7 +92,7 @@ static const char *wrong_writing(const lasting *r, uint32_t number) {
   uint32_t equal = 0;
   size_t size = 0, needed = 0;
   memset(out, UNTOUCHED, r->len + 5);
-  uint32_t status = wkb_write(r->bytes, r->len, &options, out, r->len + 4, size_at(&size), &fault);
+  uint32_t status = wkb_write(r->bytes, r->len, &options, out, r->len + 4, &size, &fault);
   if (status != r->status) return "wkb_write has another status than wkb_check";
   if (!is_kept(out + size, r->len + 5 - size)) return "bytes after the encoding are written";
   if (status != WKB_STATUS_OK)
@@ -104,7 +101,7 @@ static const char *wrong_writing(const lasting *r, uint32_t number) {
   wkb_same(r->bytes, r->len, out, size, &equal, NULL, NULL);
   if (!equal) return "what is written has another value";
   memset(out, UNTOUCHED, size);
-  status = wkb_write(r->bytes, r->len, &options, out, size - 1, size_at(&needed), NULL);
+  status = wkb_write(r->bytes, r->len, &options, out, size - 1, &needed, NULL);
   const bool is_left = status == WKB_STATUS_NO_ROOM && needed == size && is_kept(out, size);
   return is_left ? NULL : "room for all bytes but one is enough";
 }
@@ -192,7 +189,7 @@ static const char *wrong_parts(const lasting *r) {
   wkb_fault fault;
   size_t count = 0, wanted = r->status == WKB_STATUS_OK ? (size_t)r->fields[1] : ROW_PARTS_MOST;
   memset(parts, UNTOUCHED, sizeof parts);
-  uint32_t status = wkb_parts(r->bytes, r->len, parts, wanted, size_at(&count), &fault);
+  uint32_t status = wkb_parts(r->bytes, r->len, parts, wanted, &count, &fault);
   if (status != r->status) return "wkb_parts has another status than wkb_check";
   if (!is_kept(parts + count, sizeof parts - count * sizeof parts[0])) return "more parts are written";
   if (status != WKB_STATUS_OK)
@@ -207,7 +204,7 @@ static const char *wrong_parts(const lasting *r) {
   const wkb_part whole = wkb_whole(&found);
   if (memcmp(&whole, &parts[0], sizeof whole) != 0) return "the whole is another part";
   memset(parts, UNTOUCHED, sizeof parts);
-  status = wkb_parts(r->bytes, r->len, parts, wanted - 1, size_at(&count), NULL);
+  status = wkb_parts(r->bytes, r->len, parts, wanted - 1, &count, NULL);
   if (status != WKB_STATUS_NO_ROOM || count != wanted) return "room for all parts but one is enough";
   return is_kept(parts, sizeof parts) ? NULL : "parts are written without room";
 }

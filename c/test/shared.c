@@ -6,9 +6,6 @@
 #else
 #include <sys/mman.h>
 #include <unistd.h>
-#ifndef MAP_NORESERVE /* FreeBSD takes memory when it is used */
-#define MAP_NORESERVE 0
-#endif
 #endif
 
 #ifdef _WIN32
@@ -30,23 +27,11 @@ void can_be_written(uint8_t *end, bool can) {
   expect(VirtualProtect(page, info.dwPageSize, can ? PAGE_READWRITE : PAGE_READONLY, &before), "a page", "");
 }
 
-/* Only the last 64 KB can be used, since Windows counts all that could be. */
-uint8_t *addresses(size_t size) {
-  const size_t used = 1 << 16;
-  uint8_t *taken = VirtualAlloc(NULL, size, MEM_RESERVE, PAGE_READWRITE);
-  expect(taken && VirtualAlloc(taken + size - used, used, MEM_COMMIT, PAGE_READWRITE), "addresses", "");
-  return taken;
-}
-
-void release(uint8_t *taken, size_t size) {
-  (void)size;
-  VirtualFree(taken, 0, MEM_RELEASE);
-}
 #else
 uint8_t *end_of_pages(size_t size) {
   const size_t page = (size_t)sysconf(_SC_PAGESIZE), whole = (size + page - 1) / page * page;
-  uint8_t *pages = addresses(whole + page);
-  expect(mprotect(pages + whole, page, PROT_NONE) == 0, "pages", "");
+  uint8_t *pages = mmap(NULL, whole + page, PROT_READ | PROT_WRITE, MAP_PRIVATE | MAP_ANON, -1, 0);
+  expect(pages != MAP_FAILED && mprotect(pages + whole, page, PROT_NONE) == 0, "pages", "");
   return pages + whole;
 }
 
@@ -54,14 +39,6 @@ void can_be_written(uint8_t *end, bool can) {
   size_t page = (size_t)sysconf(_SC_PAGESIZE);
   expect(mprotect(end - page, page, can ? PROT_READ | PROT_WRITE : PROT_READ) == 0, "a page", "");
 }
-
-uint8_t *addresses(size_t size) {
-  uint8_t *taken = mmap(NULL, size, PROT_READ | PROT_WRITE, MAP_PRIVATE | MAP_ANON | MAP_NORESERVE, -1, 0);
-  expect(taken != MAP_FAILED, "addresses", "");
-  return taken;
-}
-
-void release(uint8_t *taken, size_t size) { munmap(taken, size); }
 #endif
 
 void *at_the_end(int place, const void *from, size_t len) {

@@ -42,10 +42,6 @@ void *at_the_end(int place, const void *from, size_t len);
 /* Whether the page before this end can be written to. */
 void can_be_written(uint8_t *end, bool can);
 
-/* So many bytes of addresses that may be read and written, all of them 0; memory is taken for those that are used. */
-uint8_t *addresses(size_t size);
-void release(uint8_t *taken, size_t size);
-
 /* The tests, by their files. Each group ends the program where something is wrong. */
 void calls_are_right(void);
 void texts_are_right(void);

@@ -93,7 +93,7 @@ static void all_take_little(wkb_status expected, size_t without, uint8_t *stack)
 }
 
 void little_stack_is_taken(void) {
-  uint8_t *stack = addresses(STACK_SIZE);
+  uint8_t *stack = end_of_pages(STACK_SIZE) - STACK_SIZE;
   stack_of(EVERY_COUNT, stack); /* a program's first thread takes more */
   size_t without = stack_of(EVERY_COUNT, stack);
   nest();
@@ -107,5 +107,4 @@ void little_stack_is_taken(void) {
     memcpy(bytes, inputs.data + inputs.offsets[i], len);
     all_take_little(inputs.statuses[i], without, stack);
   }
-  release(stack, STACK_SIZE);
 }
