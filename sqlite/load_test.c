@@ -1,18 +1,14 @@
 /* SPDX-License-Identifier: MIT OR Apache-2.0 */
 /* load_test EXTENSION: lets loads of the extension fail, and checks that each gives the reason, that the connection
- * goes on, that the next load succeeds, that all memory is freed, and that no byte past an allocation is written. A
- * load fails if an allocation fails, each of its allocations in turn, and if a statement is open while a function of
- * the same name exists. Calls whose allocation fails are an error, and give no other answer. Names that begin with ST_
- * are defined by their own entry point alone: a load replaces none of them, and any of them can be defined for one
- * argument later, also while a statement is open. No call reads a byte past its blob. */
-#define _DEFAULT_SOURCE
+ * goes on, that the next load succeeds, and that all memory is freed. A load fails if an allocation fails, each of its
+ * allocations in turn, and if a statement is open while a function of the same name exists. Calls whose allocation fails
+ * are an error, and give no other answer. Names that begin with ST_ are defined by their own entry point alone, and any
+ * of them can be defined for one argument later, also while a statement is open. */
 #include <sqlite3.h>
 #include <stdbool.h>
 #include <stdio.h>
 #include <stdlib.h>
 #include <string.h>
-#include <sys/mman.h>
-#include <unistd.h>
 
 static const char *extension;
 
@@ -23,8 +19,8 @@ static void expect(bool holds, const char *what, int at) {
 }
 
 /* SQLite's memory: one allocation fails, the one that `left` counts down to. Before the bytes of each block stands
- * their number, and behind them bytes that nobody may write. */
-enum { FRONT = 16, GUARD = 16, MARK = 0xa5 };
+ * their number. */
+enum { FRONT = 16 };
 static int left;
 
 static int size_of(void *bytes) {
@@ -35,19 +31,14 @@ static int size_of(void *bytes) {
 
 static void *allocate(int size) {
   if (left > 0 && --left == 0) return NULL;
-  char *block = malloc((size_t)size + FRONT + GUARD);
+  char *block = malloc((size_t)size + FRONT);
   if (block == NULL) return NULL;
   memcpy(block, &size, sizeof size);
-  memset(block + FRONT + size, MARK, GUARD);
   return block + FRONT;
 }
 
 static void release(void *bytes) {
-  if (bytes == NULL) return;
-  int size = size_of(bytes);
-  for (int i = 0; i < GUARD; i++)
-    expect(((unsigned char *)bytes)[size + i] == MARK, "a byte past an allocation is written, of its bytes", size);
-  free((char *)bytes - FRONT);
+  if (bytes != NULL) free((char *)bytes - FRONT);
 }
 
 static void *reallocate(void *bytes, int size) {
@@ -190,44 +181,6 @@ static void try_with_statement(const char *name, int n, bool again) {
   go_on(db, again, n);
 }
 
-/* The functions of one blob. The answers are those of another test. */
-static const char OF_A_BLOB[] =
-    "select wkb_well_formed(?1), wkb_fault(?1), wkb_dump(?1), wkb_kind(?1), wkb_srid(?1), wkb_ndims(?1), wkb_ewkb(?1),"
-    " wkb_gpkg(?1), wkb_same(?1, ?1), wkb_xmin(?1), wkb_ymax(?1), ST_IsEmpty(?1), ST_MinX(?1)";
-
-/* Asks them of each start of a blob, which lies at the end of a page before one that can't be read. */
-static void try_at_the_end_of_a_page(const unsigned char *blob, int size) {
-  char *text;
-  sqlite3_stmt *query;
-  sqlite3 *db = opened();
-  size_t page = (size_t)sysconf(_SC_PAGESIZE);
-  char *pages = mmap(NULL, 2 * page, PROT_READ | PROT_WRITE, MAP_PRIVATE | MAP_ANONYMOUS, -1, 0);
-  expect(pages != MAP_FAILED && mprotect(pages + page, page, PROT_NONE) == 0, "no pages", size);
-  expect(load(db, &text) == SQLITE_OK, "the load fails", size);
-  expect(sqlite3_prepare_v2(db, OF_A_BLOB, -1, &query, NULL) == SQLITE_OK, "there are no such functions", size);
-  for (int length = 1; length <= size; length++) {
-    char *start = pages + page - length;
-    memcpy(start, blob, (size_t)length);
-    sqlite3_bind_blob(query, 1, start, length, SQLITE_STATIC);
-    expect(sqlite3_step(query) == SQLITE_ROW, "the functions don't answer", length);
-    expect(sqlite3_column_int(query, 0) == (length == size), "what is well formed at the end of a page", length);
-    sqlite3_reset(query);
-  }
-  sqlite3_finalize(query);
-  expect(sqlite3_close(db) == SQLITE_OK && munmap(pages, 2 * page) == 0, "the connection is not closed", size);
-}
-
-/* A collection of two line strings with z behind the header of a GeoPackage with an envelope, and a polygon. */
-static void try_pages(void) {
-  unsigned char blob[40 + 9 + 2 * (9 + 24)] = {'G', 'P', 0, 3};
-  static const unsigned char COLLECTION[] = {1, 7, 0, 0, 0, 2, 0, 0, 0}, LINE[] = {0, 0, 0, 3, 0xea, 0, 0, 0, 1};
-  static const unsigned char POLYGON[9 + 4 + 16] = {1, 3, 0, 0, 0, 1, 0, 0, 0, 1};
-  memcpy(blob + 40, COLLECTION, sizeof COLLECTION);
-  for (size_t i = 0; i < 2; i++) memcpy(blob + 49 + 33 * i, LINE, sizeof LINE);
-  try_at_the_end_of_a_page(blob, sizeof blob);
-  try_at_the_end_of_a_page(POLYGON, sizeof POLYGON);
-}
-
 /* Another extension is loaded by a query, so that a statement is open while it makes its function. */
 static void try_before(const char *name) {
   char *text, query[100];
@@ -262,7 +215,6 @@ int main(int count, char **words) {
   extension = words[1];
   install_memory();
   try_default_alone();
-  try_pages();
   for (size_t i = 0; i < 5; i++) try_before(TRIGGER_NAMES[i]);
   for (int again = 0; again <= 1; again++) {
     try_with_statement("wkb_same", 2, again);

@@ -11,6 +11,13 @@ select wkb_well_formed(column1), wkb_fault(column1), wkb_dump(column1), wkb_kind
 -- The first SRID and the last ones.
 select wkb_srid(wkb_ewkb(wkb, 0)), hex(wkb_ewkb(wkb_gpkg(wkb, 1))), hex(wkb_ewkb(wkb, 4294967295)),
   hex(wkb_gpkg(wkb, -1)), hex(wkb_gpkg(wkb, 2147483647)) from point;
+-- Each start of a collection of two lines with z behind a header, which is an allocation of its own: under a sanitizer
+-- nothing is read after it.
+with recursive whole(wkb) as (select cast(x'4750000300000000' || zeroblob(32) || x'010700000002000000' ||
+    x'00000003ea00000001' || zeroblob(24) || x'00000003ea00000001' || zeroblob(24) as blob)),
+  cut(n) as (select 1 union all select n + 1 from cut where n < 115)
+select sum(wkb_well_formed(it)), count(wkb_fault(it)), count(wkb_dump(it)), count(wkb_gpkg(it)), count(ST_MinX(it))
+  from (select substr(wkb, 1, n) as it from whole, cut);
 -- Each of the 29 functions is deterministic (800 in hex) and innocuous (200000), so that a schema that isn't trusted
 -- may call it.
 select count(*), sum(flags & 0x200800 = 0x200800) from pragma_function_list
