@@ -171,7 +171,7 @@ struct filled {
     data.insert(data.end(), it.begin(), it.end());
     offsets.push_back(static_cast<Offset>(data.size()));
   }
-  // All rows are there. Then some are null, and some have a bad offset.
+  // Some of its rows are null, and every second column has a bad offset.
   wkb_column column() {
     for (std::uint8_t &byte : validity) byte = static_cast<std::uint8_t>(below(4) ? 255 : below(256));
     if (below(2) == 0) offsets[below(offsets.size())] = static_cast<Offset>(below(data.size() + 9)) - 4;
