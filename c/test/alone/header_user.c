@@ -1,23 +1,8 @@
-/* A user's program, which c/test/alone/header_test compiles as each version of C and of C++, with warnings as errors: switches over
+/* A user's program, which header_test compiles as each version of C and of C++, with warnings as errors: switches over
  * all constants of a type without a default, and sizes and counts of C's own type. */
 #include "wkb.h"
 
-/* What each number means. A switch over a number is never full for a compiler, so each has an end of its own. */
-const char *meaning_of_kind(wkb_kind kind);
-const char *meaning_of_kind(wkb_kind kind) {
-  switch (kind) {
-    case WKB_KIND_RING: return "a ring";
-    case WKB_KIND_POINT: return "a point";
-    case WKB_KIND_LINE_STRING: return "a line string";
-    case WKB_KIND_POLYGON: return "a polygon";
-    case WKB_KIND_MULTI_POINT: return "a multi point";
-    case WKB_KIND_MULTI_LINE_STRING: return "a multi line string";
-    case WKB_KIND_MULTI_POLYGON: return "a multi polygon";
-    case WKB_KIND_GEOMETRY_COLLECTION: return "a collection";
-  }
-  return wkb_kind_text(kind);
-}
-
+/* A switch over a number is never full for a compiler, so each has an end of its own. */
 int words_of(wkb_dim dimension);
 int words_of(wkb_dim dimension) {
   switch (dimension) {
@@ -76,13 +61,4 @@ size_t rooms_of(const wkb_column *column, const wkb_levels *levels, uint64_t *en
   size_t bytes = wkb_column_write(column, &options, NULL, 0, ends, statuses);
   return parts + bytes +
          wkb_column_from_coordinates(levels, WKB_KIND_POINT, WKB_DIM_XY, &options, NULL, 0, ends, statuses);
-}
-
-/* The first word of a geometry that is one point. */
-double first_word(const void *buf, const wkb_found *found);
-double first_word(const void *buf, const wkb_found *found) {
-  wkb_part whole = wkb_whole(found);
-  double words[4];
-  wkb_words(buf, &whole, 0, 1, words);
-  return whole.kind == WKB_KIND_POINT ? words[0] : wkb_word(buf, &whole, 0, 0);
 }
