@@ -1,9 +1,9 @@
 /* SPDX-License-Identifier: MIT OR Apache-2.0 */
 /* load_test EXTENSION: lets loads of the extension fail, and checks that each gives the reason, that the connection
  * goes on, that the next load succeeds, and that all memory is freed. A load fails if an allocation fails, each of its
- * allocations in turn, and if a statement is open while a function of the same name exists. Calls whose allocation fails
- * are an error, and give no other answer. Names that begin with ST_ are defined by their own entry point alone, and any
- * of them can be defined for one argument later, also while a statement is open. */
+ * allocations in turn, and if a statement is open while a function of the same name exists. Calls whose allocation
+ * fails are an error, and give no other answer. Names that begin with ST_ are defined by their own entry point alone, and
+ * any of them can be defined for one argument later, also while a statement is open. */
 #include <sqlite3.h>
 #include <stdbool.h>
 #include <stdio.h>

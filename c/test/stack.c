@@ -54,8 +54,8 @@ static void *run(void *it) {
 static size_t stack_of(int call, uint8_t *stack) {
   pthread_t thread;
   (void)stack;
-  expect(pthread_create(&thread, NULL, run, &call) == 0, "a thread", "");
-  expect(pthread_join(thread, NULL) == 0, "a thread's end", "");
+  expect(pthread_create(&thread, NULL, run, &call) == 0, "a thread", EVERY_NAMES[call]);
+  expect(pthread_join(thread, NULL) == 0, "a thread's end", EVERY_NAMES[call]);
   return taken;
 }
 #else
@@ -70,10 +70,10 @@ static size_t stack_of(int call, uint8_t *stack) {
   pthread_t thread;
   size_t untouched = 0;
   memset(stack, PAINT, STACK_SIZE);
-  expect(pthread_attr_init(&attributes) == 0, "a thread's attributes", "");
-  expect(pthread_attr_setstack(&attributes, stack, STACK_SIZE) == 0, "a thread's stack", "");
-  expect(pthread_create(&thread, &attributes, run, &call) == 0, "a thread", "");
-  expect(pthread_join(thread, NULL) == 0, "a thread's end", "");
+  expect(pthread_attr_init(&attributes) == 0, "a thread's attributes", EVERY_NAMES[call]);
+  expect(pthread_attr_setstack(&attributes, stack, STACK_SIZE) == 0, "a thread's stack", EVERY_NAMES[call]);
+  expect(pthread_create(&thread, &attributes, run, &call) == 0, "a thread", EVERY_NAMES[call]);
+  expect(pthread_join(thread, NULL) == 0, "a thread's end", EVERY_NAMES[call]);
   pthread_attr_destroy(&attributes);
   while (untouched < STACK_SIZE && stack[untouched] == PAINT) untouched++;
   return STACK_SIZE - untouched;
@@ -85,10 +85,8 @@ static void all_take_little(wkb_status expected, size_t without, uint8_t *stack)
   for (int call = 0; call < EVERY_COUNT; call++) {
     const size_t most = call == EVERY_PARTS || call == EVERY_COLUMN_PARTS ? PARTS_MOST : OTHERS_MOST;
     make(&call); /* so that the linker has found what it calls */
-    if (call < EVERY_LEVELS) expect(status == expected, "the status on a painted stack", "");
-    const size_t taken_here = stack_of(call, stack);
-    if (taken_here > without + most) printf("call %d: %u bytes\n", call, (unsigned)(taken_here - without));
-    expect(taken_here <= without + most, "how much stack", "");
+    if (call < EVERY_LEVELS) expect(status == expected, "the status on a painted stack", EVERY_NAMES[call]);
+    expect(stack_of(call, stack) <= without + most, "how much stack", EVERY_NAMES[call]);
   }
 }
 
