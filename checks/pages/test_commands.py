@@ -44,6 +44,8 @@ SKETCHED = ["crates/wkb/src/check.rt", "crates/wkb/src/lib.rt"]
 RUNS = re.compile(r"\(cd crates/wkb_hex && rt try -- (\S+) < \.\./\.\./(\S+)\)|\./wkb_hex (\S+) < (\S+)$")
 # The folders of our scripts.
 OURS = r"(?:\.ci|bench|c|checks|crates|docs|edits|examples|postgres|python|rust|sqlite|tools)"
+# With the kit these commands build and test everything, and README names them; the first prints BIG_POINT.
+KIT = "./wkb_hex be < examples/point.hex", "rt ci"
 # What runs the line that a page has for another processor.
 CROSS = "checks/systems/cross_test"
 
@@ -171,8 +173,16 @@ def lost_runs(page):
                 yield f"{page}:{number}: {command}\n  prints {printed!r}, which the page doesn't have"
 
 
+@functools.lru_cache(maxsize=None)
+def said_of_kit():
+    """What the kit prints of its command's words, or nothing."""
+    command = 'rt --help && "$(dirname "$(rt doc)")/bin/rattle" check --help'
+    return subprocess.run(["bash", "-c", command], stdout=subprocess.PIPE, stderr=subprocess.DEVNULL, text=True).stdout
+
+
 def lost_words(page):
-    """The words of commands of ours, also of those in sentences, that no script and no Makefile takes."""
+    """The words of commands of ours and of the kit's, also of those in sentences, that no script, no Makefile and no
+    help takes."""
     makefiles = text_of("c/Makefile") + text_of("postgres/Makefile")
     every = [command for _, command, _ in commands(page)]
     every += [span for _, line in lines_of(page) for span in spans(line)]
@@ -183,6 +193,13 @@ def lost_words(page):
             for it in re.findall(r" ([A-Z_]{3,}(?==))|^make (?:-C \w+ )?([a-z][a-z0-9-]*)\b", " ".join(words)):
                 if not re.search(rf"\b{it[0]}\b" if it[0] else rf"(?m)^\.?[\w ]*\b{it[1]}\b[\w ]*:", makefiles):
                     yield f"{page}: no Makefile has {''.join(it)}"
+        elif words[:1] == ["rt"] and said_of_kit():
+            options = " ".join(words).split(" -- ")[0]
+            yield from (f"{page}: rt has no {it}" for it in re.findall(r"(?<=^rt )[a-z-]+|--[a-z-]+", options)
+                        if not re.search(rf"(?<![\w-]){it}(?![\w-])", said_of_kit()))
+        elif first == "checks/edits/run":
+            yield from (f"{page}: no edit is {it}" for it in words[own[0] + 1 :] if re.match("[a-z]", it)
+                        if not (ROOT / "crates" / it).is_dir() and not (ROOT / f"checks/edits/{it}.edit").is_file())
         elif own and (ROOT / first).is_file():
             more = words[own[0] + 1 :]
             flags = {it.partition("=")[0] for it in more if re.match("--[a-z]", it)}
@@ -205,6 +222,9 @@ class Shown(judge.Judge):
         yield from differing_commands(self.folder, lambda it: "wkb_hex" not in it and "wkb_dump" not in it)
         for page in PAGES:
             yield from (*lost_pieces(page), *lost_commands(page), *lost_words(page))
+        yield from (f"README.md: no {it}" for it in {*KIT} - {it for _, it, _ in commands("README.md")})
+        if f"`{BIG_POINT}`" not in text_of("README.md"):
+            yield f"README.md: no {BIG_POINT}, which {KIT[0]} prints"
         yield from lost_examples()
 
 
