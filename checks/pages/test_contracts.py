@@ -13,8 +13,7 @@ and its clauses: a statement without such a row is an error.
 import re
 
 from checks import judge
-from contracts import Clauses, told
-from items import Paths
+from contracts import Clauses
 from pages import PAGES, ROOT, cells, rows_of, spans, text_of, texts
 
 PROMISES = "docs/PROMISES.md"
@@ -165,30 +164,6 @@ def wrong_statements(clauses):
     return lost_statements(clauses, statements, given)
 
 
-def public_calls():
-    """(name, whether it has a body) of each public call of the crate: a function, or a method with its type."""
-    paths = Paths()
-    for module in ("", *paths.modules("wkb")):
-        for crate, item in paths.public("wkb", module):
-            blocks = [it for trait, it in paths.crate(crate).impls_of(item.name) if trait is None]
-            inside = item.inside if item.kind == "trait" else [it for block in blocks for it in block.inside]
-            if item.kind == "fn":
-                yield item.name, True
-            for it in inside:
-                if it.kind == "fn" and (it.is_public or item.kind == "trait"):
-                    yield f"{item.name}::{it.name}", item.kind != "trait"
-
-
-def untold(clauses):
-    """The public calls that the tool has nothing of, or not the command that proves them."""
-    for name, has_body in dict(public_calls()).items():
-        lines = [*told(clauses, name)]
-        if not lines:
-            yield f"tools/contracts.py: nothing is told of `{name}`"
-        elif has_body and not any(re.search(rf"--only (\w+::)*{name}\)", it) for it in lines):
-            yield f"tools/contracts.py: no command is told that proves `{name}`"
-
-
 class Contracts(judge.Judge):
     """The clauses on the pages are those of the contracts."""
 
@@ -196,4 +171,4 @@ class Contracts(judge.Judge):
         clauses = Clauses()
         for it in (lost_promises, lost_in_sentences, lost_facts, wrong_statements):
             yield from it(clauses)
-        yield from (*lost_tests(), *lost_calls(), *untold(clauses))
+        yield from (*lost_tests(), *lost_calls())
