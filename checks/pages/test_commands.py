@@ -176,8 +176,8 @@ def lost_runs(page):
 @functools.lru_cache(maxsize=None)
 def said_of_kit():
     """What the kit prints of its command's words, or nothing."""
-    command = 'rt --help && "$(dirname "$(rt doc)")/bin/rattle" check --help'
-    return subprocess.run(["bash", "-c", command], stdout=subprocess.PIPE, stderr=subprocess.DEVNULL, text=True).stdout
+    command = 'command -v rt && { rt --help; "$(dirname "$(rt doc)")/bin/rattle" check --help; } 2>&1'
+    return subprocess.run(["bash", "-c", command], stdout=subprocess.PIPE, text=True).stdout
 
 
 def lost_words(page):
