@@ -10,10 +10,10 @@ README's paragraph "Proved of the sources" has the proved statements, between se
 Each of them has a row in the table of PROMISES that begins with "README says", with the crate, the function or record,
 and its clauses: a statement without such a row is an error.
 """
+import collections
 import re
 
 from checks import judge
-from contracts import Clauses
 from pages import PAGES, ROOT, cells, rows_of, spans, text_of, texts
 
 PROMISES = "docs/PROMISES.md"
@@ -23,6 +23,65 @@ UNNAMED, LEMMA = "its only clause", "the lemma"
 NAMED = r"`[\w:<>]+`"
 # A law of std and our lemmas, which PROMISES names beside our clauses.
 LEMMAS = {"respects_eq", *re.findall(r"(\w+)[,}]", text_of("crates/wkb/specs/Known.antt"))}
+FUNCTION = re.compile(r'^( *)(?:pub(?:\(\w+\))? )?(?:const )?(?:extern "C" )?fn (\w+)', re.M)
+BLOCK = re.compile(
+    r"^ *(?:(?:pub )?(?:trait|struct|enum) |impl(?:<[^{\n]*?>)? (?:[\w:]+(?:<[^{\n]*>)? for )?)(\w+)", re.M
+)
+DEFINITION = re.compile(r"^ *(?:pub )?(?:record|data) (\w+)", re.M)
+
+
+def block_after(text, start):
+    """The text from a place up to the end of its block: the next line that is indented no more than its first."""
+    lines = text[start:].split("\n")
+    indent = len(lines[0]) - len(lines[0].lstrip())
+    block = [lines[0]]
+    for line in lines[1:]:
+        if line.strip() and len(line) - len(line.lstrip()) <= indent and not re.match(r"\s*[{})]", line):
+            break
+        block.append(line)
+    return "\n".join(block)
+
+
+class Clauses:
+    """The clauses of functions, traits and types, and the fields of records, by crate and name."""
+
+    def __init__(self):
+        self.labels = collections.defaultdict(lambda: collections.defaultdict(set))
+        # (crate, name) of each function that has a clause without a name.
+        self.unnamed = set()
+        for path, text in texts("crates/*/src/**/*.rt").items():
+            self.read_code(path.split("/")[1], text)
+        for path, text in texts("crates/*/specs/**/*.antt").items():
+            self.read_definitions(path.split("/")[1], text)
+
+    def read_code(self, crate, text):
+        for match in FUNCTION.finditer(text):
+            head = re.split(r"\n {0,%d}[{}]|;\n" % len(match[1]), text[match.start() :], maxsplit=1)[0]
+            self.labels[crate][match[2]].update(re.findall(r"\b(?:ensures|requires) (\w+)", head))
+            if re.search(r"\bensures \{", head):
+                self.unnamed.add((crate, match[2]))
+        for match in BLOCK.finditer(text):
+            found = re.findall(r"\b(?:ensures|requires|ghost) (\w+)", block_after(text, match.start()))
+            self.labels[crate][match[1]].update(found)
+
+    def read_definitions(self, crate, text):
+        for match in DEFINITION.finditer(text):
+            found = re.findall(r"(?m)^\s+(?:pub )?(\w+)\s*:", block_after(text, match.start()))
+            self.labels[crate][match[1]].update(found)
+
+    def of(self, name, crates=()):
+        """The labels of a function, a trait, a type or a record of these crates, or of any."""
+        name = re.split("::", re.sub(r"<.*>", "", name))[-1]
+        return set().union(*(self.labels[it].get(name, ()) for it in crates or list(self.labels)))
+
+    def within(self, crates):
+        """The labels of all that these crates have."""
+        return set().union(*(labels for it in crates for labels in self.labels[it].values()))
+
+    def is_name(self, name, crates=()):
+        """Whether something that may have clauses has this name."""
+        name = name.split("::")[-1]
+        return any(name in self.labels[it] for it in crates or list(self.labels))
 
 
 def said_of(part):
