@@ -46,7 +46,7 @@ RUST = "README.md", r"Debian[^.]*.*\bRust ([\d.]*\d)"
 
 
 class Versions(unittest.TestCase):
-    """The versions of each file, and with another version planted."""
+    """The versions of each file."""
 
     def setUp(self):
         told = subprocess.run([pages.ROOT / "tools/version"], stdout=subprocess.PIPE, text=True, check=True).stdout
@@ -55,9 +55,7 @@ class Versions(unittest.TestCase):
     def test_the_files_name_it(self):
         for path, pattern in NAMED:
             with self.subTest(path=path, pattern=pattern):
-                text = pages.text_of(path)
-                self.assertEqual({*re.findall(pattern, text)}, {self.version})
-                self.assertEqual({*re.findall(pattern, text.replace(self.version, "9.9.9"))}, {"9.9.9"})
+                self.assertEqual({*re.findall(pattern, pages.text_of(path))}, {self.version})
 
     def test_another_one_is_set_and_taken_back(self):
         with tempfile.TemporaryDirectory() as folder:
