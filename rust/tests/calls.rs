@@ -9,6 +9,7 @@ use porchsorrel_wkb::reader::{read_wkb, Dimension, Wkb};
 use porchsorrel_wkb::writer::{geometry_wkb_size, write_geometry, write_point, WriteOptions};
 use porchsorrel_wkb::{AllocError, Endianness};
 
+const TEXTS: &str = include_str!("../../c/test/texts.c");
 const POINT: &[u8] = b"\x01\x01\0\0\0\0\0\0\0\0\0\xf0\x3f\0\0\0\0\0\0\0\x40";
 
 /// A program for the crate `wkb` 0.9, with the names of this one: it reads a point, prints it, and writes it in the
@@ -139,19 +140,38 @@ fn classes_of_statuses() {
     assert_eq!(format!("{:>17}|{:?}", Status::NULL_ROW, Status::OK), "  the row is null|Status(0: ok)");
 }
 
-/// Each status of `c/wkb.h` is one of this crate, but those that no call of the crate returns.
+/// The statuses are those of `c/wkb.h`, with the texts of c/test/texts.c, but those that no call of the crate returns.
 #[test]
 fn statuses_are_those_of_the_header() {
-    let ours = include_str!("../src/columns/status.rs");
+    let ours = include_str!("../src/columns/status.rs").replace(['{', '}'], "");
+    let ours = ours.split_whitespace().collect::<Vec<_>>().join(" ");
+    let header = include_str!("../../c/wkb.h");
     let mut count = 0;
-    let rests = include_str!("../../c/wkb.h").lines().filter_map(|line| line.strip_prefix("  WKB_STATUS_"));
-    for (name, rest) in rests.filter_map(|it| it.split_once(" = ")) {
-        let number: String = rest.chars().take_while(char::is_ascii_digit).collect();
-        let defined = ours.contains(&format!("const {name}: Status = Status({number});"));
-        assert!(defined || ["NO_MEMORY", "UNKNOWN_OPTION"].contains(&name), "{name} = {number}");
+    let named = TEXTS.split("UNNAMED[]").next().unwrap();
+    for row in named.split("{WKB_STATUS_").skip(1) {
+        let (name, text) = (row.split(',').next().unwrap(), row.split('"').nth(1).unwrap());
+        let number = header.split(&format!("  WKB_STATUS_{name} = ")).nth(1).unwrap();
+        let number: String = number.chars().take_while(char::is_ascii_digit).collect();
+        let defined = ours.contains(&format!("const {name}: Status = Status({number});"))
+            && ours.contains(&format!("Status::{name} => \"{text}\""));
+        assert!(defined || ["NO_MEMORY", "UNKNOWN_OPTION"].contains(&name), "{name} = {number}, {text}");
         count += 1;
     }
-    assert!(count >= 17, "{count} statuses");
+    assert_eq!(count, header.matches("\n  WKB_STATUS_").count());
+}
+
+/// The names of codes that aren't read are those of c/test/texts.c, by ISO and with the flags of EWKB.
+#[test]
+fn names_of_codes() {
+    let names = TEXTS.split("UNREAD[] = {").nth(1).unwrap().split('}').next().unwrap();
+    let names: Vec<&str> = names.split('"').skip(1).step_by(2).collect();
+    assert_eq!(names.len(), 10);
+    for (kind, name) in (8_u32..).zip(names) {
+        for code in [0, 1000, 3000, 0xe000_0000].map(|it| it + kind) {
+            let why = check(&[&[1][..], &code.to_le_bytes()].concat()).unwrap_err().to_string();
+            assert!(why.starts_with(&format!("unknown geometry type code {code}, {name}, which this")), "{why}");
+        }
+    }
 }
 
 /// Iterators go from both ends, and know how long they are; numbers have the bits of words.
