@@ -66,11 +66,11 @@ fn results(column: &Column) -> impl PartialEq + std::fmt::Debug {
 #[test]
 fn in_any_place() {
     let rows = rows();
-    for before in 0..20 {
+    for before in (0..20).chain([63, 64, 100]) {
         let data = [vec![1; before as usize], pieces().concat()].concat();
         let ends = [0, 21, 21, 42, 62].map(|it| it + before);
         let (narrow, wide) = (small(&ends), large(&ends.map(i64::from)));
-        let bits = (0b1101_u32 << before).to_le_bytes();
+        let bits = (0b1101_u128 << before).to_le_bytes();
         for column in [Column::binary(&data, &narrow), Column::large_binary(&data, &wide)] {
             let column = column.with_validity(&bits, before as usize).unwrap();
             assert_eq!(results(&column), results(&rows.column()), "behind {before}");
@@ -175,6 +175,10 @@ fn rows_that_are_no_members() {
     for wkb_type in [WkbType::MultiLineString(Dimension::Xy), WkbType::MultiPoint(Dimension::Xyz)] {
         assert_eq!(rows.column().collect(wkb_type, &options), Err(NotCollected::Refused(0, why)));
     }
+    // Collections in one another, as many as may be.
+    let deep = [b"\x01\x07\0\0\0\x01\0\0\0".repeat(127), b"\x01\x07\0\0\0\0\0\0\0".to_vec()].concat();
+    let why = Rows::of([Some(deep)]).unwrap().column().collect(COLLECTION, &options).unwrap_err().to_string();
+    assert_eq!(why, "row 0: a collection is inside 128 others, at byte 1143 (part 127)");
     assert_eq!(NotCollected::TooManyRows.to_string(), "there are more rows than a count of four bytes holds");
 }
 
