@@ -26,8 +26,8 @@ pub struct Column<'a> {
 }
 
 impl<'a> Column<'a> {
-    /// A column with offsets of 32 bits in little endian, as the bytes of Arrow's buffer. There is one more than there
-    /// are rows.
+    /// A column with offsets of 32 bits in little endian, as the bytes of Arrow's buffer, which aren't copied. There is one
+    /// offset more than there are rows. Numbers become such bytes by `to_le_bytes`.
     #[must_use]
     pub fn binary(data: &'a [u8], offsets: &'a [u8]) -> Self {
         Column { data, offsets, offset_size: 4, validity: None }
