@@ -41,7 +41,7 @@ pub use wkb::Endianness;
 /// allocated.
 ///
 /// ```
-/// use porchsorrel_wkb::check::{bounds, check, Cause};
+/// use porchsorrel_wkb::check::{bounds, check};
 ///
 /// // A collection of two points, the second of which is cut off after its x: 13 bytes of 21.
 /// let mut input = b"\x01\x07\0\0\0\x02\0\0\0".to_vec();
