@@ -66,7 +66,7 @@ class Metadata(unittest.TestCase):
         column = pickle.loads(pickle.dumps(Column.from_arrow(told_of(Arrow(rows=[POINT, None])))))
         for it, name in ((column.write(), "geoarrow.wkb"), (column.coordinates(), "geoarrow.point"),
                          (column.coordinates().separated(), "geoarrow.point"), (column.bounds(), "geoarrow.box")):
-            for held in (it, pickle.loads(pickle.dumps(it)), it._replace(statuses=bytes(2))):
+            for held in (it, pickle.loads(pickle.dumps(it)), it._replace(statuses=bytes(it.statuses))):
                 self.assertEqual(metadata_of(held), (name, CRS))
         self.assertEqual(metadata_of(column.write(form=Form.EWKB_WITHOUT_SRID)), ("", b""))
         levels = column_from_coordinates(Kind.POINT, column.coordinates())

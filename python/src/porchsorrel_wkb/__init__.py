@@ -59,7 +59,6 @@ that others write, such as a numpy.memmap, pass a copy, bytes(it).
 
 The library is inside this package: version() is that of its wkb.h. help(wkb.write), and so on, says more of each name.
 """
-# There is no __all__: help(wkb) would list all classes with what they inherit, in thousands of lines.
 from ._calls import bounds as bounds
 from ._calls import check as check
 from ._calls import coordinates as coordinates
@@ -98,3 +97,8 @@ from ._results import ColumnParts as ColumnParts
 from ._results import Facts as Facts
 
 __version__ = "1.0.0"
+
+# Tracebacks, pickles and help name what is public by its place here.
+for _it in [it for it in vars().values() if hasattr(it, "__qualname__")]:
+    _it.__module__ = __name__
+del _it

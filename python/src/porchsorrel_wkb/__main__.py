@@ -13,4 +13,4 @@ if __name__ == "__main__":
     if hasattr(signal, "SIGPIPE"):
         signal.signal(signal.SIGPIPE, signal.SIG_DFL)
     words = [*map(os.fsencode, sys.argv), None]
-    sys.exit(PROGRAM(len(sys.argv), (ctypes.c_char_p * len(words))(*words)))
+    sys.exit(PROGRAM.unlocked(len(sys.argv), (ctypes.c_char_p * len(words))(*words)))

@@ -6,8 +6,7 @@ import struct
 import sys
 from typing import Any, Iterator, NamedTuple, Optional, Protocol, Tuple, Type, TypeVar
 
-from ._buffers import new_memory
-from ._library import POINTER, call_of, python_call
+from ._library import CONTEXT_BY, NEW, POINTER, address_of_function, python_call
 from ._rows import Pieces, object_of, pieces_of
 
 
@@ -23,35 +22,42 @@ class ArrowStream(Protocol):
     def __arrow_c_stream__(self, requested_schema: Any = None) -> Any: ...
 
 
+_new_capsule = python_call("PyCapsule_New", ctypes.py_object, POINTER, POINTER, POINTER)
+_set_context = python_call("PyCapsule_SetContext", ctypes.c_int, ctypes.py_object, POINTER)
 _pointer_of = python_call("PyCapsule_GetPointer", POINTER, ctypes.py_object, ctypes.c_char_p)
 _show = python_call("PyMemoryView_FromMemory", ctypes.py_object, POINTER, ctypes.c_ssize_t, ctypes.c_int)
 _READ_ONLY = 0x100
 _FILL = ctypes.CFUNCTYPE(ctypes.c_int, POINTER, POINTER)
 _TEXT = ctypes.CFUNCTYPE(ctypes.c_char_p, POINTER)
+POINTERS = ctypes.POINTER(POINTER)
 Struct = TypeVar("Struct", bound="_Struct")
+CONTEXT_BY.locked(ctypes.cast(ctypes.pythonapi.PyCapsule_GetContext, POINTER))
 
 
-def _owner(kind: str) -> Any:
-    """Return a class of the addresses of structs, each of which is released with the last reference to the object."""
-    def end(self: int, end: Any = call_of(f"held_end_{kind}", None, POINTER).locked) -> None:
-        end(self)
-
-    return type("Owner", (int,), {"__slots__": (), "__del__": end})  # the collector doesn't know of such objects
+def new_memory(size: int) -> int:
+    """Return where so many bytes of zeros are, of the library's allocator."""
+    found: Optional[int] = NEW.locked(size)
+    if found is None:
+        raise MemoryError
+    return found
 
 
 class _Struct(ctypes.Structure):
     """One of Arrow's structs, whose memory lives by its owner."""
 
     NAME: bytes
-    Owner: Any
+    END: int
     owner: Any = None
 
     @classmethod
     def new(cls: Type[Struct]) -> Struct:
-        """Return a struct of the package's own."""
-        it = cls.from_address(new_memory(ctypes.sizeof(cls)))
-        ctypes.memset(ctypes.addressof(it), 0, ctypes.sizeof(it))
-        it.owner = cls.Owner(ctypes.addressof(it))
+        """Return a struct of zeros in a capsule, which releases it at its end, unless it is so already."""
+        size = ctypes.sizeof(cls)
+        at = new_memory(size + len(cls.NAME) + 1)
+        ctypes.memmove(at + size, cls.NAME, len(cls.NAME))
+        it = cls.from_address(at)
+        it.owner = _new_capsule(at, at + size, cls.END)
+        _set_context(it.owner, at)
         return it
 
     @classmethod
@@ -66,7 +72,7 @@ class _Struct(ctypes.Structure):
         """Return a struct of the package's own, to which that of a capsule is moved."""
         given, it = cls.in_capsule(capsule), cls.new()
         moved = bytes(given)
-        given.release = None
+        given.release = None  # before the other is there, so that no error leaves two that are released
         ctypes.memmove(ctypes.addressof(it), moved, len(moved))
         return it
 
@@ -80,19 +86,19 @@ class _Struct(ctypes.Structure):
         return it
 
 
-_CHILDREN = [("children", ctypes.POINTER(POINTER)), ("dictionary", POINTER), ("release", POINTER), ("data", POINTER)]
+_CHILDREN = [("children", POINTERS), ("dictionary", POINTER), ("release", POINTER), ("private_data", POINTER)]
 
 
 class Schema(_Struct):
     """Arrow's `ArrowSchema`. Of a released one nothing is read but that it is."""
 
-    NAME, Owner = b"arrow_schema", _owner("schema")
-    _fields_ = [("_format", ctypes.c_char_p), ("_name", POINTER), ("_metadata", POINTER), ("flags", ctypes.c_int64),
+    NAME, END = b"arrow_schema", address_of_function("arrow_end_schema")
+    _fields_ = [("_format", POINTER), ("_name", POINTER), ("_metadata", POINTER), ("flags", ctypes.c_int64),
                 ("n_children", ctypes.c_int64), *_CHILDREN]
 
     @property
     def format(self) -> Optional[bytes]:
-        return self._format if self.release else None
+        return ctypes.string_at(self._format) if self.release and self._format else None
 
     def name(self, most: int) -> str:
         """Return the name, of a longer one so many bytes."""
@@ -134,9 +140,9 @@ class Schema(_Struct):
 class Array(_Struct):
     """Arrow's `ArrowArray`."""
 
-    NAME, Owner = b"arrow_array", _owner("array")
+    NAME, END = b"arrow_array", address_of_function("arrow_end_array")
     _fields_ = [*((name, ctypes.c_int64) for name in ("length", "null_count", "offset", "n_buffers", "n_children")),
-                ("buffers", ctypes.POINTER(POINTER)), *_CHILDREN]
+                ("buffers", POINTERS), *_CHILDREN]
 
     def buffer(self, place: int, size: int) -> Optional[memoryview]:
         """Return so many bytes of a buffer, which are there as long as the array lives; None if there is none."""
@@ -147,8 +153,8 @@ class Array(_Struct):
 class Stream(_Struct):
     """Arrow's `ArrowArrayStream`."""
 
-    NAME, Owner = b"arrow_array_stream", _owner("stream")
-    _fields_ = [(name, POINTER) for name in ("get_schema", "get_next", "get_last_error", "release", "data")]
+    NAME, END = b"arrow_array_stream", address_of_function("arrow_end_stream")
+    _fields_ = [(name, POINTER) for name in ("get_schema", "get_next", "get_last_error", "release", "private_data")]
 
 
 # The keys of a type that is an extension of Arrow's. Texts that are longer are not looked at.

@@ -1,11 +1,9 @@
 # SPDX-License-Identifier: MIT OR Apache-2.0
 """Callers' buffers, and memory for results."""
 import array
-import ctypes
-import sys
-from typing import TYPE_CHECKING, Any, Dict, Iterable, List, Optional, Tuple, Union
+from typing import TYPE_CHECKING, Any, Dict, List, Tuple, Union
 
-from ._library import POINTER, SIZE, Call, address_of, call_of
+from ._library import Call, address_of
 
 try:
     import numpy
@@ -35,11 +33,6 @@ else:
 CODES = {"u1": "B", "u4": "I", "i4": "i", "i8": "q", "f8": "d"}
 # An input is long from so many bytes on: the lock is given back during a call over it.
 LONG = 1 << 14
-
-
-_new = call_of("held_new", POINTER, SIZE, SIZE).locked
-_shorten = call_of("held_shorten", POINTER, POINTER, SIZE).locked
-_let = call_of("held_let", None, POINTER).locked
 
 
 def view_of(data: Buffer) -> memoryview:
@@ -87,101 +80,51 @@ class Inputs:
         for view in self._views:
             view.release()
 
-    def view(self, data: Any) -> memoryview:
-        """Return the bytes of a buffer."""
-        view = bytes_in(data)
+    def hold(self, view: memoryview) -> memoryview:
+        """Return a view, which is held too."""
         self._views.append(view)
         self._may_change = self._may_change or not view.readonly
         return view
+
+    def view(self, data: Any) -> memoryview:
+        """Return the bytes of a buffer."""
+        return self.hold(bytes_in(data))
 
     def place(self, data: Any) -> Tuple[int, int]:
         """Return where bytes are, and how many."""
         view = self.view(data)
         return address_of(view), view.nbytes
 
-    def aligned(self, data: Any) -> Tuple[int, int]:
-        """Return where numbers of eight bytes are, and how many bytes: a copy where they are at another place."""
-        at, size = self.place(data)
-        return self.place(bytes(self._views[-1])) if at % 8 else (at, size)
+    def aligned(self, data: Any) -> memoryview:
+        """Return numbers of eight bytes; a copy of their bytes where they are at another place."""
+        view = self.view(data)
+        return self.hold(memoryview(view.tobytes())) if address_of(view) % 8 else view
 
     def choose(self, call: Call, size: int = LONG) -> Any:
         """Return the call that gives the lock back if the input is long, and no other thread may write it."""
-        return call.free if size >= LONG and not self._may_change else call.locked
+        return call.unlocked if size >= LONG and not self._may_change else call.locked
 
 
 def over(call: Call, data: Any, *more: Any) -> Any:
     """Make a call over the bytes of a buffer, which is held meanwhile."""
     if type(data) is bytes:
         size = len(data)
-        return (call.locked if size < LONG else call.free)(data, size, *more)
+        return (call.locked if size < LONG else call.unlocked)(data, size, *more)
     with bytes_in(data) as view:
         size = view.nbytes
-        return (call.free if size >= LONG and view.readonly else call.locked)(address_of(view), size, *more)
-
-
-class Memory(int):
-    """The address of memory of the library's allocator, which is let go with the last reference to this object. It has
-    no other attributes, so that the collector doesn't know of it, and can't let it go before what shows it.
-    """
-
-    __slots__ = ()
-
-    def __del__(self, let: Any = _let) -> None:
-        let(self)
-
-
-def new_memory(size: int, holders: int = 1) -> int:
-    """Return where so many bytes are that nobody lets go yet."""
-    found: Optional[int] = _new(size, holders) if size <= sys.maxsize else None
-    if found is None:
-        raise MemoryError
-    return found
-
-
-def let_go(places: Iterable[int]) -> None:
-    """Let memory go that nobody holds."""
-    for place in places:
-        _let(place)
-
-
-class Block:
-    """Memory that numpy shows as numbers."""
-
-    __slots__ = "memory", "__array_interface__"
-
-    def __init__(self, at: int, kind: str, count: int):
-        self.memory = Memory(at)
-        form = numpy.dtype(kind).str
-        self.__array_interface__ = {"data": (at, False), "shape": (count,), "typestr": form, "version": 3}
+        return (call.unlocked if size >= LONG and view.readonly else call.locked)(address_of(view), size, *more)
 
 
 def new_numbers(kind: str, count: int) -> Numbers:
     """Return an array of `count` numbers of this type of numpy's."""
-    made: Any = array.array(CODES[kind], [0])
-    if not has_numpy:
-        return made * count  # type: ignore[no-any-return]
-    numbers: Numbers = numpy.asarray(Block(new_memory(made.itemsize * count), kind, count))
-    return numbers
-
-
-def numbers_in(room: int, kind: str, count: int) -> Numbers:
-    """Return the numbers at the start of some memory, which is theirs from then on, and give the rest of it back."""
-    made: Any = array.array(CODES[kind])
-    size = count * made.itemsize
-    if has_numpy:
-        numbers: Numbers = numpy.asarray(Block(_shorten(room, size), kind, count))
-        return numbers
-    made.frombytes(ctypes.string_at(room, size))
-    _let(room)
+    made: Any = numpy.empty(count, kind) if has_numpy else array.array(CODES[kind], [0]) * count
     return made  # type: ignore[no-any-return]
 
 
-def numbers_of(kind: str, numbers: Iterable[Any]) -> Numbers:
+def numbers_of(kind: str, numbers: Any) -> Numbers:
     """Return an array of these numbers."""
-    held: Any = numpy.asarray(numbers) if has_numpy else array.array(CODES[kind], numbers)
-    made = new_numbers(kind, len(held))
-    made[:] = held
-    return made
+    made: Any = numpy.array(numbers, kind) if has_numpy else array.array(CODES[kind], numbers)
+    return made  # type: ignore[no-any-return]
 
 
 def new_offsets(count: int) -> Numbers:
@@ -193,9 +136,5 @@ def new_offsets(count: int) -> Numbers:
 
 def less_the_least(offsets: memoryview) -> Tuple[bytes, int]:
     """Return offsets less the least of them, and this one; as they are, and 0, where one is negative."""
-    if has_numpy:
-        numbers = numpy.asarray(offsets)
-        least = max(int(numbers.min()), 0)
-        return (numbers - numbers.dtype.type(least)).tobytes(), least
     least = max(min(offsets), 0)
     return array.array(offsets.format, [offset - least for offset in offsets]).tobytes(), least

@@ -8,16 +8,14 @@ from ._buffers import Buffer, Inputs, Numbers, bytes_in, over, view_of
 from ._enums import Form, Kind, Order, Status, is_refusal, make_options
 from ._errors import Refused, no_such
 from ._library import (
-    BOUNDS, CHECK, DUMP, DUMP_OPTIONS, FAULT, OPTIONS, OTHER, PARTS, PUT, SAME, WRITE, address_of, python_call,
-    status_text,
+    BOUNDS, CHECK, DUMP, OTHER, PARTS, PUT, SAME, WRITE, status_text, wkb_dump_options, wkb_options,
 )
-from ._records import Box, Fault, Found, Part, Table, box_in, found_in, record_in
+from ._records import STRUCTS, Box, Fault, Found, Part, Table, box_in, found_in, record_in
 
 # Results go into memory of this size first: so many bytes of an encoding, or parts.
 SMALL, FEW = 4096, 64
 PART_SIZE = SMALL // FEW
-_Small, _Record, _Fault = ctypes.c_char * SMALL, ctypes.c_char * 96, ctypes.c_char * FAULT.size
-_new_bytes = python_call("PyBytes_FromStringAndSize", ctypes.py_object, ctypes.c_void_p, ctypes.c_ssize_t)
+_Small, _Record, _Fault = ctypes.c_char * SMALL, ctypes.c_char * 96, ctypes.c_char * STRUCTS[Fault].size
 
 
 def _refuse(data: Buffer, which: int = 1) -> NoReturn:
@@ -26,9 +24,16 @@ def _refuse(data: Buffer, which: int = 1) -> NoReturn:
     with Inputs() as inputs:
         at, size = inputs.place(data)
         status = inputs.choose(CHECK, size)(at, size, None, fault)
-        other = OTHER(fault, at, size)
+        other = OTHER.locked(fault, at, size)
     _expect_same(is_refusal(status))
     raise Refused(record_in(Fault, fault), which, status_text(status), other.decode())
+
+
+def fault_of(data: Any) -> Fault:
+    """Return why bytes are rejected, which are."""
+    fault = _Fault()
+    _expect_same(is_refusal(over(CHECK, data, None, fault)))
+    return record_in(Fault, fault)  # type: ignore[no-any-return]
 
 
 def _expect_same(holds: bool) -> None:
@@ -71,17 +76,17 @@ def write(
     form takes one. With the default options, two geometries of one value have the same encoding, whatever their byte
     orders and SRIDs are.
     """
-    options = OPTIONS.pack(*make_options(order, form, srid))
+    options = ctypes.byref(wkb_options(*make_options(order, form, srid)))
     out, size = _Small(), ctypes.c_size_t()
     status = over(WRITE, data, options, out, SMALL, ctypes.byref(size), None)
     if status == Status.OK:
         return out[: size.value]  # type: ignore[return-value]
     if status != Status.NO_ROOM:
         _refuse(data)
-    room, made = size.value, _new_bytes(None, size.value)
-    status = over(WRITE, data, options, address_of(made), room, ctypes.byref(size), None)
+    room, made = size.value, ctypes.create_string_buffer(size.value)
+    status = over(WRITE, data, options, made, room, ctypes.byref(size), None)
     _expect_same(status == Status.OK and size.value == room)
-    return made  # type: ignore[no-any-return]
+    return made.raw
 
 
 def same(first: Buffer, second: Buffer) -> bool:
@@ -104,10 +109,10 @@ def parts(data: Buffer) -> Table[Part]:
         return Table(Part, few[: count.value * PART_SIZE])
     if status != Status.NO_ROOM:
         _refuse(data)
-    room, made = count.value, bytearray(count.value * PART_SIZE)
-    status = over(PARTS, data, address_of(made), room, ctypes.byref(count), None)
+    room, made = count.value, ctypes.create_string_buffer(count.value * PART_SIZE)
+    status = over(PARTS, data, made, room, ctypes.byref(count), None)
     _expect_same(status == Status.OK and count.value == room)
-    return Table(Part, made)
+    return Table(Part, made.raw)
 
 
 def _words_of(data: Buffer, view: memoryview, part: Union[Part, Found]) -> Tuple[int, int]:
@@ -176,7 +181,7 @@ def dump(data: Buffer, items: int = 3, lines: int = 1000) -> str:
         return len(failed)
 
     with Inputs() as inputs:
-        DUMP(*inputs.place(data), DUMP_OPTIONS.pack(items, lines), PUT(take), None, None)
+        DUMP.locked(*inputs.place(data), ctypes.byref(wkb_dump_options(items, lines)), PUT(take), None, None)
     if failed:
         raise failed[0]
     return b"".join(put).decode()

@@ -7,28 +7,25 @@ from typing import Any, Dict, Iterable, Iterator, List, Optional, Tuple
 
 from ._arrow import ArrowArray, ArrowStream, chunks_of_arrow, pieces_of_arrow
 from ._buffers import (
-    Buffer, Inputs, Numbers, has_numpy, less_the_least, let_go, new_memory, new_numbers, new_offsets, numbers_in,
-    view_of,
+    Buffer, Inputs, Numbers, less_the_least, has_numpy, new_numbers, new_offsets, view_of,
 )
+from ._calls import fault_of
 from ._enums import Dimension, Form, Kind, Order, Status, is_refusal, make_options
 from ._errors import Refused
 from ._library import (
-    CHECK, COLLECT, COLUMN_BOUNDS, COLUMN_CHECK, COLUMN_COORDINATES, COLUMN_FOUND, COLUMN_PARTS, COLUMN_STRUCT,
-    COLUMN_WRITE, COORDINATES, OPTIONS, ROWS_FACTS, ROWS_KINDS, Call, address_of,
-    status_text,
+    COLLECT, COLUMN_BOUNDS, COLUMN_CHECK, COLUMN_COORDINATES, COLUMN_FOUND, COLUMN_PARTS, COLUMN_WRITE, Call,
+    address_of, status_text, wkb_column, wkb_coordinates, wkb_options,
 )
-from ._records import STRUCTS, Box, Fault, Found, Part, Table, record_in
-from ._results import ColumnBounds, ColumnCoordinates, ColumnEncodings, ColumnFound, ColumnParts, Facts
+from ._records import STRUCTS, Box, Fault, Found, Part, Table, every, record_in
+from ._results import (
+    ColumnBounds, ColumnCoordinates, ColumnEncodings, ColumnFound, ColumnParts, Facts, box_of_all,
+)
 from ._rows import Pieces, object_of, pieces_of
 
 # The statuses that are none.
 NO_REFUSALS = bytes(it for it in range(256) if not is_refusal(it))
-# The bytes of a word and of an offset.
-WORD_SIZE = 8
 # An encoding may be four bytes longer than its row: an SRID.
 SRID_SIZE = 4
-# The bytes of a coordinate, a ring, and a single, at least.
-LEAST_SIZES = 16, 4, 9
 # What a collection has before its members, at most.
 FRONT_SIZE = 13
 
@@ -210,33 +207,33 @@ class Column:
             object_of(text)
         self._metadata = None if text is None else text.encode()
 
-    def _place(self, inputs: Inputs) -> bytes:
-        """Return the column as the library takes it, while its buffers are held. They may have got shorter since."""
-        end, size = self._first + self._rows, self._offset_size
-        bits = None
+    def _shown(self, inputs: Inputs) -> Tuple[memoryview, memoryview]:
+        """Return the bytes and the offsets of the rows, while their buffers are held. They may have got shorter since.
+        """
+        size, end = self._offset_size, self._first + self._rows
+        offsets = inputs.hold(inputs.view(self._offsets).cast("B"))
+        if end and offsets.nbytes // size < end + 1:
+            raise ValueError(f"{offsets.nbytes // size} offsets are left, too few for {end} rows")
+        places = inputs.hold(offsets[self._first * size : (end + 1) * size] if end else memoryview(bytes(size)))
+        data = inputs.hold(inputs.view(self._data).cast("B"))
+        return data, inputs.hold(places.cast("i" if size == 4 else "q"))
+
+    def _place(self, inputs: Inputs) -> wkb_column:
+        """Return the column as the library takes it, while its buffers are held."""
+        data, offsets = self._shown(inputs)
+        bits, end = None, self._first + self._rows
         if self._validity is not None:
             bits, held = inputs.place(self._validity)
             if held < (end + 7) // 8:
                 raise ValueError(f"{held} bytes of validity hold fewer than {end} bits")
-        data, offsets = inputs.place(self._data), inputs.place(self._offsets)
-        if end and offsets[1] // size < end + 1:
-            raise ValueError(f"{offsets[1] // size} offsets are left, too few for {end} rows")
-        place = offsets[0] + self._first * size
-        return COLUMN_STRUCT.pack(*data, place, size, bits or 0, self._first, self._rows)
+        return wkb_column(address_of(data), data.nbytes, address_of(offsets), self._offset_size, bits, self._first,
+                          self._rows)
 
     def _call(self, call: Call, *more: Any) -> Any:
         """Make a call over the column."""
         with Inputs() as inputs:
             column = self._place(inputs)
-            return inputs.choose(call)(column, *more)
-
-    def _shown(self, inputs: Inputs) -> Tuple[memoryview, memoryview]:
-        """Return the bytes and the offsets of the rows, while their buffers are held."""
-        self._place(inputs)
-        size, view = self._offset_size, inputs.view(self._offsets).cast("B")
-        places = view[self._first * size : (self._first + self._rows + 1) * size]
-        offsets = (places if self._rows else memoryview(bytes(size))).cast("i" if size == 4 else "q")
-        return inputs.view(self._data).cast("B"), offsets
+            return inputs.choose(call)(ctypes.byref(column), *more)
 
     def _room(self) -> int:
         """Return how many bytes the rows have at most. The buffers are tested, as each call tests them."""
@@ -256,16 +253,9 @@ class Column:
         A row that is OK, null, or has bad offsets is not in it.
         """
         statuses = bytes(view_of(self.check()))
-        faults, fault = {}, ctypes.create_string_buffer(STRUCTS[Fault].size)
         with Inputs() as inputs:
             data, offsets = self._shown(inputs)
-            at, size = address_of(data), data.nbytes
-            for i, status in enumerate(statuses):
-                if is_refusal(status):
-                    begin, end = offsets[i : i + 2]
-                    expect_same(0 <= begin <= end <= size and CHECK.locked(at + begin, end - begin, None, fault) >= 32)
-                    faults[i] = record_in(Fault, fault)
-        return faults
+            return {i: fault_of(data[offsets[i] : offsets[i + 1]]) for i, it in enumerate(statuses) if is_refusal(it)}
 
     def bounds(self) -> ColumnBounds:
         """Return the bounds of each row."""
@@ -282,15 +272,15 @@ class Column:
     def facts(self) -> Facts:
         """Return what the rows have together: types and SRIDs that occur, the bounds of all, and how many are there."""
         statuses, found = self.found()
-        types, box = ctypes.c_uint32(), ctypes.create_string_buffer(STRUCTS[Box].size)
-        boxes = self.bounds().boxes._memory
-        count = ROWS_FACTS.free(statuses, self._rows, found._memory, boxes, ctypes.byref(types), box)
         held = bytes(view_of(statuses))
+        # Of a row that is null or rejected all of these are zeros, and no geometry is a ring.
+        rows = {*zip(*(every(found, name) for name in ("kind", "dimension", "has_srid", "srid")))}
+        types = sorted({(dimension, kind) for kind, dimension, _, _ in rows if kind})
+        srids = {srid if has_srid else None for kind, _, has_srid, srid in rows if kind}
         refused = len(held.translate(None, NO_REFUSALS))
-        bits = types.value
-        pairs = [(kind, dimension) for dimension in Dimension for kind in Kind if bits >> 8 * dimension + kind & 1]
-        return Facts(len(held), held.count(Status.OK), held.count(Status.NULL_ROW), refused, pairs,
-                     {it.srid for it in found[:count]}, record_in(Box, box))
+        return Facts(len(held), held.count(Status.OK), held.count(Status.NULL_ROW), refused,
+                     [(Kind(kind), Dimension(dimension)) for dimension, kind in types], srids,
+                     box_of_all(self.bounds().boxes))
 
     def parts(self) -> ColumnParts:
         """Return the parts of each row in preorder."""
@@ -312,40 +302,28 @@ class Column:
         while room < needed:
             room = needed
             data = new_numbers("u1", room)
-            needed = self._call(COLUMN_WRITE, OPTIONS.pack(*options), data, room, *ends)
+            needed = self._call(COLUMN_WRITE, ctypes.byref(wkb_options(*options)), data, room, *ends)
         held = statuses, offsets, data[: offsets[-1]]
         return ColumnEncodings._made(*held, _form=int(options[1]), _metadata=self._metadata)
 
     def coordinates(self, dimension: Dimension = Dimension.XY) -> ColumnCoordinates:
         """Return the coordinates of all rows in this dimension, with a NaN for each number that a geometry lacks."""
         dimension = Dimension(dimension)
+        _, found = self.found()
+        count, parts = sum(every(found, "coordinates")), sum(every(found, "parts"))
+        kinds = {*every(found, "kind")} - {0}
         statuses, row_offsets = new_numbers("u1", self._rows), new_offsets(self._rows)
-        # Room for as much as rows one after another can have, of which nothing is touched that isn't needed.
-        width, room = dimension.width, [self._room() // least for least in LEAST_SIZES]
-        while True:
-            sizes = room[0] * width, room[1] + 1, room[2] + 1
-            places: List[int] = []
-            try:
-                places.extend(new_memory(WORD_SIZE * size) for size in sizes)
-                ends = [place + WORD_SIZE for place in (*places[1:], address_of(row_offsets))]
-                to = places[0], sizes[0], ends[0], room[1], ends[1], room[2], ends[2], 0, 0, 0
-                out = bytearray(COORDINATES.pack(*to))
-                self._call(COLUMN_COORDINATES, dimension, out, statuses)
-            except BaseException:
-                let_go(places)
-                raise
-            found = COORDINATES.unpack(out)[7:]
-            if all(map(operator.le, found, room)):
-                break
-            let_go(places)
-            room = list(found)
-        words = numbers_in(places[0], "f8", found[0] * width)
-        ring_offsets, single_offsets = (numbers_in(places[i], "i8", found[i] + 1) for i in (1, 2))
-        ring_offsets[0] = single_offsets[0] = 0
-        rows = words.reshape(-1, width) if has_numpy else words
-        kinds = self._call(ROWS_KINDS, statuses)
-        known = {"_kinds": kinds, "_dimension": dimension, "_metadata": self._metadata}
-        return ColumnCoordinates._made(statuses, row_offsets, single_offsets, ring_offsets, rows, **known)
+        # A part is at most one single and one ring.
+        words, rings, singles = new_numbers("f8", count * dimension.width), new_offsets(parts), new_offsets(parts)
+        ends = [address_of(view_of(it)[1:]) for it in (rings, singles, row_offsets)]
+        out = wkb_coordinates(address_of(words), len(words), ends[0], parts, ends[1], parts, ends[2])
+        self._call(COLUMN_COORDINATES, dimension, ctypes.byref(out), statuses)
+        expect_same(out.coordinates == count and out.rings <= parts and out.singles <= parts)
+        if has_numpy:
+            words = words.reshape(-1, dimension.width)
+        held = statuses, row_offsets, singles[: out.singles + 1], rings[: out.rings + 1], words
+        kind = Kind(kinds.pop()) if len(kinds) == 1 else None
+        return ColumnCoordinates._made(*held, _kind=kind, _dimension=dimension, _metadata=self._metadata)
 
 
 def collect(
@@ -368,7 +346,7 @@ def collect(
     while status == Status.NO_ROOM:
         data = new_numbers("u1", size.value)
         results = data, size.value, ctypes.byref(size), fault, ctypes.byref(row)
-        status = column._call(COLLECT, kind, dimension, OPTIONS.pack(*options), *results)
+        status = column._call(COLLECT, kind, dimension, ctypes.byref(wkb_options(*options)), *results)
     if status == Status.OK:
         return bytes(view_of(data)[: size.value])
     text = status_text(status)

@@ -63,10 +63,6 @@ def _less(offsets: memoryview, least: int) -> Buffer:
     """Return offsets of 64 bits: these less the first of them."""
     if least == 0 and offsets.itemsize == WORD_SIZE:
         return offsets
-    if has_numpy:
-        import numpy
-
-        return numpy.asarray(offsets).astype("i8") - least
     return array.array("q", (it - least for it in offsets))
 
 

@@ -2,9 +2,11 @@
 """What GeoParquet says of a column of geometries."""
 from typing import Any, Dict, List, NamedTuple, Optional
 
+from ._buffers import Inputs
+from ._calls import parts
 from ._columns import Column
-from ._enums import Dimension, Kind, Status
-from ._library import ROWS_NOT_ISO, status_text
+from ._enums import Dimension, Kind, Order, Status
+from ._library import status_text
 from ._results import ColumnBounds, Facts
 from ._rows import object_of
 
@@ -65,8 +67,7 @@ def geoparquet(column: Column, name: str = "geometry", covering: Optional[str] =
 
 def _expect_rows(column: Column, facts: Facts) -> None:
     """Raise an error for the first row that GeoParquet can't have."""
-    statuses, offsets, table = column.parts()
-    for i, status in enumerate(bytes(statuses) if facts.accepted + facts.nulls < facts.rows else b""):
+    for i, status in enumerate(bytes(column.check()) if facts.accepted + facts.nulls < facts.rows else b""):
         if status not in (Status.OK, Status.NULL_ROW):
             raise ValueError(f"row {i} is rejected: {column.faults().get(i) or status_text(status)}")
     for i, found in enumerate(column.found().found if facts.srids - {None} else ()):
@@ -75,9 +76,20 @@ def _expect_rows(column: Column, facts: Facts) -> None:
     for kind, dimension in facts.types:
         if dimension not in SIGNS:
             raise ValueError(f"a {kind.name} is {dimension.name}, and GeoParquet {VERSION} has no m")
-    row = column._call(ROWS_NOT_ISO, statuses, offsets, table._memory)
-    if row < len(column):
-        raise ValueError(f"row {row} is EWKB, or has bytes behind its geometry: {WAY_OUT}")
+    with Inputs() as inputs:
+        data, offsets = column._shown(inputs)
+        for i, written in enumerate(column.write().rows):
+            row = b"" if written is None else bytes(data[offsets[i] : offsets[i + 1]])
+            if written is not None and row != written and not _is_iso(row):
+                raise ValueError(f"row {i} is EWKB, or has bytes behind its geometry: {WAY_OUT}")
+
+
+def _is_iso(row: bytes) -> bool:
+    """Return whether nothing is behind a geometry, and no code in it has a flag of EWKB."""
+    table = parts(row)
+    return table[0].end == len(row) and all(
+        row[it.begin + (4 if it.order == Order.LITTLE else 1)] == 0 for it in table if it.kind != Kind.RING
+    )
 
 
 def _crs_of(text: Optional[str]) -> Dict[str, Any]:

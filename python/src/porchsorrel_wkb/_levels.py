@@ -1,16 +1,15 @@
 # SPDX-License-Identifier: MIT OR Apache-2.0
 """Rows that are written from coordinates in levels."""
-import array
 import ctypes
 import operator
-from typing import Optional, Tuple, Union
+from typing import List, Optional, Tuple, Union
 
 from ._arrow import ArrowArray
-from ._buffers import Buffer, Inputs, has_numpy, new_numbers, new_offsets, view_of
+from ._buffers import Buffer, Inputs, new_numbers, new_offsets, numbers_of, view_of
 from ._columns import check_validity, code_of, expect_same, size_of_offsets
 from ._enums import Dimension, Form, Kind, Order, make_options
 from ._geoarrow import Levels, levels_of_arrow
-from ._library import COLUMN_FROM_COORDINATES, LEVELS, OPTIONS
+from ._library import COLUMN_FROM_COORDINATES, address_of, wkb_levels, wkb_options
 from ._results import ColumnEncodings
 
 # The bytes of a word, and of an end as the library takes it.
@@ -20,10 +19,7 @@ WORD_SIZE = 8
 def _wide(offsets: Buffer) -> Buffer:
     """Return offsets of 32 bits as ones of 64 bits."""
     with view_of(offsets) as view:
-        narrow = memoryview(view.tobytes()).cast("i")
-    wide = new_numbers("i8", len(narrow))
-    wide[:] = narrow if has_numpy else array.array("q", narrow)
-    return wide
+        return numbers_of("i8", memoryview(view.tobytes()).cast("i"))
 
 
 def _level(offsets: Optional[Buffer], offset_size: Optional[int]) -> Optional[Buffer]:
@@ -69,33 +65,34 @@ def _write(kind: Kind, options: Tuple[int, int, int], it: Levels) -> ColumnEncod
     ends = view_of(offsets)[1:], statuses
     with Inputs() as inputs:
         levels, call = _place(inputs, it, rows), inputs.choose(COLUMN_FROM_COORDINATES)
-        size = call(levels, kind, it.dimension, OPTIONS.pack(*options), None, 0, *ends)
+        given = ctypes.byref(levels), kind, it.dimension, ctypes.byref(wkb_options(*options))
+        size = call(*given, None, 0, *ends)
         data = new_numbers("u1", size)
-        again = call(levels, kind, it.dimension, OPTIONS.pack(*options), data, size, *ends)
+        again = call(*given, data, size, *ends)
     expect_same(again == size)
     return ColumnEncodings._made(statuses, offsets, data, _form=int(options[1]), _metadata=it.metadata)
 
 
-def _place(inputs: Inputs, it: Levels, rows: int) -> bytes:
+def _place(inputs: Inputs, it: Levels, rows: int) -> wkb_levels:
     """Return levels as the library takes them, while their buffers are held. They may have got shorter since."""
-    at, size = inputs.aligned(it.coordinates)
-    packed, below = [at, size // WORD_SIZE], size // WORD_SIZE // it.dimension.width
+    words = inputs.aligned(it.coordinates)
+    count = words.nbytes // WORD_SIZE
+    below = count // it.dimension.width
+    placed: List[Optional[int]] = [address_of(words), count]
     for offsets in it.offsets:
-        place = 0
+        ends = None
         if offsets is not None:
-            place, size = inputs.aligned(offsets)
-            below = max(size // WORD_SIZE - 1, 0)
-            first = ctypes.c_int64.from_address(place).value if size >= WORD_SIZE else 0
-            if first != 0:
-                raise ValueError(f"the offsets of a level begin with 0, and not with {first}")
-            place = place + WORD_SIZE if below else 0
-        packed += place, below
+            numbers = inputs.hold(inputs.hold(inputs.aligned(offsets).cast("B")).cast("q"))
+            if len(numbers) and numbers[0] != 0:
+                raise ValueError(f"the offsets of a level begin with 0, and not with {numbers[0]}")
+            ends, below = address_of(inputs.hold(numbers[1:])), max(len(numbers) - 1, 0)
+        placed += ends, below
     if below != rows:
         raise ValueError(f"{below} rows are left of {rows}")
-    bits, size = (0, 0) if it.validity is None else inputs.place(it.validity)
+    bits, size = (None, 0) if it.validity is None else inputs.place(it.validity)
     if it.validity is not None and 8 * size < it.first + rows:
         raise ValueError(f"{size} bytes of validity hold fewer than {it.first + rows} bits")
-    return LEVELS.pack(*packed, bits, it.first)
+    return wkb_levels(*placed, bits, it.first)
 
 
 def column_from_coordinates(

@@ -1,40 +1,58 @@
 # SPDX-License-Identifier: MIT OR Apache-2.0
-"""The library, a shared object beside this file, and functions of Python's own C interface."""
+"""The library, a shared object beside this file, its structs and functions, and functions of Python's own C interface.
+"""
 import ctypes
 import operator
 import pathlib
-import struct
-from typing import Any, NamedTuple, Tuple
+import sys
+from typing import Any, Tuple
 
-_LIBRARY = ctypes.CDLL(str(pathlib.Path(__file__).with_name("libwkb.so")))
-# A pointer is an address, None, or an object whose bytes are passed; structs that go in are packed in bytes.
+_NAME = {"win32": "libwkb.dll", "darwin": "libwkb.dylib"}.get(sys.platform, "libwkb.so")
+_PATH = str(pathlib.Path(__file__).with_name(_NAME))
+# The library twice: calls by the first keep the interpreter's lock, and calls by the second give it back.
+_LOCKED, _UNLOCKED = ctypes.PyDLL(_PATH), ctypes.CDLL(_PATH)
+# A pointer is an address, None, a reference to a struct, or bytes.
 POINTER, SIZE, NUMBER = ctypes.c_void_p, ctypes.c_size_t, ctypes.c_uint32
-BYTES, COLUMN = (POINTER, SIZE), POINTER
+WORD = ctypes.c_uint64
 
 
-class Call(NamedTuple):
+class wkb_options(ctypes.Structure):
+    _fields_ = [("order", NUMBER), ("form", NUMBER), ("srid", NUMBER)]
+
+
+class wkb_column(ctypes.Structure):
+    _fields_ = [("data", POINTER), ("size", SIZE), ("offsets", POINTER), ("offset_size", SIZE), ("validity", POINTER),
+                ("validity_offset", SIZE), ("rows", SIZE)]
+
+
+class wkb_coordinates(ctypes.Structure):
+    _fields_ = [("words", POINTER), ("words_room", SIZE), ("ring_ends", POINTER), ("ring_room", SIZE),
+                ("single_ends", POINTER), ("single_room", SIZE), ("row_ends", POINTER), ("coordinates", WORD),
+                ("rings", WORD), ("singles", WORD)]
+
+
+class wkb_levels(ctypes.Structure):
+    _fields_ = [("words", POINTER), ("word_count", SIZE), ("ring_ends", POINTER), ("rings", SIZE),
+                ("single_ends", POINTER), ("singles", SIZE), ("row_ends", POINTER), ("rows", SIZE),
+                ("validity", POINTER), ("validity_offset", SIZE)]
+
+
+class wkb_dump_options(ctypes.Structure):
+    _fields_ = [("items", NUMBER), ("lines", WORD)]
+
+
+class Call:
     """A function of the library: called with the interpreter's lock held, and without it."""
 
-    locked: Any
-    free: Any
-
-
-def call_of(name: str, result: Any, *arguments: Any) -> Call:
-    """Return a function of the library. Its types are this package's own, whoever else loads the library."""
-    locked, free = ctypes.PYFUNCTYPE(result, *arguments), ctypes.CFUNCTYPE(result, *arguments)
-    return Call(locked((name, _LIBRARY)), free((name, _LIBRARY)))
+    def __init__(self, name: str, result: Any, *arguments: Any):
+        self.locked, self.unlocked = getattr(_LOCKED, name), getattr(_UNLOCKED, name)
+        for it in (self.locked, self.unlocked):
+            it.restype, it.argtypes = result, arguments
 
 
 def python_call(name: str, result: Any, *arguments: Any) -> Any:
     """Return a function of Python's own. The types of those in ctypes.pythonapi belong to all packages."""
     return ctypes.PYFUNCTYPE(result, *arguments)((name, ctypes.pythonapi))
-
-
-def address(name: str) -> int:
-    """Return where a function of the library is."""
-    found = ctypes.cast(getattr(_LIBRARY, name), POINTER).value
-    assert found is not None
-    return found
 
 
 class _PyBuffer(ctypes.Structure):
@@ -65,45 +83,48 @@ class SHOWN:
         return POINTER(None if it is None else address_of(it))
 
 
-CHECK = call_of("wkb_check", NUMBER, *BYTES, POINTER, POINTER)
-BOUNDS = call_of("wkb_bounds", NUMBER, *BYTES, POINTER, POINTER)
-WRITE = call_of("wkb_write", NUMBER, *BYTES, POINTER, POINTER, SIZE, POINTER, POINTER)
-SAME = call_of("wkb_same", NUMBER, *BYTES, *BYTES, POINTER, POINTER, POINTER)
-PARTS = call_of("wkb_parts", NUMBER, *BYTES, POINTER, SIZE, POINTER, POINTER)
-COLUMN_CHECK = call_of("wkb_column_check", None, COLUMN, SHOWN)
-COLUMN_BOUNDS = call_of("wkb_column_bounds", None, COLUMN, SHOWN, SHOWN)
-COLUMN_FOUND = call_of("wkb_column_found", None, COLUMN, SHOWN, SHOWN)
-COLUMN_PARTS = call_of("wkb_column_parts", SIZE, COLUMN, SHOWN, SIZE, SHOWN, SHOWN)
-COLUMN_WRITE = call_of("wkb_column_write", SIZE, COLUMN, POINTER, SHOWN, SIZE, SHOWN, SHOWN)
-COLLECT = call_of("wkb_collect", NUMBER, COLUMN, NUMBER, NUMBER, POINTER, SHOWN, SIZE, POINTER, POINTER, POINTER)
-COLUMN_COORDINATES = call_of("wkb_column_coordinates", None, COLUMN, NUMBER, SHOWN, SHOWN)
-COLUMN_FROM_COORDINATES = call_of("wkb_column_from_coordinates", SIZE, COLUMN, NUMBER, NUMBER, POINTER, SHOWN, SIZE,
-                                  SHOWN, SHOWN)
-# Those of rows.c and held.c, which only this package has.
-ROWS_KINDS = call_of("rows_kinds", NUMBER, COLUMN, SHOWN)
-ROWS_FACTS = call_of("rows_facts", SIZE, SHOWN, SIZE, SHOWN, SHOWN, POINTER, POINTER)
-ROWS_NOT_ISO = call_of("rows_not_iso", SIZE, COLUMN, SHOWN, SHOWN, SHOWN)
-_STATUS_TEXT = call_of("wkb_status_text", ctypes.c_char_p, NUMBER).locked
-FAULT_TEXT = call_of("wkb_fault_text", SIZE, POINTER, POINTER, SIZE).locked
+CHECK = Call("wkb_check", NUMBER, POINTER, SIZE, POINTER, POINTER)
+BOUNDS = Call("wkb_bounds", NUMBER, POINTER, SIZE, POINTER, POINTER)
+WRITE = Call("wkb_write", NUMBER, POINTER, SIZE, POINTER, POINTER, SIZE, POINTER, POINTER)
+SAME = Call("wkb_same", NUMBER, POINTER, SIZE, POINTER, SIZE, POINTER, POINTER, POINTER)
+PARTS = Call("wkb_parts", NUMBER, POINTER, SIZE, POINTER, SIZE, POINTER, POINTER)
+COLUMN_CHECK = Call("wkb_column_check", None, POINTER, SHOWN)
+COLUMN_BOUNDS = Call("wkb_column_bounds", None, POINTER, SHOWN, SHOWN)
+COLUMN_FOUND = Call("wkb_column_found", None, POINTER, SHOWN, SHOWN)
+COLUMN_PARTS = Call("wkb_column_parts", SIZE, POINTER, SHOWN, SIZE, SHOWN, SHOWN)
+COLUMN_WRITE = Call("wkb_column_write", SIZE, POINTER, POINTER, SHOWN, SIZE, SHOWN, SHOWN)
+COLLECT = Call("wkb_collect", NUMBER, POINTER, NUMBER, NUMBER, POINTER, SHOWN, SIZE, POINTER, POINTER, POINTER)
+COLUMN_COORDINATES = Call("wkb_column_coordinates", None, POINTER, NUMBER, POINTER, SHOWN)
+COLUMN_FROM_COORDINATES = Call("wkb_column_from_coordinates", SIZE, POINTER, NUMBER, NUMBER, POINTER, SHOWN, SIZE,
+                               SHOWN, SHOWN)
+STATUS_TEXT = Call("wkb_status_text", ctypes.c_char_p, NUMBER)
+FAULT_TEXT = Call("wkb_fault_text", SIZE, POINTER, POINTER, SIZE)
+VERSION = Call("wkb_version", ctypes.c_uint)
+# Those of wkb_dump.h, of its program, and of arrow.c.
 PUT = ctypes.PYFUNCTYPE(ctypes.c_int, POINTER, POINTER, SIZE)
-DUMP = call_of("wkb_dump", ctypes.c_int, *BYTES, POINTER, PUT, POINTER, POINTER).locked
-OTHER = call_of("wkb_dump_other", ctypes.c_char_p, POINTER, *BYTES).locked
-PROGRAM = call_of("wkb_dump_program", ctypes.c_int, ctypes.c_int, POINTER).free
-_VERSION = call_of("wkb_version", ctypes.c_uint).locked
-# How structs that go in are packed.
-OPTIONS, FAULT, DUMP_OPTIONS = struct.Struct("=3I"), struct.Struct("=4Q2I"), struct.Struct("=IxxxxQ")
-COLUMN_STRUCT, COORDINATES, LEVELS = struct.Struct("=7Q"), struct.Struct("=10Q"), struct.Struct("=10Q")
+DUMP = Call("wkb_dump", ctypes.c_int, POINTER, SIZE, POINTER, PUT, POINTER, POINTER)
+OTHER = Call("wkb_dump_other", ctypes.c_char_p, POINTER, POINTER, SIZE)
+PROGRAM = Call("wkb_dump_program", ctypes.c_int, ctypes.c_int, POINTER)
+NEW = Call("arrow_new", POINTER, SIZE)
+CONTEXT_BY = Call("arrow_context_by", None, POINTER)
 # The capacity that the text of a fault fits in.
 TEXT_ROOM = 256
 
 
+def address_of_function(name: str) -> int:
+    """Return where a function of the library is."""
+    found = ctypes.cast(getattr(_LOCKED, name), POINTER).value
+    assert found is not None
+    return found
+
+
 def version() -> Tuple[int, int, int]:
     """Return the version of wkb.h that the library has."""
-    number = _VERSION()
+    number = VERSION.locked()
     return number // 1000000, number // 1000 % 1000, number % 1000
 
 
 def status_text(status: int) -> str:
     """Return what a status says, in one line."""
-    text: bytes = _STATUS_TEXT(operator.index(status))
+    text: bytes = STATUS_TEXT.locked(operator.index(status))
     return text.decode()

@@ -3,12 +3,13 @@
 import ctypes
 import enum
 import html
+import itertools
 import struct
 from functools import partial
 from typing import Any, Dict, Iterator, List, NamedTuple, Optional, Sequence, Tuple, Type, TypeVar, Union, overload
 
 from ._enums import Dimension, Kind, Order, Status
-from ._library import FAULT, FAULT_TEXT, TEXT_ROOM
+from ._library import FAULT_TEXT, TEXT_ROOM
 
 
 class Found(NamedTuple):
@@ -56,7 +57,7 @@ class Fault(NamedTuple):
 
     def __str__(self) -> str:
         text = ctypes.create_string_buffer(TEXT_ROOM)
-        FAULT_TEXT(FAULT.pack(*self), text, TEXT_ROOM)
+        FAULT_TEXT.locked(STRUCTS[Fault].pack(*self), text, TEXT_ROOM)
         return text.value.decode()
 
 
@@ -131,9 +132,17 @@ FIELDS: Dict[Any, Fields] = {
     Part: fields("i8", "begin end offset count next") + TYPE,
     Box: [(axis, RANGE) for axis in "xyzm"],
 }
-# The same of struct, and what is made of the numbers in one.
-_GEOMETRY, _BOX = struct.Struct("=5Q6I"), struct.Struct("=" + 4 * "2dQ")
-STRUCTS: Dict[Any, struct.Struct] = {Found: _GEOMETRY, Fault: FAULT, Part: _GEOMETRY, Box: _BOX}
+# Numbers as struct has them.
+CODES = {"i8": "Q", "u4": "I", "f8": "d"}
+
+
+def codes_of(kind: Any) -> str:
+    """Return the codes of a field's numbers, or of those of many fields."""
+    return CODES[kind] if isinstance(kind, str) else "".join(codes_of(it) for _, it in kind)
+
+
+STRUCTS: Dict[Any, struct.Struct] = {record: struct.Struct("=" + codes_of(known)) for record, known in FIELDS.items()}
+_GEOMETRY, _BOX = STRUCTS[Found], STRUCTS[Box]
 _new: Any = tuple.__new__  # of a named tuple, without a call of its own
 _KINDS, _DIMENSIONS, _ORDERS = tuple(Kind), tuple(Dimension), tuple(Order)
 
@@ -256,3 +265,16 @@ class Table(Sequence[Record]):
         )
         more = f"<p>{len(self)} rows, of which these are the first {SHOWN}</p>" if len(self) > SHOWN else ""
         return f"<table><thead><tr>{head}</tr></thead><tbody>{rows}</tbody></table>{more}"
+
+
+def every(table: Table[Any], *names: str) -> List[Any]:
+    """Return a number of each record: that of a field, or of a range and the field in it."""
+    kind: Any = FIELDS[table._record]
+    place = 0
+    for name in names:
+        before = list(itertools.takewhile(lambda it: it[0] != name, kind))
+        place, kind = place + struct.calcsize("=" + codes_of(before)), kind[len(before)][1]
+    size, step = struct.calcsize(CODES[kind]), STRUCTS[table._record].size
+    words = memoryview(table._memory).cast("B")[: len(table) * step].cast(CODES[kind])
+    numbers: List[Any] = words[place // size :: step // size].tolist()
+    return numbers

@@ -10,13 +10,12 @@ from typing import (
     Any, Iterable, Iterator, List, NamedTuple, Optional, Sequence, Set, Tuple, Type, TypeVar, Union, overload,
 )
 
-from ._buffers import Numbers, new_numbers, view_of
+from ._buffers import Numbers, new_numbers, numbers_of, view_of
 from ._enums import Dimension, Form, Kind
 from ._export import (
-    LISTS, NARROW, NULLABLE, boxes_of, coordinates_of, exported, metadata_of, narrow, records, through, validity_of,
-    wanted, wanted_inside,
+    LISTS, NARROW, Node, coordinates_of, exported, leaf, metadata_of, narrow, of_rows, through, wanted, wanted_inside,
 )
-from ._records import Box, Found, Part, Range, Table
+from ._records import STRUCTS, Box, Found, Part, Range, Table, every
 
 # Rows become bytes so many at a time.
 SOME = 4096
@@ -77,10 +76,11 @@ class ColumnBounds(_Result, _Bounds):  # type: ignore[misc]
 
     def __arrow_c_array__(self, requested_schema: Any = None) -> Tuple[Any, Any]:
         """Return the boxes as an array of Arrow."""
-        bits, nulls = validity_of(self.statuses)
         metadata = metadata_of("geoarrow.box", self._metadata)
-        boxes = boxes_of(memoryview(self.boxes._memory))
-        return exported(records(b"", metadata, len(self.statuses), nulls, bits, boxes))
+        axes = [axis for axis in "xyzm" if axis in "xy" or any(every(self.boxes, axis, "count"))]
+        ends = [leaf(axis + end, view_of(numbers_of("f8", every(self.boxes, axis, name))))
+                for end, name in (("min", "least"), ("max", "greatest")) for axis in axes]
+        return exported(of_rows(self.statuses, b"+s", metadata, children=tuple(ends)))
 
 
 class _Found(NamedTuple):
@@ -122,22 +122,34 @@ class Facts(NamedTuple):
         held = list(several)
         types = sorted({it for facts in held for it in facts.types}, key=lambda it: (it[1], it[0]))
         srids = {it for facts in held for it in facts.srids}
-        ranges = (_joined([getattr(facts.box, axis) for facts in held]) for axis in "xyzm")
         names = "rows", "accepted", "nulls", "refused"
         rows, accepted, nulls, refused = (sum(getattr(it, name) for it in held) for name in names)
-        return cls(rows, accepted, nulls, refused, types, srids, Box(*ranges))
+        packed = b"".join(STRUCTS[Box].pack(*(number for part in it.box for number in part)) for it in held)
+        return cls(rows, accepted, nulls, refused, types, srids, box_of_all(Table(Box, packed)))
 
 
-def _joined(ranges: List[Range]) -> Range:
-    """Return the range of all numbers that are in these ranges; -0 is below +0."""
-    least = min((it.least for it in ranges), default=math.inf, key=_signed)
-    greatest = max((it.greatest for it in ranges), default=-math.inf, key=_signed)
-    return Range(least, greatest, sum(it.count for it in ranges))
+def box_of_all(boxes: Table[Box]) -> Box:
+    """Return the box around all of these."""
+    return Box(*(_range_of_all(boxes, axis) for axis in "xyzm"))
 
 
-def _signed(number: float) -> Tuple[float, float]:
-    """Return a number and its sign, which sort -0 below +0."""
-    return number, math.copysign(1, number)
+def _range_of_all(boxes: Table[Box], axis: str) -> Range:
+    """Return the range of all numbers of an axis; -0 is below +0."""
+    count = sum(every(boxes, axis, "count"))
+    if not count:
+        return Range(math.inf, -math.inf, 0)
+    least, greatest = every(boxes, axis, "least"), every(boxes, axis, "greatest")
+    first, last = min(least), max(greatest)
+    if first == 0 and -(2**63) in _bits_of(least):
+        first = -0.0
+    if last == 0 and 0 in _bits_of(greatest):
+        last = 0.0
+    return Range(first, last, count)
+
+
+def _bits_of(numbers: List[float]) -> Any:
+    """Return the bits of numbers, as integers: those of +0 are 0, and of -0 the sign alone."""
+    return array.array("q", array.array("d", numbers).tobytes())
 
 
 class _Parts(NamedTuple):
@@ -205,9 +217,9 @@ class _Encodings(NamedTuple):
 class ColumnEncodings(_Result, _Encodings):  # type: ignore[misc]
     """The encodings of all rows, that of row i from offsets[i] up to offsets[i + 1]; none if the row is rejected.
 
-    `rows` is a sequence of them. Arrow's packages take this object as an array of large binary without a copy, or of
-    binary where they ask for that and it fits, in which a row without an encoding is null. It is one of type
-    geoarrow.wkb where the form is ISO, with the metadata of the column.
+    `rows` is a sequence of them. Arrow's packages take a copy of this object as an array of large binary, or of binary
+    where they ask for that and it fits, in which a row without an encoding is null. It is one of type geoarrow.wkb
+    where the form is ISO, with the metadata of the column.
 
     :ivar statuses: a `Status` for each row
     :ivar offsets: in bytes; one more than there are rows
@@ -223,12 +235,10 @@ class ColumnEncodings(_Result, _Encodings):  # type: ignore[misc]
 
     def __arrow_c_array__(self, requested_schema: Any = None) -> Tuple[Any, Any]:
         """Return the rows as an array of Arrow."""
-        bits, nulls = validity_of(self.statuses)
         is_narrow = wanted(requested_schema) == b"z" and self.offsets[-1] < NARROW
-        offsets = narrow(self.offsets) if is_narrow else view_of(self.offsets)
+        form, offsets = (b"z", narrow(self.offsets)) if is_narrow else (b"Z", view_of(self.offsets))
         metadata = metadata_of("geoarrow.wkb" if self._form == Form.ISO else None, self._metadata)
-        views = bits, offsets, view_of(self.data)
-        return exported((b"z" if is_narrow else b"Z", b"", metadata, NULLABLE, len(self.statuses), nulls, views, ()))
+        return exported(of_rows(self.statuses, form, metadata, offsets, view_of(self.data)))
 
 
 class _Coordinates(NamedTuple):
@@ -265,7 +275,7 @@ class ColumnCoordinates(_Result, _Coordinates):  # type: ignore[misc]
     :ivar coordinates: a numpy array with a row for each; without numpy one number after another
     """
 
-    _kinds = 0
+    _kind: Optional[Kind] = None
     _dimension = Dimension.XY
     _is_separated = False
 
@@ -277,26 +287,24 @@ class ColumnCoordinates(_Result, _Coordinates):  # type: ignore[misc]
 
     def __arrow_c_array__(self, requested_schema: Any = None) -> Tuple[Any, Any]:
         """Return the rows as an array of Arrow."""
-        bits, nulls = validity_of(self.statuses)
-        kind = next((it for it in Kind if self._kinds == 1 << it and it in (Kind.POINT, *LISTS)), None)
+        kind = self._kind if self._kind in (Kind.POINT, *LISTS) else None
         extension = None if kind is None else f"geoarrow.{kind.name.lower().replace('_', '')}"
         metadata = metadata_of(extension, self._metadata)
         is_separated = self._is_separated or wanted_inside(requested_schema) == b"+s"
         if kind == Kind.POINT:
-            words = self._one_for_each_row() if nulls else self.coordinates
-            return exported(coordinates_of(words, self._dimension, is_separated, b"", metadata, nulls, bits))
+            words = self._one_for_each_row() if any(self.statuses) else self.coordinates
+            form, leaves, _ = coordinates_of(words, self._dimension, is_separated)
+            return exported(of_rows(self.statuses, form, metadata, children=leaves))
         lists = LISTS[kind or Kind.MULTI_POLYGON]
         is_wide = wanted(requested_schema) == b"+L" or max(it[-1] for it in self[1:4]) >= NARROW
-        node = coordinates_of(self.coordinates, self._dimension, is_separated, lists[-1][0])
+        form, leaves, count = coordinates_of(self.coordinates, self._dimension, is_separated)
+        node = Node(form, lists[-1][0], count, (None,), leaves)
         for depth in reversed(range(len(lists))):
             offsets = functools.reduce(through, (self[level] for level in lists[depth][1]))
             form, held = (b"+L", view_of(offsets)) if is_wide else (b"+l", narrow(offsets))
-            count = len(offsets) - 1
             if depth:
-                node = form, lists[depth - 1][0], None, 0, count, 0, (None, held), (node,)
-            else:
-                node = form, b"", metadata, NULLABLE, count, nulls, (bits, held), (node,)
-        return exported(node)
+                node = Node(form, lists[depth - 1][0], len(offsets) - 1, (None, held), (node,))
+        return exported(of_rows(self.statuses, form, metadata, held, children=(node,)))
 
     def _one_for_each_row(self) -> Numbers:
         """Return the coordinates of points, with NaNs for rows that have none: lists of one size have no gaps."""

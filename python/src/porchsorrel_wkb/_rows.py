@@ -1,12 +1,13 @@
 # SPDX-License-Identifier: MIT OR Apache-2.0
 """Columns of rows that aren't in one piece."""
+import array
 import io
 import itertools
 import json
-import struct
 from typing import Any, Dict, Iterable, List, NamedTuple, Optional, Tuple
 
-from ._buffers import Buffer, has_numpy, view_of
+from ._buffers import Buffer, view_of
+
 
 class Pieces(NamedTuple):
     """What a column is made of."""
@@ -69,19 +70,10 @@ def _joined(rows: List[Any]) -> Tuple[bytes, bytes]:
     long as its bytes."""
     out = io.BytesIO()
     out.writelines(rows)  # in a fifth of the time of bytes.join, which takes 80 bytes for each
-    data = out.getvalue()
-    if has_numpy:
-        import numpy
-
-        offsets = numpy.zeros(len(rows) + 1, "i8")
-        numpy.cumsum(numpy.frombuffer(struct.pack(f"={len(rows)}q", *map(len, rows)), "i8"), out=offsets[1:])
-        end, packed = int(offsets[-1]), offsets.tobytes()
-    else:
-        packed = struct.pack(f"={len(rows) + 1}q", *itertools.accumulate(map(len, rows), initial=0))
-        (end,) = struct.unpack("=q", packed[-8:])
-    if end != len(data):
+    data, ends = out.getvalue(), list(itertools.accumulate(map(len, rows), initial=0))
+    if ends[-1] != len(data):
         raise TypeError
-    return data, packed
+    return data, array.array("q", ends).tobytes()
 
 
 def object_of(metadata: str) -> Dict[str, Any]:
