@@ -21,7 +21,7 @@ except ImportError:
     from wheel.bdist_wheel import bdist_wheel
 
 HERE = pathlib.Path(__file__).resolve().parent
-# The processors by their numbers in the head of an ELF file.
+# Linux's processors by their numbers in the head of an ELF file.
 MACHINES = {62: "x86_64", 183: "aarch64"}
 # The tags of wheels by the C library that ours asks for: manylinux_2_17 is any Linux with glibc 2.17 or later,
 # musllinux_1_1 any with musl 1.1 or later.
@@ -46,11 +46,16 @@ def of_any_linux(library, machine):
 
 def platform(library, own):
     """The tag of the systems that the library runs on; that of this system is `own`."""
-    with open(library, "rb") as built, open(sys.executable, "rb") as python:
-        head, head_here = built.read(20), python.read(20)
-    machine = MACHINES.get(struct.unpack("<18xH", head)[0]) if head.startswith(b"\x7fELF") else None
-    tag = of_any_linux(library, machine) if machine else None
-    if tag is None and (head[:8], head[18:]) != (head_here[:8], head_here[18:]):
+    head, here = (pathlib.Path(it).read_bytes()[:4096] for it in (library, sys.executable))
+    if head.startswith(b"MZ"):
+        begin, = struct.unpack_from("<I", head, 60)
+        tag = "win_amd64" if head[begin : begin + 6] == b"PE\0\0\x64\x86" else None
+    elif head.startswith(b"\xcf\xfa\xed\xfe\x0c\0\0\1"):
+        tag = "macosx_11_0_arm64"
+    else:
+        machine = MACHINES.get(struct.unpack_from("<18xH", head)[0]) if head.startswith(b"\x7fELF") else None
+        tag = of_any_linux(library, machine) if machine else None
+    if tag is None and (head[:8], head[18:20]) != (here[:8], here[18:20]):
         raise SystemExit(f"{library} is for another system, and makes no wheel here")
     return tag or own
 
@@ -65,7 +70,7 @@ class Build(build_py):
         if not library:
             own = [f"BUILD={build}", f"PACKAGE={HERE}"]
             subprocess.run(["make", "-s", "-C", os.fspath(native), *own, "inside"], check=True)
-            library = build / "package" / "porchsorrel_wkb" / "libwkb.so"
+            library, = (build / "package" / "porchsorrel_wkb").glob("libwkb.*")
         to = HERE / "src" if getattr(self, "editable_mode", False) else pathlib.Path(self.build_lib)
         shutil.copy(library, to / "porchsorrel_wkb")
         self.distribution.wkb_library = library
