@@ -10,7 +10,9 @@ import unittest
 from unittest import mock
 
 import porchsorrel_wkb as wkb
-from capsules import Again, Arrow, Array, Lists, Schema, address_of, memory_of, pointers
+from capsules import (
+    Again, Arrow, Array, Lists, Records, Schema, address_of, deep, memory_of, pointers, rename,
+)
 from samples import BIG_POINT, EMPTY_POINT, ISO_POLYGON, POINT, POLYGON, ROWS, STATUSES, numpy
 from porchsorrel_wkb import Column, Dimension, Form, Kind, Order, Status, _results, column_from_coordinates
 
@@ -165,6 +167,11 @@ class Encodings(unittest.TestCase):
 class Released(unittest.TestCase):
     """What is handed out keeps what it shows, and lets it go once."""
 
+    def test_renamed(self):
+        """A consumer gives capsules other names, as DLPack's do."""
+        for capsule in Column.of([POINT]).write().__arrow_c_array__():
+            rename(capsule, b"used")
+
     def test_moved(self):
         """A consumer moves the structs, and releases them after the capsules' end, from any thread."""
         capsules = Column.of([POINT]).write().__arrow_c_array__()
@@ -273,8 +280,8 @@ class FromGeoArrow(unittest.TestCase):
         """Coordinates, and their numbers, that begin behind the front of an array."""
         for depth, offset, length in ((1, 1, 2), (2, 2, 4)):
             it = Lists([(0, 2)], [(9.0, 9.0, 1.0, 2.0, 3.0, 4.0)])
-            it.deep(1).length = 2
-            it.deep(depth).offset, it.deep(depth).length = offset, length
+            deep(it, 1).array.length = 2
+            deep(it, depth).array.offset, deep(it, depth).array.length = offset, length
             self.assertEqual(list(column_from_coordinates(Kind.LINE_STRING, it).rows), [LINE])
 
     def test_separate(self):
@@ -321,7 +328,8 @@ class FromGeoArrow(unittest.TestCase):
         """Items inside rows may have validity, where it says that all are there."""
         for bits, depth in itertools.product((b"\x3f", b"\xff", b"\x05"), (1, 2, 3)):
             source, validity = Lists([(0, 3), range(4)], [(1.0, 2.0, 3.0, 4.0, 5.0, 6.0)]), memory_of(bits)
-            source.deep(depth).buffers[0], source.deep(depth).null_count = ctypes.addressof(validity), -1
+            it = deep(source, depth).array
+            it.buffers[0], it.null_count = ctypes.addressof(validity), -1
             if bits != b"\x05":
                 self.assertEqual(list(column_from_coordinates(Kind.POLYGON, source).statuses), [0])
             else:
@@ -349,3 +357,85 @@ class FromGeoArrow(unittest.TestCase):
                                    dimension=other)
         it = column_from_coordinates(Kind.LINE_STRING, make(), dimension=Dimension.XY, form=Form.EWKB_WITH_SRID, srid=7)
         self.assertEqual(wkb.check(it.rows[0]).srid, 7)
+
+
+class Twice(unittest.TestCase):
+    """The schema of the second time is released, and its texts may be gone."""
+
+    def test_arrays(self):
+        written = Column.of([POINT]).write()
+        for source in (Arrow(), Records(Arrow(name=b"shape"), length=len(ROWS)), written):
+            name, it = "shape" if isinstance(source, Records) else None, Again(source.__arrow_c_array__())
+            Column.from_arrow(it, name)
+            self.assertRaisesRegex(ValueError, "is released already", Column.from_arrow, it, name)
+
+    def test_coordinates(self):
+        for source in (Lists([], [(1.0, 2.0)]), Column.of([POINT]).coordinates()):
+            it = Again(source.__arrow_c_array__())
+            self.assertEqual(list(column_from_coordinates(Kind.POINT, it).rows), [POINT])
+            self.assertRaisesRegex(ValueError, "is released already", column_from_coordinates, Kind.POINT, it)
+
+    def test_inside(self):
+        """Of records and lists a child may be released by itself."""
+        column = Arrow(name=b"shape")
+        records = Records(column, length=len(ROWS))
+        column.release("schema", column.schema)
+        self.assertRaisesRegex(ValueError, "is released already", Column.from_arrow, records, "shape")
+
+    def test_asked(self):
+        """The type that a consumer asks for may be released, too: none is asked for."""
+        asked = Arrow(format=b"z")
+        capsule, _ = asked.__arrow_c_array__()
+        asked.release("schema", asked.schema)
+        self.assertEqual(len(Column.of([POINT]).write().__arrow_c_array__(capsule)), 2)
+
+
+class Changed(unittest.TestCase):
+    """Results with other arrays in them go out only if what is shown is there."""
+
+    ENCODINGS = Column.of(2 * [POINT]).write()
+    LINE_BYTES = bytes.fromhex("010200000001000000") + POINT[5:]
+    LINE = Column.of([LINE_BYTES]).coordinates()
+
+    def refused(self, it, error=ValueError, text="don't fit together"):
+        self.assertRaisesRegex(error, text, it.__arrow_c_array__)
+
+    def test_offsets(self):
+        for offsets in ([0, 21], [0, 21, 43], [0, 22, 21], [-1, 21, 42], [1, 0, 42], [0, 2**62, 42], []):
+            self.refused(self.ENCODINGS._replace(offsets=array.array("q", offsets)))
+        kept = self.ENCODINGS._replace(offsets=array.array("q", [0, 21, 42, 42]))
+        self.assertEqual(list(Column.from_arrow(kept).check()), [0, 0])
+
+    def test_lengths_and_types(self):
+        offsets = [self.ENCODINGS._replace(offsets=array.array(code, [0, 21, 42, 0, 0, 0])) for code in "iB"]
+        words = [self.LINE._replace(coordinates=array.array(code, [0] * 8)) for code in "fi"]
+        for it in (self.ENCODINGS._replace(data=bytes(41)), self.ENCODINGS._replace(statuses=bytes(3)),
+                   self.LINE._replace(coordinates=array.array("d", [])), *offsets, *words):
+            self.refused(it)
+
+    def test_pieces(self):
+        """What isn't in one piece goes out as its copy."""
+        every_second = self.ENCODINGS._replace(offsets=memoryview(array.array("q", [0, 9, 21, 9, 42]))[::2])
+        self.assertEqual(list(Column.from_arrow(every_second).write().rows), 2 * [POINT])
+        if numpy:
+            turned = self.LINE._replace(coordinates=numpy.asfortranarray(numpy.array([[1.0, 2.0]])))
+            self.assertEqual(list(column_from_coordinates(Kind.LINE_STRING, turned).rows), [self.LINE_BYTES])
+
+    @unittest.skipUnless(numpy, "numpy is not here")
+    def test_less(self):
+        """Without its z a coordinate has two numbers, and goes out as such; with other widths there is none."""
+        line = bytes.fromhex("01ea03000001000000") + POINT[5:] + bytes(8)
+        levels = Column.of([line]).coordinates(Dimension.XYZ)
+        self.assertEqual(levels.coordinates.tolist(), [[1.0, 2.0, 0.0]])
+        flat = levels._replace(coordinates=levels.coordinates[:, :2].copy())
+        self.assertEqual(list(column_from_coordinates(Kind.LINE_STRING, flat).rows), [self.LINE_BYTES])
+        self.refused(levels._replace(coordinates=numpy.zeros((1, 5))), text="5 numbers")
+
+    def test_written_later(self):
+        """An array that has gone out doesn't change."""
+        written, levels = Column.of(2 * [POINT]).write(), Column.of([self.LINE_BYTES]).coordinates()
+        capsules, lines = written.__arrow_c_array__(), levels.__arrow_c_array__()
+        written.offsets[1], written.data[0], written.statuses[0] = 2**40, 9, 16
+        levels.ring_offsets[1], levels.coordinates[0] = 2**40, 7.0
+        self.assertEqual(items_of(*structs_of(capsules)), 2 * [POINT])
+        self.assertEqual(items_of(*structs_of(lines)), [[[1.0, 2.0]]])

@@ -1,11 +1,14 @@
 """The calls for one geometry."""
+import itertools
 import pickle
 import struct
 import sys
 import unittest
 
 import porchsorrel_wkb as wkb
-from samples import BIG_POINT, EMPTY_POINT, ISO_POLYGON, LINE, POINT, POINTS, POLYGON, numpy, rows_of, values_of
+from samples import (
+    BIG_POINT, EMPTY_POINT, ISO_POLYGON, LINE, POINT, POINTS, POLYGON, changed, numpy, rows_of, values_of,
+)
 from porchsorrel_wkb import Dimension, Form, Kind, Order, Part, Refused, Status
 
 
@@ -175,6 +178,52 @@ class Calls(unittest.TestCase):
             self.assertRaisesRegex(TypeError, "attribute wkb has the bytes", call, Geometry())
             self.assertRaisesRegex(TypeError, "bytes", call, 1)
             self.assertRaisesRegex(TypeError, "bytes.fromhex", call, POINT.hex())
+
+
+class Parts(unittest.TestCase):
+    """Parts and texts that are wrong: nothing is read that isn't there."""
+
+    def test_records(self):
+        """Numbers that nothing has, as a table that was pickled may have them, and places that aren't there."""
+        for record, size in ((wkb.Found, 64), (wkb.Part, 64), (wkb.Fault, 40)):
+            self.assertRaises((ValueError, IndexError), lambda: wkb.Table(record, b"\xff" * size)[0])
+            self.assertRaises(IndexError, lambda: wkb.Table(record, bytes(2 * size - 1))[1])
+
+    def no_coordinates(self, data, part):
+        for call in (wkb.coordinates, wkb.view) if numpy else (wkb.coordinates,):
+            with self.assertRaisesRegex(ValueError, "have no such|has no coordinates", msg=part):
+                call(data, part)
+
+    def test_parts(self):
+        """A part may have other values, and the bytes have those of one."""
+        ring = wkb.parts(POLYGON)[1]
+        for name, value in itertools.product(("begin", "offset", "count"), (-1, 0, 5, 2**31, 2**32, 2**63 - 1)):
+            if value != getattr(ring, name):
+                self.no_coordinates(POLYGON, changed(ring, **{name: value}))
+        for size in range(len(POLYGON)):
+            self.no_coordinates(POLYGON[:size], ring)
+        for data in (POINT, LINE, wkb.write(LINE, srid=7)):
+            (part,) = wkb.parts(data)
+            for name, others in (("kind", Kind), ("dimension", wkb.Dimension), ("order", wkb.Order),
+                                 ("srid", (None, 0, 7)), ("count", (0, 1, 2, 3)), ("offset", (0, 5, 9, 13))):
+                for other in others:
+                    if other == getattr(part, name):
+                        self.assertEqual(len(wkb.coordinates(data, part)), part.count)
+                    else:
+                        self.no_coordinates(data, changed(part, **{name: other}))
+        for other in (None, 1, POLYGON, wkb.Range(1.0, 2.0, 3)):
+            self.assertRaisesRegex(TypeError, "a Part of parts", wkb.coordinates, POLYGON, other)
+
+    def test_errors(self):
+        """What an object is asked for may raise any error. Only that it lacks it is none."""
+        for error in (KeyboardInterrupt, ValueError, AttributeError):
+            def fail(*_):
+                raise error
+
+            shape = type("Meta", (type,), {"wkb": property(fail)})("Shape", (), {})()
+            text = type("Text", (str,), {"__buffer__": fail})()
+            self.assertRaises(TypeError if error == AttributeError else error, wkb.check, shape)
+            self.assertRaises(TypeError if sys.version_info < (3, 12) else error, wkb.check, text)
 
 
 class Records(unittest.TestCase):

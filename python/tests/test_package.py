@@ -1,4 +1,5 @@
-"""The package beside wkb.h, its extension, other processes, and the example of the pages."""
+"""The package beside the headers, in other processes, and the example of the pages."""
+import ctypes
 import importlib.util
 import inspect
 import io
@@ -29,34 +30,56 @@ C = TOP / "c" if (TOP / "c").exists() else TOP
 
 
 class Header(unittest.TestCase):
-    """The structs and the numbers are those of wkb.h."""
+    """What the package declares is what the headers say: structs, numbers, and each function that it calls."""
 
-    TEXT = re.sub(r"/\*.*?\*/", "", (C / "wkb.h").read_text(), flags=re.DOTALL)
+    TEXT = "".join(re.sub(r"/\*.*?\*/", "", path.read_text(), flags=re.DOTALL) for path in (
+        C / "wkb.h", C / "wkb_dump.h", C / "wkb_dump_main.c", TOP / "python/src/arrow.c"))
+    NUMBERS = {"uint32_t": ctypes.c_uint32, "uint64_t": ctypes.c_uint64, "size_t": ctypes.c_size_t, "int": ctypes.c_int,
+               "unsigned": ctypes.c_uint, "void": None, **dict.fromkeys(("wkb_status", "wkb_kind", "wkb_dim"),
+                                                                        ctypes.c_uint32)}
 
-    def fields(self, name, types):
+    def fields(self, name):
+        """The fields of a struct, each with its type in C."""
         body = re.search(rf"typedef struct {name} {{(.*?)}} {name};", self.TEXT, re.DOTALL).group(1)
         for line in body.split(";")[:-1]:
             kind, names = re.fullmatch(r"\s*(?:const )?(\w+)\s+(.*)", line).groups()
             for field in re.findall(r"[*\w]+", names):
-                yield field.strip("*"), types["*"] if "*" in field else types[kind]
+                yield field.strip("*"), kind + "*" * field.count("*")
+
+    def type_of(self, text):
+        """The type of an argument, or of a field."""
+        return ctypes.c_void_p if "*" in text else self.NUMBERS[text.split()[0]]
 
     def test_records(self):
         types = {"uint64_t": "i8", "uint32_t": "u4", "double": "f8", "wkb_range": _records.RANGE}
-        self.assertEqual(list(self.fields("wkb_range", types)), _records.RANGE)
-        for record, known in _records.FIELDS.items():
-            self.assertEqual(list(self.fields(f"wkb_{record.__name__.lower()}", types)), known)
-            self.assertEqual(_records.STRUCTS[record].size, sum(8 if it[-1] == "8" else 4 for it in _flat(known)))
+        records = {it.__name__.lower(): known for it, known in _records.FIELDS.items()}
+        for name, known in {"range": _records.RANGE, **records}.items():
+            self.assertEqual([(field, types[kind]) for field, kind in self.fields(f"wkb_{name}")], known)
+
+    def test_structs(self):
+        structs = [it for name, it in vars(_library).items() if name.startswith("wkb_")]
+        for it in structs:
+            self.assertEqual([(name, self.type_of(kind)) for name, kind in self.fields(it.__name__)], it._fields_)
+        self.assertEqual(len(structs), 5)
+
+    def test_calls(self):
+        calls = [it for it in vars(_library).values() if isinstance(it, _library.Call)]
+        for it in (function for call in calls for function in (call.locked, call.unlocked)):
+            name = {"wkb_dump_program": "main"}.get(it.__name__, it.__name__)
+            result, given = re.search(rf"([\w ]+\*?) *\b{name}\((.*?)\) *[;{{]", self.TEXT, re.DOTALL).groups()
+            given = [] if given == "void" else given.split(",")
+            own = [ctypes.c_void_p if kind in (_library.SHOWN, _library.PUT) else kind for kind in it.argtypes]
+            self.assertEqual(own, [self.type_of(text) for text in given], name)
+            is_text = result.startswith("const char *")
+            self.assertEqual(it.restype, ctypes.c_char_p if is_text else self.type_of(result.strip()), name)
+        self.assertGreater(len(calls), 15)
 
     def test_numbers(self):
         for numbers in (Status, wkb.Kind, wkb.Dimension, wkb.Order, wkb.Form):
             prefix = {"Dimension": "DIM"}.get(numbers.__name__, numbers.__name__.upper())
             found = re.findall(rf"WKB_{prefix}_(\w+) = (\d+)\b", self.TEXT)
             self.assertEqual(found, [(it.name, str(it.value)) for it in numbers])
-
-
-def _flat(fields):
-    """The types of the fields, and of those inside them."""
-    return [it for _, kind in fields for it in ([kind] if isinstance(kind, str) else _flat(kind))]
+        self.assertIn(f"WKB_FAULT_TEXT_ROOM {_library.TEXT_ROOM}\n", self.TEXT)
 
 
 class Names(unittest.TestCase):
@@ -66,7 +89,7 @@ class Names(unittest.TestCase):
 
     def test_help(self):
         shown = pydoc.plain(pydoc.render_doc(wkb))
-        self.assertLess(len(shown.splitlines()), 100)
+        self.assertIn("One geometry, at the start of a blob", shown[:500])
         for name in self.PUBLIC:
             call = r"\(" if inspect.isfunction(getattr(wkb, name)) else ""
             self.assertRegex(wkb.__doc__, rf"\b{name}\b{call}")
@@ -77,6 +100,7 @@ class Names(unittest.TestCase):
     def test_names(self):
         for name in self.PUBLIC:
             self.assertTrue(getattr(wkb, name).__doc__, name)
+            self.assertEqual(getattr(wkb, name).__module__, "porchsorrel_wkb", name)
         everything = {}
         exec("from porchsorrel_wkb import *", everything)
         self.assertEqual(self.PUBLIC, everything.keys() - {"__builtins__"})
@@ -103,7 +127,7 @@ class Names(unittest.TestCase):
     def test_version(self):
         written = re.search(r'^version = "(.*)"$', (TOP / "python/pyproject.toml").read_text(), re.MULTILINE)
         self.assertEqual(wkb.__version__, written.group(1))
-        with mock.patch.object(_library, "_VERSION", lambda: 1123004):
+        with mock.patch.object(_library.VERSION, "locked", lambda: 1123004):
             self.assertEqual(wkb.version(), (1, 123, 4))
 
 
@@ -131,7 +155,7 @@ class Inside(unittest.TestCase):
 
 
 class Tags(unittest.TestCase):
-    """What readelf says of an extension, and the tag of its wheel."""
+    """What readelf says of a library, and the tag of its wheel."""
 
     NEEDS = " (NEEDED) Shared library: [{}]\n"
     OF_GLIBC = NEEDS.format("libc.so.6") + "Version needs section:\n Name: GLIBC_{}\n"

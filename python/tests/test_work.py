@@ -34,7 +34,7 @@ class Nested(unittest.TestCase):
         """Columns that share a name of a megabyte, which is not read to its end."""
         column, shape = Arrow(name=10**6 * b"n"), Arrow(rows=[POINT], name=b"shape")
         source = Records(*200 * [column], shape, length=1)
-        source.columns = ()
+        source.children = ()
         tracemalloc.start()
         self.addCleanup(tracemalloc.stop)
         with self.assertRaises(ValueError) as raised:

@@ -324,7 +324,8 @@ def taken(array: ArrowArray) -> Tuple[Schema, Array]:
         hint = "; chunks_from_arrow takes what has chunks" if hasattr(array, "__arrow_c_stream__") else ""
         raise TypeError(f"{type(array).__name__} has no method __arrow_c_array__{hint}")
     schema_capsule, capsule = array.__arrow_c_array__()
-    schema, it = Schema.taken(schema_capsule), Array.taken(capsule)
+    schema = Schema.taken(schema_capsule)
+    it = Array.taken(capsule)
     expect(schema.release, "array is released already")
     expect(schema.n_children == it.n_children, "array has other children than its schema")
     return schema, it

@@ -97,7 +97,8 @@ def _put_array(it: Array, node: Node) -> None:
     for i, place in enumerate(places):
         it.buffers[i] = place
     it.length, it.null_count, it.n_buffers = node.rows, node.nulls, count
-    if not _is_whole(node, [None if view is None else it.buffer(i, view.nbytes) for i, view in enumerate(node.buffers)]):
+    copies = [None if view is None else it.buffer(i, view.nbytes) for i, view in enumerate(node.buffers)]
+    if not _is_whole(node, copies):
         raise ValueError("these arrays don't fit together: one has another length, type or offsets than the call has "
                          "returned")
     for i, child in enumerate(node.children):
