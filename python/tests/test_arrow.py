@@ -2,6 +2,7 @@
 import ctypes
 import gc
 import itertools
+import os
 import pickle
 import struct
 import unittest
@@ -42,6 +43,36 @@ class FromArrow(unittest.TestCase):
         gc.collect()
         self.assertEqual(source.released, ["schema", "array"])
         self.assertEqual(list(again.check()), STATUSES)
+
+    def test_finalizers(self):
+        """The end of an object reads a column in a cycle with it, whose memory isn't released before."""
+        found = []
+
+        class User:
+            def __del__(self):
+                found.append([*self.column.check(), *self.again.check()])
+
+        for _ in range(20):
+            it = User()
+            it.column, it.again = Column.from_arrow(Arrow()), Column.from_arrow(Column.of(ROWS).write())
+            it.me = it.column.user = it.again.user = it
+        del it
+        gc.collect()
+        self.assertEqual(found, 20 * [[*STATUSES, *(16 if it else 0 for it in STATUSES)]])
+
+    @unittest.skipUnless(hasattr(os, "fork"), "there are no forks")
+    def test_forked(self):
+        """A forked child has columns and arrays of its own, and ends them."""
+        column = Column.from_arrow(Arrow())
+        capsules = column.write().__arrow_c_array__()
+        child = os.fork()
+        if not child:
+            is_right = list(column.check()) == STATUSES
+            del column, capsules
+            gc.collect()
+            os._exit(not is_right)
+        self.assertEqual(os.waitpid(child, 0)[1], 0)
+        self.assertEqual((list(column.check()), len(capsules)), (STATUSES, 2))
 
     def test_pickled_slices(self):
         """A slice is pickled with the bytes, the offsets and the bits of its own rows."""

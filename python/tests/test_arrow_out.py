@@ -312,12 +312,6 @@ class FromGeoArrow(unittest.TestCase):
             (ValueError, "lists from item -1 to 1", line, Lists([(-1, 1)], words)),
             (ValueError, "lists from item 2 to 1", line, Lists([(2, 1)], words)),
             (ValueError, "fewer items", line, Lists([(0, 3)], words)),
-            (ValueError, "fewer items", Kind.POLYGON, Lists([(0, 2), (0, 1)], words)),
-            (ValueError, "fewer items", Kind.POINT, Lists([], words, ["xyz"], length=2)),
-            (ValueError, "can't have 1 buffers", line, Lists([(0, 2)], words, n_buffers=1)),
-            (ValueError, "can't have -9 rows", line, Lists([(0, 2)], words, length=-9)),
-            (ValueError, "other children", line, Lists([(0, 2)], words, n_children=2)),
-            (ValueError, "no list of buffers", line, Lists([(0, 2)], words, buffers=None)),
         ):
             with self.assertRaisesRegex(error, text):
                 column_from_coordinates(kind, source)
