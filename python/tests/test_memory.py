@@ -103,12 +103,15 @@ CALLS = {
 }
 ALL = {name: (lambda make=make: ready(make()), take) for name, (make, take) in GIVEN.items()}
 ALL.update((name, (tuple, lambda _, call=call: call())) for name, call in CALLS.items())
-FEW, MANY, TRIES = 100, 500, 8
+FEW, MANY, TRIES = 50, 200, 8
+DOCUMENTED = TypeError, ValueError, IndexError, OSError
+# A buffer that isn't let go is one more. It is a constant, since a tuple in a function may find no memory.
+WITHOUT_MEMORY = (*DOCUMENTED, BufferError)
 
 
 def quietly(make, call):
     """Make a call, and forget what it returns or raises, if that is an error which calls document."""
-    with contextlib.suppress(TypeError, ValueError, IndexError, OSError):
+    with contextlib.suppress(*DOCUMENTED):
         call(make())
 
 
@@ -167,7 +170,7 @@ def refuse_each(make, call):
             call(made)
         except MemoryError:
             count, last = count + 1, number
-        except (TypeError, ValueError, IndexError, OSError, BufferError):
+        except WITHOUT_MEMORY:
             pass
         except ctypes.ArgumentError as error:  # which ctypes makes of any error in the conversion of an argument
             if "MemoryError" not in str(error):

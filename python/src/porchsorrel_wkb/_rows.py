@@ -1,9 +1,9 @@
 # SPDX-License-Identifier: MIT OR Apache-2.0
 """Columns of rows that aren't in one piece."""
-import array
 import io
 import itertools
 import json
+import struct
 from typing import Any, Dict, Iterable, List, NamedTuple, Optional, Tuple
 
 from ._buffers import Buffer, view_of
@@ -70,10 +70,10 @@ def _joined(rows: List[Any]) -> Tuple[bytes, bytes]:
     long as its bytes."""
     out = io.BytesIO()
     out.writelines(rows)  # in a fifth of the time of bytes.join, which takes 80 bytes for each
-    data, ends = out.getvalue(), list(itertools.accumulate(map(len, rows), initial=0))
-    if ends[-1] != len(data):
+    data, packed = out.getvalue(), struct.pack(f"={len(rows) + 1}q", *itertools.accumulate(map(len, rows), initial=0))
+    if struct.unpack("=q", packed[-8:]) != (len(data),):
         raise TypeError
-    return data, array.array("q", ends).tobytes()
+    return data, packed
 
 
 def object_of(metadata: str) -> Dict[str, Any]:
