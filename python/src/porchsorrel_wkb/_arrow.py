@@ -358,6 +358,7 @@ def _chunks(stream: Stream, column: _Column) -> Iterator[Pieces]:
     while True:
         array = _next(stream, stream.get_next, Array)
         if not array.release:
+            del stream, array  # which end here, and not under the exception that ends a generator
             return
         pieces = [_pieces_in(array, column)]
         del array

@@ -133,15 +133,15 @@ FIELDS: Dict[Any, Fields] = {
     Box: [(axis, RANGE) for axis in "xyzm"],
 }
 # Numbers as struct has them.
-CODES = {"i8": "Q", "u4": "I", "f8": "d"}
+FORMATS = {"i8": "Q", "u4": "I", "f8": "d"}
 
 
-def codes_of(kind: Any) -> str:
-    """Return the codes of a field's numbers, or of those of many fields."""
-    return CODES[kind] if isinstance(kind, str) else "".join(codes_of(it) for _, it in kind)
+def format_of(kind: Any) -> str:
+    """Return the format of a field, or of many fields."""
+    return FORMATS[kind] if isinstance(kind, str) else "".join(format_of(it) for _, it in kind)
 
 
-STRUCTS: Dict[Any, struct.Struct] = {record: struct.Struct("=" + codes_of(known)) for record, known in FIELDS.items()}
+STRUCTS: Dict[Any, struct.Struct] = {record: struct.Struct("=" + format_of(known)) for record, known in FIELDS.items()}
 _GEOMETRY, _BOX = STRUCTS[Found], STRUCTS[Box]
 _new: Any = tuple.__new__  # of a named tuple, without a call of its own
 _KINDS, _DIMENSIONS, _ORDERS = tuple(Kind), tuple(Dimension), tuple(Order)
@@ -273,8 +273,8 @@ def every(table: Table[Any], *names: str) -> List[Any]:
     place = 0
     for name in names:
         before = list(itertools.takewhile(lambda it: it[0] != name, kind))
-        place, kind = place + struct.calcsize("=" + codes_of(before)), kind[len(before)][1]
-    size, step = struct.calcsize(CODES[kind]), STRUCTS[table._record].size
-    words = memoryview(table._memory).cast("B")[: len(table) * step].cast(CODES[kind])
+        place, kind = place + struct.calcsize("=" + format_of(before)), kind[len(before)][1]
+    size, step = struct.calcsize(FORMATS[kind]), STRUCTS[table._record].size
+    words = memoryview(table._memory).cast("B")[: len(table) * step].cast(FORMATS[kind])
     numbers: List[Any] = words[place // size :: step // size].tolist()
     return numbers
