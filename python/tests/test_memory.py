@@ -198,7 +198,7 @@ def main():
 
 
 @unittest.skipUnless(_testcapi, "not tried: there is no _testcapi, which refuses memory")
-@unittest.skipIf(sys.version_info >= (3, 12), "not tried: CPython 3.12 and 3.13 crash by themselves without memory")
+@unittest.skipUnless(sys.version_info[:2] == (3, 11), "not tried: other versions crash or lose errors without memory")
 class Memory(unittest.TestCase):
     def test_refused(self):
         ran = subprocess.run([sys.executable, __file__], stdout=subprocess.PIPE, stderr=subprocess.PIPE, text=True)
