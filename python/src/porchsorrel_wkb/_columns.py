@@ -309,21 +309,22 @@ class Column:
     def coordinates(self, dimension: Dimension = Dimension.XY) -> ColumnCoordinates:
         """Return the coordinates of all rows in this dimension, with a NaN for each number that a geometry lacks."""
         dimension = Dimension(dimension)
-        _, found = self.found()
-        count, parts = sum(every(found, "coordinates")), sum(every(found, "parts"))
-        kinds = {*every(found, "kind")} - {0}
         statuses, row_offsets = new_numbers("u1", self._rows), new_offsets(self._rows)
-        # A part is at most one single and one ring.
-        words, rings, singles = new_numbers("f8", count * dimension.width), new_offsets(parts), new_offsets(parts)
-        ends = [address_of(view_of(it)[1:]) for it in (rings, singles, row_offsets)]
-        out = wkb_coordinates(address_of(words), len(words), ends[0], parts, ends[1], parts, ends[2])
+        row_ends = address_of(view_of(row_offsets)[1:])
+        out = wkb_coordinates(row_ends=row_ends)
         self._call(COLUMN_COORDINATES, dimension, ctypes.byref(out), statuses)
-        expect_same(out.coordinates == count and out.rings <= parts and out.singles <= parts)
+        counts = out.coordinates, out.rings, out.singles
+        words = new_numbers("f8", counts[0] * dimension.width)
+        rings, singles = new_offsets(counts[1]), new_offsets(counts[2])
+        ring_ends, single_ends = (address_of(view_of(it)[1:]) for it in (rings, singles))
+        out = wkb_coordinates(address_of(words), len(words), ring_ends, counts[1], single_ends, counts[2], row_ends)
+        self._call(COLUMN_COORDINATES, dimension, ctypes.byref(out), statuses)
+        expect_same((out.coordinates, out.rings, out.singles) == counts)
         if has_numpy:
             words = words.reshape(-1, dimension.width)
-        held = statuses, row_offsets, singles[: out.singles + 1], rings[: out.rings + 1], words
-        kind = Kind(kinds.pop()) if len(kinds) == 1 else None
-        return ColumnCoordinates._made(*held, _kind=kind, _dimension=dimension, _metadata=self._metadata)
+        kinds = {*every(self.found().found, "kind")} - {0}
+        known = {"_kind": Kind(kinds.pop()) if len(kinds) == 1 else None, "_dimension": dimension}
+        return ColumnCoordinates._made(statuses, row_offsets, singles, rings, words, **known, _metadata=self._metadata)
 
 
 def collect(
