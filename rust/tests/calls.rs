@@ -148,7 +148,7 @@ fn statuses_are_those_of_the_header() {
     let header = include_str!("../../c/wkb.h");
     let mut count = 0;
     let named = TEXTS.split("UNNAMED[]").next().unwrap();
-    for row in named.split("{WKB_STATUS_").skip(1) {
+    for row in named.split(", WKB_STATUS_").skip(1) {
         let (name, text) = (row.split(',').next().unwrap(), row.split('"').nth(1).unwrap());
         let number = header.split(&format!("  WKB_STATUS_{name} = ")).nth(1).unwrap();
         let number: String = number.chars().take_while(char::is_ascii_digit).collect();

@@ -9,7 +9,6 @@ use crate::wkb_abi::level_slices::LevelSlices;
 use crate::wkb_abi::options::Options;
 use crate::wkb_abi::totals::Totals;
 use crate::wkb_c;
-use crate::wkb_check::Uncounted;
 use crate::writer::WriteOptions;
 use crate::{AllocError, Endianness};
 use alloc::vec::Vec;
@@ -127,7 +126,7 @@ impl<'a> Column<'a> {
     /// # Ok::<(), porchsorrel_wkb::AllocError>(())
     /// ```
     pub fn found(&self) -> impl ExactSizeIterator<Item = Result<Summary, Status>> + 'a {
-        self.rows().map(|row| row.and_then(|bytes| found_in(bytes, &mut Uncounted).map_err(Status::of)))
+        self.rows().map(|row| row.and_then(|bytes| found_in(bytes).map_err(Status::of)))
     }
 
     /// The status of each row: whether it is a geometry, as [`check`](crate::check::check) finds it.

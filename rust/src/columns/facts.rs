@@ -4,7 +4,6 @@ use super::{Column, Status};
 use crate::check::{bounds, Bounds, Summary, WkbType};
 use crate::rt::TryVec;
 use crate::wkb_abi::column::found_in;
-use crate::wkb_check::Uncounted;
 use crate::AllocError;
 use alloc::vec::Vec;
 
@@ -118,7 +117,7 @@ impl Facts {
 
     fn add_row(&mut self, row: Result<&[u8], Status>) -> Result<(), AllocError> {
         self.rows += 1;
-        match row.map(|bytes| (bytes, found_in(bytes, &mut Uncounted))) {
+        match row.map(|bytes| (bytes, found_in(bytes))) {
             Ok((bytes, Ok(found))) => {
                 if let Ok(bounds) = bounds(bytes) {
                     self.bounds = self.bounds.union(bounds);
