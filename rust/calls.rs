@@ -1,34 +1,40 @@
 // SPDX-License-Identifier: MIT OR Apache-2.0
 //! The calls of `c/wkb_raw.h`, whose comments say what they take: pointers that are not null and aligned, each with the
-//! length of what is behind it. Nothing else of these sources is unsafe.
+//! length of what is behind it. Nothing else of these sources is unsafe. This is a crate of its own, of what
+//! `tools/erase` makes, and `rt`.
 
-use crate::raw;
-use crate::raw::{Bounds, Column, Found, LevelColumn, LevelSlices, Options, Part, Totals, WkbFault};
+extern crate alloc;
+
+#[path = "src"]
+pub mod erased {
+    pub mod rt;
+    pub mod wkb;
+    pub mod wkb_abi;
+    pub mod wkb_bounds;
+    pub mod wkb_c;
+    pub mod wkb_check;
+    pub mod wkb_geom;
+    pub mod wkb_levels;
+    pub mod wkb_plain;
+    pub mod wkb_read;
+    pub mod wkb_rewrite;
+    pub mod wkb_sink;
+    pub mod wkb_view;
+    pub mod wkb_write;
+}
+
 use core::slice::{from_raw_parts as slice, from_raw_parts_mut as slice_mut};
-
-extern "C" {
-    fn abort() -> !;
-}
-
-/// What the compiler could not show to be unreachable, and the prover did.
-#[panic_handler]
-fn panic(_: &core::panic::PanicInfo<'_>) -> ! {
-    unsafe { abort() }
-}
-
-/// No call allocates, but the crate has readers that do.
-struct NoMemory;
-
-unsafe impl core::alloc::GlobalAlloc for NoMemory {
-    unsafe fn alloc(&self, _: core::alloc::Layout) -> *mut u8 {
-        core::ptr::null_mut()
-    }
-
-    unsafe fn dealloc(&self, _: *mut u8, _: core::alloc::Layout) {}
-}
-
-#[global_allocator]
-static NO_MEMORY: NoMemory = NoMemory;
+use erased::*;
+use wkb_abi::column::Column;
+use wkb_abi::fault::WkbFault;
+use wkb_abi::found::Found;
+use wkb_abi::level_column::LevelColumn;
+use wkb_abi::level_slices::LevelSlices;
+use wkb_abi::options::Options;
+use wkb_abi::parts::Part;
+use wkb_abi::totals::Totals;
+use wkb_bounds::Bounds;
+use wkb_c as raw;
 
 /// `wkb_raw_column`.
 #[repr(C)]

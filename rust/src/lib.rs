@@ -1,6 +1,6 @@
 // SPDX-License-Identifier: MIT OR Apache-2.0
 #![doc = include_str!("../README.md")]
-#![cfg_attr(not(calls), forbid(unsafe_code))]
+#![forbid(unsafe_code)]
 #![no_std]
 
 #[cfg(not(target_pointer_width = "64"))]
@@ -158,23 +158,3 @@ pub mod error {
 pub mod geom {
     pub use crate::wkb::geom::*;
 }
-
-/// What the calls of C take and return.
-#[cfg(calls)]
-mod raw {
-    pub use crate::wkb_abi::column::Column;
-    pub use crate::wkb_abi::fault::WkbFault;
-    pub use crate::wkb_abi::found::Found;
-    pub use crate::wkb_abi::level_column::LevelColumn;
-    pub use crate::wkb_abi::level_slices::LevelSlices;
-    pub use crate::wkb_abi::options::Options;
-    pub use crate::wkb_abi::parts::Part;
-    pub use crate::wkb_abi::totals::Totals;
-    pub use crate::wkb_bounds::Bounds;
-    pub use crate::wkb_c::*;
-}
-
-// The calls of C in one crate with the rest, for `assembly`.
-#[cfg(calls)]
-#[path = "../calls.rs"]
-mod calls;
