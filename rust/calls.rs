@@ -8,7 +8,6 @@ extern crate alloc;
 #[path = "src"]
 pub mod erased {
     pub mod rt;
-    pub mod wkb;
     pub mod wkb_abi;
     pub mod wkb_bounds;
     pub mod wkb_c;
@@ -16,10 +15,8 @@ pub mod erased {
     pub mod wkb_geom;
     pub mod wkb_levels;
     pub mod wkb_plain;
-    pub mod wkb_read;
     pub mod wkb_rewrite;
     pub mod wkb_sink;
-    pub mod wkb_view;
     pub mod wkb_write;
 }
 

@@ -16,6 +16,13 @@ macro_rules! try_format {
 extern crate alloc;
 
 mod calls;
+
+#[path = "src"]
+mod erased {
+    pub mod wkb;
+    pub mod wkb_read;
+    pub mod wkb_view;
+}
 #[path = "out/cases"]
 mod cases {
     pub mod rows;
@@ -28,6 +35,7 @@ mod cases {
 
 use calls::erased::*;
 use cases::*;
+use erased::*;
 
 mod rt {
     pub use crate::calls::erased::rt::*;
