@@ -3,10 +3,10 @@
 //!
 //! ```
 //! // Untrusted bytes: nothing is allocated for what is rejected.
-//! match check(bytes) {
+//! let read = match check(bytes) {
 //!     Ok(found) => Some(read_wkb(alloc, &bytes[..found.bytes])),
 //!     Err(_refused) => None,
-//! }
+//! };
 //! ```
 //!
 //! Reading rejected bytes directly is right as well, but may first allocate up to 15 list entries for each byte.

@@ -9,13 +9,13 @@ const INFINITY: u64 = 0x7ff0_0000_0000_0000;
 /// The word of minus infinity, the least number.
 const MINUS_INFINITY: u64 = 0xfff0_0000_0000_0000;
 
-/// The range of an ordinate, by its words.
+/// The range of an ordinate. A NaN is no number, and doesn't count.
 #[repr(C)]
 #[derive(Clone, Copy, Debug, PartialEq)]
 pub struct Range {
-    /// The least number; infinity where there is none.
+    /// The bits of the least number; of infinity where there is none.
     pub least: u64,
-    /// The greatest number; minus infinity where there is none.
+    /// The bits of the greatest number; of minus infinity where there is none.
     pub greatest: u64,
     /// How many numbers there are.
     pub count: u64,

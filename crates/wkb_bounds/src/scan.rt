@@ -190,8 +190,8 @@ pub fn any_bounds_into(buf: &[u8], bounds: &mut Bounds) -> Result<(), Refused>
 /// The bounds of the geometry at the start of the bytes, over its coordinates at every level. What follows it is not
 /// looked at. It accepts and rejects what `check` does, and allocates nothing.
 ///
-/// Each word that is a number counts, whatever the other words of its coordinate are. The order is that of numbers,
-/// with minus zero below zero.
+/// A NaN is passed over, and the other numbers of its coordinate count. The order is that of numbers, with minus zero
+/// below zero.
 pub fn bounds(buf: &[u8]) -> Result<Bounds, Refused>
     ensures { FindsBounds buf.now result }
 {

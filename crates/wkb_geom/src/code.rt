@@ -199,7 +199,7 @@ impl WkbType {
         matches!(self, WkbType::Point(_))
     }
 
-    /// The ISO code. `u32::from` gives the same, but only a crate that lists `wkb_geom` can call it.
+    /// The ISO code: the kind, and 1000 for z, 2000 for m, 3000 for both. So 1003 is a polygon of x, y and z.
     pub fn iso_code(self) -> u32
         ensures { result ≡ iso_code (type_kind self) (type_dimension self) }
     {

@@ -35,8 +35,7 @@ impl Endianness {
         }
     }
 
-    /// The first byte of a geometry in this order. It is `u8::from(order)`, which a crate that names only `wkb` can't
-    /// call.
+    /// The first byte of a geometry in this order: 0 for big endian, 1 for little endian.
     pub fn byte(self) -> u8
         ensures { result ≡ order_byte self }
     {

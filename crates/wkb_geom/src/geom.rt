@@ -28,7 +28,7 @@ pub trait Dimensioned: Drop {
         ensures { result ≡ dimensions self.now };
 }
 
-/// A coordinate: as many words as its dimension has.
+/// A coordinate: for each of its numbers a word, which is the number's bits (`to_bits`).
 pub trait CoordTrait: Dimensioned {
     // The words of the coordinate, in order: bits of doubles, and no floats (docs/DECISIONS.md, D1).
     ghost words: { Self → List ℕ };
@@ -37,7 +37,7 @@ pub trait CoordTrait: Dimensioned {
     fn nth(&self, n: usize) -> Option<u64>
         ensures { result ≡ slice_get (words self.now) n };
 
-    /// The word at an index that is known to be there.
+    /// The word at an index, which has to be below the size of its dimension.
     fn at(&self, n: usize) -> u64
         requires { n < size (Self.dimensions self.now) }
         ensures { result ≡ slice_index (words self.now) n };
@@ -64,8 +64,8 @@ pub trait CoordTrait: Dimensioned {
 
 /// A point, which may be empty.
 ///
-/// `Place` in `crates/wkb_cases/src/places.rt`, a longitude and a latitude, is a point by this implementation, and a
-/// coordinate by another:
+/// `Place`, a longitude and a latitude, is a point by this implementation, and a coordinate by another. The whole is in
+/// `crates/wkb_cases/src/places.rt`, and for Rust on the page of the module `geom`.
 ///
 /// ```rust
 /// impl PointTrait for Place {
@@ -112,7 +112,7 @@ pub trait LineStringTrait: Dimensioned {
         ensures dimensions { HasDimensions Self.CoordType.dimensions result
             (Self.dimensions self.now) };
 
-    /// The coordinate at an index that is known to be there.
+    /// The coordinate at an index, which has to be below `num_coords`.
     fn coord_at(&self, i: usize) -> Self::CoordType
         requires { i < length (coordinates self.now) }
         ensures value { slice_get (coordinates self.now) i ≡ Some (Self.CoordType.words result) }
@@ -227,10 +227,9 @@ pub trait MultiLineStringTrait: Dimensioned {
         → AllByRecursion (AreCoordinates (Self.dimensions m)) (line_strings m) };
 }
 
-/// Polygons of one dimension.
-///
-/// Polygons are returned by reference. A polygon type that contains references to types with ghost fields must be an
-/// enum, or have a ghost field itself: the checker takes no `Option` of a reference to another struct of this sort.
+/// Polygons of one dimension, which it holds: they are returned by reference.
+// A polygon type that contains references to types with ghost fields must be an enum, or have a ghost field itself: the
+// checker takes no `Option` of a reference to another struct of this sort.
 pub trait MultiPolygonTrait: Dimensioned {
     type InnerPolygonType: PolygonTrait;
 
@@ -252,9 +251,8 @@ pub trait MultiPolygonTrait: Dimensioned {
         → AllByRecursion (AllByRecursion (AreCoordinates (Self.dimensions m))) (polygons m) };
 }
 
-/// Geometries of any kind and dimension.
-///
-/// Members are returned by reference, so what `MultiPolygonTrait` says of a polygon's type holds for theirs as well.
+/// Geometries of any kind and dimension, which it holds: they are returned by reference.
+// What is said above of a polygon's type holds for that of the members as well.
 pub trait GeometryCollectionTrait: Dimensioned {
     type GeometryType: GeometryTrait;
 

@@ -13,7 +13,8 @@ use crate::rings::Rings;
 use wkb_geom::Dimensions;
 
 /// The levels of a column: the words of all coordinates, and where all rings, singles and rows end. A ring's end is
-/// counted in coordinates, a single's in rings, a row's in singles.
+/// counted in coordinates, a single's in rings, a row's in singles. A row is asked for by itself; in Rust, `Levels`
+/// of the module `columns` encodes all rows.
 #[derive(Debug, Clone, Copy)]
 pub struct Levels<'w> {
     pub words: &'w [u64],

@@ -40,7 +40,7 @@ impl<'w> Polygons<'w> {
         Some(Polygons { rings, ends })
     }
 
-    /// The polygon at an index that is known to be there.
+    /// The polygon at an index, which has to be below their number.
     pub fn polygon(&self, i: usize) -> Rings<'w>
         requires { i < length (polygons_polygons self.now) }
         ensures value { slice_get (polygons_polygons self.now) i ≡ Some (rings_rings result) }

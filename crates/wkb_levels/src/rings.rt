@@ -49,7 +49,7 @@ impl<'w> Rings<'w> {
         self.ends.len()
     }
 
-    /// The ring at an index that is known to be there.
+    /// The ring at an index, which has to be below `len`.
     pub fn ring(&self, i: usize) -> LineString<'w>
         requires { i < length (rings_rings self.now) }
         ensures value { slice_get (rings_rings self.now) i ≡ Some (line_string_coordinates result) }

@@ -9,7 +9,8 @@ use crate::levels::{Levels, Place};
 use crate::row::{Kind, Row};
 use wkb_geom::Dimensions;
 
-/// The rows of a column that are still to come, as geometries of one kind and dimension.
+/// The rows of levels that are still to come, as geometries of one kind and dimension. In Rust, `Rows` of the
+/// module `columns` is a copy of rows of bytes.
 #[derive(Debug, Clone, Copy)]
 pub struct Rows<'w> {
     levels: Levels<'w>,

@@ -8,7 +8,7 @@ use crate::rings::Rings;
 use wkb_geom::{Dimensioned, Dimensions, GeometryTrait, GeometryType};
 use wkb_plain::{Line, LineString, MultiPolygon, Point, Rect, Triangle};
 
-/// A geometry of any kind but a multi polygon, which lends no polygons.
+/// A row that is no multi polygon.
 #[derive(Debug, Clone, Copy)]
 pub enum Single<'w> {
     Point(Point<'w>),

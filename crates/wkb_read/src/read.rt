@@ -45,7 +45,7 @@ pub fn read_wkb<'a>(alloc: Global, buf: &'a [u8]) -> WkbResult<Wkb<'a>>
     read_and_count(alloc, buf, &mut counts)
 }
 
-/// Reads as `read_wkb` does, and counts what it cost, whatever the result.
+/// Reads as `Wkb::try_new` does, and counts what it cost, whatever the result.
 pub fn read_wkb_counted<'a>(alloc: Global, buf: &'a [u8]) -> (WkbResult<Wkb<'a>>, Counts)
     ensures reads { Reads buf.now result.0 }
     ensures costs { Costs buf.now result.0 result.1 }

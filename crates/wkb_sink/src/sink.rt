@@ -15,8 +15,9 @@ use std::io;
 use std::io::Write;
 use std::marker::Model;
 
-/// The most bytes that a `VecSink` lays in place. Their place is zeroed first, and this takes longer than blocks do
-/// where it doesn't fit the processor's caches (docs/DECISIONS.md, D8).
+/// The most bytes of an encoding that a `VecSink` takes in one piece. Longer ones arrive in blocks, since memory is
+/// zeroed for a piece, which takes longer than blocks do where it doesn't fit the processor's caches.
+// See docs/DECISIONS.md, D8.
 pub const MAX_IN_PLACE: usize = 1 << 18;
 
 /// Bytes that can be laid in a slice of their length, such as a geometry's encoding (`Sink::put_in_place`).
@@ -34,8 +35,8 @@ pub trait LayWhole {
         ensures bytes { slice.new ≡ bytes self.now };
 }
 
-/// A place for bytes, which may take a part of what it is given. This crate has three: `VecSink`, `SliceSink`, and
-/// `Out` over any `Write`.
+/// A place for bytes, which may take a part of what it is given: `VecSink`, `SliceSink`, `Out` over any `Write`, or a
+/// type of your own, which needs `put` and `failed` alone.
 ///
 /// ```rust
 /// let mut bytes = [0; 21];
@@ -43,9 +44,8 @@ pub trait LayWhole {
 /// write_point(&mut sink, &point, &WriteOptions::default())?;
 /// assert_eq!(rt; sink.len(), 21);
 /// ```
-///
-/// A type of your own says what `has_failed` is and meets the clauses of `put`. It may leave out `appended`, which then
-/// promises nothing of bytes, `fails_by`, which then promises nothing of errors, and `put_in_place`.
+// A type of your own says what `has_failed` is and meets the clauses of `put`. It may leave out `appended`, which then
+// promises nothing of bytes, `fails_by`, which then promises nothing of errors, and `put_in_place`.
 pub trait Sink {
     // The bytes that were appended, where the sink tells them.
     ghost appended: { Self → Option (List ℕ) } = { λ _. None };
@@ -254,8 +254,8 @@ impl Sink for VecSink {
     }
 }
 
-/// A sink over a borrowed slice, which takes as many bytes as fit. No contract says what the slice holds after the sink
-/// is dropped: use `write_to_slice` for that.
+/// A sink over a borrowed slice, which takes as many bytes as fit. For a single geometry there is `write_to_slice`.
+// No contract says what the slice holds after the sink is dropped; that of `write_to_slice` says it.
 #[derive(Drop)]
 pub struct SliceSink<'a> {
     slice: &'a mut [u8],
