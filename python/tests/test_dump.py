@@ -1,4 +1,5 @@
 """The bytes of a geometry line by line: the worked cases of wkb_dump, its program, and what Python adds."""
+import contextlib
 import pathlib
 import re
 import subprocess
@@ -17,14 +18,28 @@ TESTS = (TOP / "c" if (TOP / "c").exists() else TOP) / "test"
 class Dump(unittest.TestCase):
     @unittest.skipUnless(TESTS.exists(), "only the repository and the source package have the cases")
     def test_cases(self):
-        cases = re.split(r"(?m)^> ", (TESTS / "dump.cases").read_text(encoding="utf-8"))[1:]
+        cases, headers = re.split(r"(?m)^> ", (TESTS / "dump.cases").read_text(encoding="utf-8"))[1:], 0
         for case in cases:
             head, _, expected = case.partition("\n")
             _, items, lines, text = head.split(" ", 3)
             data = bytes.fromhex(re.sub(r"^\s*(\\x|0x)", "", text))
             with self.subTest(head):
                 self.assertEqual(wkb.dump(memoryview(data), int(items), int(lines)), expected)
-        self.assertGreater(len(cases), 20)
+                headers += self.has_header(data, expected)
+        self.assertTrue(len(cases) > 20 and headers > 5)
+
+    def has_header(self, data, lines):
+        """Whether a case has the header of a GeoPackage, which is read as its lines say."""
+        srid, wrong = re.search(r"SRID (.*)", lines), re.search(r"refused: (.*GeoPackage.*)", lines)
+        ends = re.findall(r"(?:least|greatest) ([xyzm]) (.*)", lines)
+        if wrong or not data.startswith(b"GP"):
+            with self.assertRaisesRegex(ValueError, f"^{wrong[1]}$") if wrong else contextlib.nullcontext():
+                self.assertIsNone(wkb.geopackage_header(data))
+        else:
+            axes, numbers = "".join(axis for axis, _ in ends[::2]), tuple(float(number) for _, number in ends)
+            expected = 8 + 8 * len(ends), int(srid[1]), axes, numbers
+            self.assertEqual(wkb.geopackage_header(memoryview(data)), expected)
+        return data.startswith(b"GP")
 
     def test_arguments(self):
         for items, lines in ((-1, 0), (2**32, 0), (0, -1), (0, 2**64)):

@@ -35,16 +35,16 @@ class Header(unittest.TestCase):
     TEXT = "".join(re.sub(r"/\*.*?\*/", "", path.read_text(), flags=re.DOTALL) for path in (
         C / "wkb.h", C / "wkb_dump.h", C / "wkb_dump_main.c", TOP / "python/src/arrow.c"))
     NUMBERS = {"uint32_t": ctypes.c_uint32, "uint64_t": ctypes.c_uint64, "size_t": ctypes.c_size_t, "int": ctypes.c_int,
-               "unsigned": ctypes.c_uint, "void": None, **dict.fromkeys(("wkb_status", "wkb_kind", "wkb_dim"),
-                                                                        ctypes.c_uint32)}
+               "int32_t": ctypes.c_int32, "double[8]": ctypes.c_double * 8, "unsigned": ctypes.c_uint, "void": None,
+               **dict.fromkeys(("wkb_status", "wkb_kind", "wkb_dim"), ctypes.c_uint32)}
 
     def fields(self, name):
         """The fields of a struct, each with its type in C."""
         body = re.search(rf"typedef struct {name} {{(.*?)}} {name};", self.TEXT, re.DOTALL).group(1)
         for line in body.split(";")[:-1]:
             kind, names = re.fullmatch(r"\s*(?:const )?(\w+)\s+(.*)", line).groups()
-            for field in re.findall(r"[*\w]+", names):
-                yield field.strip("*"), kind + "*" * field.count("*")
+            for stars, field, many in re.findall(r"(\**)(\w+)((?:\[\d\])?)", names):
+                yield field, kind + stars + many
 
     def type_of(self, text):
         """The type of an argument, or of a field."""
@@ -60,7 +60,7 @@ class Header(unittest.TestCase):
         structs = [it for name, it in vars(_library).items() if name.startswith("wkb_")]
         for it in structs:
             self.assertEqual([(name, self.type_of(kind)) for name, kind in self.fields(it.__name__)], it._fields_)
-        self.assertEqual(len(structs), 5)
+        self.assertEqual(len(structs), 6)
 
     def test_calls(self):
         calls = [it for it in vars(_library).values() if isinstance(it, _library.Call)]

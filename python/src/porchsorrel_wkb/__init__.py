@@ -13,6 +13,7 @@ One geometry, at the start of a blob::
     parts(blob)                     Table of Part: itself, and its rings and members, in preorder
     coordinates(blob, part)         a list of tuples, for a point, a line string or a ring
     view(blob, part)                a numpy array over the blob's own memory, for the same
+    geopackage_header(blob)         what a GeoPackage has before a geometry: its size, SRID and envelope; or None
     dump(blob[, items, lines])      what the bytes say, line by line, and where they are rejected
 
 A column of geometries, in one piece of memory as Arrow has it::
@@ -40,7 +41,7 @@ What the numbers mean, as enums of integers::
                                     the result of a call or of a row
     Kind, Dimension, Order, Form    POINT.., XY.., BIG and LITTLE, ISO..
 
-Records are Found, Fault, Part, Range and Box, which are named tuples. Table is a sequence of Part or
+Records are Found, Fault, Part, Range, Box and GeoPackageHeader, which are named tuples. Table is a sequence of Part or
 Box, and becomes a structured array by numpy.asarray. The column calls return ColumnFound, ColumnBounds, ColumnParts,
 ColumnEncodings and ColumnCoordinates, which are compared as a whole, and Facts; geoparquet returns a GeoParquet.
 Bounds, encodings and coordinates are arrays for packages of Arrow, and `rows` of ColumnEncodings is a sequence of bytes
@@ -63,6 +64,7 @@ from ._calls import bounds as bounds
 from ._calls import check as check
 from ._calls import coordinates as coordinates
 from ._calls import dump as dump
+from ._calls import geopackage_header as geopackage_header
 from ._calls import parts as parts
 from ._calls import same as same
 from ._calls import view as view
@@ -86,6 +88,7 @@ from ._library import version as version
 from ._records import Box as Box
 from ._records import Fault as Fault
 from ._records import Found as Found
+from ._records import GeoPackageHeader as GeoPackageHeader
 from ._records import Part as Part
 from ._records import Range as Range
 from ._records import Table as Table

@@ -8,9 +8,10 @@ from ._buffers import Buffer, Inputs, Numbers, bytes_in, over, view_of
 from ._enums import Form, Kind, Order, Status, is_refusal, make_options
 from ._errors import Refused, no_such
 from ._library import (
-    BOUNDS, CHECK, DUMP, OTHER, PARTS, PUT, SAME, WRITE, status_text, wkb_dump_options, wkb_options,
+    BOUNDS, CHECK, DUMP, OTHER, PARTS, PUT, READ_HEADER, SAME, WRITE, status_text, wkb_dump_header, wkb_dump_options,
+    wkb_options,
 )
-from ._records import STRUCTS, Box, Fault, Found, Part, Table, box_in, found_in, record_in
+from ._records import STRUCTS, Box, Fault, Found, GeoPackageHeader, Part, Table, box_in, found_in, record_in
 
 # Results go into memory of this size first: so many bytes of an encoding, or parts.
 SMALL, FEW = 4096, 64
@@ -160,6 +161,23 @@ def view(data: Buffer, part: Union[Part, Found]) -> Numbers:
     place = _words_of(data, view, part)
     order = ">" if part.order == Order.BIG else "<"
     return numpy.frombuffer(view[slice(*place)], order + "f8").reshape(-1, part.dimension.width)
+
+
+def geopackage_header(data: Buffer) -> Optional[GeoPackageHeader]:
+    """Return the header that a GeoPackage has before the geometry of a blob (OGC 12-128r18, clause 2.1.3); None if
+    the blob doesn't begin with one.
+
+    Raise `ValueError` where no geometry of WKB can be behind it: it is cut off or extended, or has another version or
+    an unknown envelope. The geometry itself isn't looked at.
+    """
+    header = wkb_dump_header()
+    with Inputs() as inputs:
+        wrong = READ_HEADER.locked(*inputs.place(data), ctypes.byref(header))
+    if wrong is not None:
+        raise ValueError(wrong.decode())
+    axes = ctypes.string_at(header.axes).decode()
+    numbers = tuple(header.envelope[: 2 * len(axes)])
+    return GeoPackageHeader(header.size, header.srs_id, axes, numbers) if header.size else None
 
 
 def dump(data: Buffer, items: int = 3, lines: int = 1000) -> str:

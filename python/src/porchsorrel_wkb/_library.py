@@ -41,6 +41,10 @@ class wkb_dump_options(ctypes.Structure):
     _fields_ = [("items", NUMBER), ("lines", WORD)]
 
 
+class wkb_dump_header(ctypes.Structure):
+    _fields_ = [("size", SIZE), ("srs_id", ctypes.c_int32), ("axes", POINTER), ("envelope", ctypes.c_double * 8)]
+
+
 class Call:
     """A function of the library: called with the interpreter's lock held, and without it."""
 
@@ -104,6 +108,7 @@ VERSION = Call("wkb_version", ctypes.c_uint)
 PUT = ctypes.PYFUNCTYPE(ctypes.c_int, POINTER, POINTER, SIZE)
 DUMP = Call("wkb_dump", ctypes.c_int, POINTER, SIZE, POINTER, PUT, POINTER, POINTER)
 OTHER = Call("wkb_dump_other", ctypes.c_char_p, POINTER, POINTER, SIZE)
+READ_HEADER = Call("wkb_dump_read_header", ctypes.c_char_p, POINTER, SIZE, POINTER)
 PROGRAM = Call("wkb_dump_program", ctypes.c_int, ctypes.c_int, POINTER)
 NEW = Call("arrow_new", POINTER, SIZE)
 CONTEXT_BY = Call("arrow_context_by", None, POINTER)

@@ -114,6 +114,21 @@ class Box(NamedTuple):
     m: Range
 
 
+class GeoPackageHeader(NamedTuple):
+    """What a GeoPackage has before the geometry of a blob.
+
+    :ivar size: how many bytes it has: the geometry is `blob[size:]`
+    :ivar srs_id: the SRID; 0 and -1 stand for undefined ones
+    :ivar axes: the ordinates of the envelope: "", "xy", "xyz", "xym" or "xyzm"
+    :ivar envelope: of each of them the least and the greatest number as the header says, which may be wrong
+    """
+
+    size: int
+    srs_id: int
+    axes: str
+    envelope: Tuple[float, ...]
+
+
 Fields = List[Tuple[str, Any]]
 
 
