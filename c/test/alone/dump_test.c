@@ -123,7 +123,7 @@ static int try_cases(void) {
 /* Texts and the bytes that they are, in hex; NULL if they are no hex, and the character that isn't. */
 static void try_hex(void) {
   static const struct { const char *text, *bytes; size_t wrong; } TEXTS[] = {
-      {"", "", 0}, {" \n", "", 0}, {"0x", "", 0}, {"\\x0aF0", "0af0", 0}, {"0XfF 00\r\n01\t", "ff0001", 0},
+      {"", "", 0}, {" \n", "", 0}, {"0x", "", 0}, {"\\x0aF0", "0af0", 0}, {"0XfF\v00\r\n01\t\f", "ff0001", 0},
       {" \n0x01", "01", 0}, {"0", NULL, 1}, {"0g", NULL, 1}, {"0 1", NULL, 1}, {"x01", NULL, 0}, {"0x0x01", NULL, 3},
       {"\\", NULL, 0}, {"01 0", NULL, 4}, {"01@1", NULL, 2}, {"01`1", NULL, 2}, {"01G1", NULL, 2}, {"/1", NULL, 0},
       {"0:", NULL, 1}, {"\x10\x11", NULL, 0}};

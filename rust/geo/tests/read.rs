@@ -40,7 +40,7 @@ fn each_input() {
         }
         accepted += 1;
     }
-    assert!(accepted > 1000);
+    assert!(accepted > 500);
 }
 
 /// A polygon of XYZM in big endian, whose rings have two coordinates each: an exterior and three interiors.
