@@ -78,9 +78,8 @@ def _expect_rows(column: Column, facts: Facts) -> None:
             raise ValueError(f"a {kind.name} is {dimension.name}, and GeoParquet {VERSION} has no m")
     with Inputs() as inputs:
         data, offsets = column._shown(inputs)
-        for i, written in enumerate(column.write().rows):
-            row = b"" if written is None else bytes(data[offsets[i] : offsets[i + 1]])
-            if written is not None and row != written and not _is_iso(row):
+        for i, (begin, end, written) in enumerate(zip(offsets, offsets[1:], column.write().rows)):
+            if written is not None and data[begin:end] != written and not _is_iso(bytes(data[begin:end])):
                 raise ValueError(f"row {i} is EWKB, or has bytes behind its geometry: {WAY_OUT}")
 
 

@@ -1,5 +1,6 @@
 # SPDX-License-Identifier: MIT OR Apache-2.0
 """The structs of wkb.h as Python has them, and tables of them."""
+import array
 import ctypes
 import enum
 import html
@@ -282,7 +283,7 @@ class Table(Sequence[Record]):
         return f"<table><thead><tr>{head}</tr></thead><tbody>{rows}</tbody></table>{more}"
 
 
-def every(table: Table[Any], *names: str) -> List[Any]:
+def every(table: Table[Any], *names: str) -> "array.array[Any]":
     """Return a number of each record: that of a field, or of a range and the field in it."""
     kind: Any = FIELDS[table._record]
     place = 0
@@ -291,5 +292,4 @@ def every(table: Table[Any], *names: str) -> List[Any]:
         place, kind = place + struct.calcsize("=" + format_of(before)), kind[len(before)][1]
     size, step = struct.calcsize(FORMATS[kind]), STRUCTS[table._record].size
     words = memoryview(table._memory).cast("B")[: len(table) * step].cast(FORMATS[kind])
-    numbers: List[Any] = words[place // size :: step // size].tolist()
-    return numbers
+    return array.array(FORMATS[kind], words[place // size :: step // size].tobytes())

@@ -140,16 +140,12 @@ def _range_of_all(boxes: Table[Box], axis: str) -> Range:
         return Range(math.inf, -math.inf, 0)
     least, greatest = every(boxes, axis, "least"), every(boxes, axis, "greatest")
     first, last = min(least), max(greatest)
-    if first == 0 and -(2**63) in _bits_of(least):
+    # The bits of +0 are 0, and of -0 the sign alone.
+    if first == 0 and -(2**63) in memoryview(least.tobytes()).cast("q"):
         first = -0.0
-    if last == 0 and 0 in _bits_of(greatest):
+    if last == 0 and 0 in memoryview(greatest.tobytes()).cast("q"):
         last = 0.0
     return Range(first, last, count)
-
-
-def _bits_of(numbers: List[float]) -> Any:
-    """Return the bits of numbers, as integers: those of +0 are 0, and of -0 the sign alone."""
-    return array.array("q", array.array("d", numbers).tobytes())
 
 
 class _Parts(NamedTuple):
