@@ -4,7 +4,7 @@
 #include "../../wkb_dump.h"
 #include "../lasting.h"
 
-enum { LINE_ROOM = 2048, CASES = 48 };
+enum { LINE_ROOM = 2048, CASES = 41 };
 
 static const wkb_dump_options LIMITS[] = {{3, 1000}, {0, 0}, {1, 1}, {2, 20}, {0, 40}, {4, 0}};
 enum { LIMITS_COUNT = sizeof LIMITS / sizeof LIMITS[0] };
