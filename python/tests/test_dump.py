@@ -4,7 +4,6 @@ import pathlib
 import re
 import subprocess
 import sys
-import tempfile
 import unittest
 
 import porchsorrel_wkb as wkb
@@ -48,13 +47,13 @@ class Dump(unittest.TestCase):
 
 
 class Program(unittest.TestCase):
-    @unittest.skipUnless(TESTS.exists(), "only the repository and the source package have the tests")
     def test_program(self):
-        """What the tests of the program in C ask of it."""
-        with tempfile.TemporaryDirectory() as folder:
-            ran = subprocess.run(["sh", TESTS / "alone/program_test", folder, sys.executable, "-m", "porchsorrel_wkb"],
+        """It is that in C, whose tests are c/test/alone/program_test: it gets the words and the input, and ends so."""
+        for words, status, begin in (((), 0, wkb.dump(POINT)), (("-l",), 0, "line 1\n"), (("-i", "x"), 2, "usage: "),
+                                     (("no such file",), 2, "wkb_dump: "), (("--help",), 0, "usage: ")):
+            ran = subprocess.run([sys.executable, "-m", "porchsorrel_wkb", *words], input=POINT.hex().encode(),
                                  stdout=subprocess.PIPE, stderr=subprocess.STDOUT)
-        self.assertEqual(ran.returncode, 0, ran.stdout.decode())
+            self.assertEqual((ran.returncode, ran.stdout.decode()[: len(begin)]), (status, begin), words)
 
     def test_closed(self):
         """A pipe that is closed ends it without a word."""

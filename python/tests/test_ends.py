@@ -139,6 +139,6 @@ class Interpreters(unittest.TestCase):
             for has_numpy in {False, wkb._buffers.has_numpy}:
                 inside, outside = (it.format(path=path, has_numpy=has_numpy) for it in (INSIDE, OUTSIDE))
                 for when in ("now", "ended", "later", "kept"):
-                    words = [program, when, "1" if has_numpy else "4", outside, inside.replace("True", "False")]
+                    words = [program, when, "1" if has_numpy else "2", outside, inside.replace("True", "False")]
                     ran = subprocess.run(words, env=home, stderr=subprocess.PIPE, timeout=300)
                     self.assertEqual((ran.returncode, ran.stderr.decode()), (0, ""), (when, has_numpy))
