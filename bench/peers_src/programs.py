@@ -1,8 +1,6 @@
 """The programs that bench/peers compares. Each is a class whose methods take and return bytes of geometries.
 
-`written` reads bytes and writes them again, with all that the program keeps, or returns None if it rejects them;
-`with_srid` does so with the SRID 4326. `refused_at` reads while allocation N fails, and returns `read`, `error`, or
-`none` if there are fewer.
+`written` reads bytes and writes them again, with all that the program keeps, or returns None if it rejects them.
 """
 import ctypes
 import os
@@ -15,7 +13,6 @@ from ctypes import c_char_p, c_int, c_size_t, c_uint32, c_void_p
 
 HERE = pathlib.Path(__file__).resolve().parent
 ROOT = HERE.parent.parent
-SRID = 4326
 # What psql ends with after an error, and not where it lost the server.
 SCRIPT_FAILED = 3
 
@@ -34,17 +31,7 @@ def loaded(*names):
     raise Absent(f"there is no {names[0]}")
 
 
-class InProcess:
-    """A library in this process. Its reader is a C function of at most four words, over bytes that are kept."""
-
-    def refused_at(self, data, n):
-        call = ctypes.CDLL(os.environ["PEERS_REFUSE"]).peers_call
-        call.restype, is_to_come = c_void_p, c_int()
-        result = call(ctypes.c_long(n), self.reader(), (c_void_p * 4)(*self.words(data)), ctypes.byref(is_to_come))
-        return "none" if is_to_come.value else "read" if self.is_read(result) else "error"
-
-
-class Ours(InProcess):
+class Ours:
     """The C library, as `make -C c` builds it."""
 
     name = "Porchsorrel"
@@ -54,28 +41,15 @@ class Ours(InProcess):
             raise Absent("`make -C c` builds it")
         self.library = loaded(ROOT / "c/out/libwkb.so.1")
 
-    def written(self, data, form=1):
-        options, size = (c_uint32 * 3)(0, form, SRID), ctypes.c_uint64()
+    def written(self, data):
+        options, size = (c_uint32 * 3)(0, 1, 0), ctypes.c_uint64()
         out = ctypes.create_string_buffer(len(data) + 4)
         given, room = (data, c_size_t(len(data))), (out, c_size_t(len(out)))
         status = self.library.wkb_write(*given, options, *room, ctypes.byref(size), c_void_p())
         return None if status else out.raw[: size.value]
 
-    def with_srid(self, data):
-        return self.written(data, form=2)
 
-    def reader(self):
-        return ctypes.cast(self.library.wkb_check, c_void_p)
-
-    def words(self, data):
-        self.kept = ctypes.create_string_buffer(data, len(data))
-        return ctypes.addressof(self.kept), len(data), None, None
-
-    def is_read(self, status):
-        return not status
-
-
-class Geos(InProcess):
+class Geos:
     """GEOS through its C API."""
 
     def __init__(self):
@@ -91,12 +65,10 @@ class Geos(InProcess):
         found = self.library.GEOSWKBReader_read_r(self.context, self.source, data, c_size_t(len(data)))
         return found and c_void_p(found)
 
-    def written(self, data, srid=None):
+    def written(self, data):
         lib, geometry, size = self.library, self.read(data), c_size_t()
         if not geometry:
             return None
-        if srid:
-            lib.GEOSSetSRID_r(self.context, geometry, srid)
         writer = c_void_p(lib.GEOSWKBWriter_create_r(self.context))
         # The richest form: EWKB, with the SRID. A version before 3.12 has no dimension 4, and keeps 3.
         lib.GEOSWKBWriter_setFlavor_r(self.context, writer, 1)
@@ -106,27 +78,13 @@ class Geos(InProcess):
         out = lib.GEOSWKBWriter_write_r(self.context, writer, geometry, ctypes.byref(size))
         return out and ctypes.string_at(out, size.value)
 
-    def with_srid(self, data):
-        return self.written(data, SRID)
 
-    def reader(self):
-        return ctypes.cast(self.library.GEOSWKBReader_read_r, c_void_p)
-
-    def words(self, data):
-        self.kept = ctypes.create_string_buffer(data, len(data))
-        return self.context.value, self.source.value, ctypes.addressof(self.kept), len(data)
-
-    def is_read(self, geometry):
-        return bool(geometry)
-
-
-class Ogr(InProcess):
+class Ogr:
     """OGR through its C API, which writes no EWKB."""
 
     def __init__(self):
         self.library = lib = loaded("libgdal.so.32", "libgdal.so", "libgdal.dylib")
         lib.GDALVersionInfo.restype = c_char_p
-        lib.OSRNewSpatialReference.restype = c_void_p
         self.name = "OGR " + lib.GDALVersionInfo(b"RELEASE_NAME").decode()
         lib.CPLSetErrorHandler(lib.CPLQuietErrorHandler)
 
@@ -135,29 +93,12 @@ class Ogr(InProcess):
         failed = self.library.OGR_G_CreateFromWkb(data, c_void_p(), ctypes.byref(geometry), len(data))
         return None if failed else geometry
 
-    def written(self, data, srid=None):
+    def written(self, data):
         lib, geometry = self.library, self.read(data)
         if not geometry:
             return None
-        if srid:
-            reference = c_void_p(lib.OSRNewSpatialReference(c_void_p()))
-            lib.OSRImportFromEPSG(reference, srid)
-            lib.OGR_G_AssignSpatialReference(geometry, reference)
         out = ctypes.create_string_buffer(lib.OGR_G_WkbSize(geometry))
         return None if lib.OGR_G_ExportToIsoWkb(geometry, 1, out) else out.raw
-
-    def with_srid(self, data):
-        return self.written(data, SRID)
-
-    def reader(self):
-        return ctypes.cast(self.library.OGR_G_CreateFromWkb, c_void_p)
-
-    def words(self, data):
-        self.kept, self.made = ctypes.create_string_buffer(data, len(data)), c_void_p()
-        return ctypes.addressof(self.kept), None, ctypes.addressof(self.made), len(data)
-
-    def is_read(self, failed):
-        return not (failed or 0) & 0xFFFFFFFF
 
 
 class PostGis:
@@ -180,9 +121,8 @@ class PostGis:
         self.name = "PostGIS " + self.ask("select postgis_lib_version()")
 
     def run(self, program, *words):
-        clean = {it: value for it, value in os.environ.items() if it != "LD_PRELOAD"}
         command = [*self.as_user, self.programs / program, *words]
-        ran = subprocess.run(command, cwd=self.work, capture_output=True, env=clean)
+        ran = subprocess.run(command, cwd=self.work, capture_output=True)
         if ran.returncode:
             raise Absent(f"{program} failed: {ran.stderr.decode().strip()}")
 
@@ -203,10 +143,6 @@ class PostGis:
 
     def written(self, data):
         found = self.made(data, "encode(ST_AsEWKB(g), 'hex')")
-        return found and bytes.fromhex(found)
-
-    def with_srid(self, data):
-        found = self.made(data, f"encode(ST_AsEWKB(ST_SetSRID(g, {SRID})), 'hex')")
         return found and bytes.fromhex(found)
 
 
@@ -239,20 +175,11 @@ class Original:
     def __init__(self, program):
         self.program = program
 
-    def ask(self, data, *words):
-        ran = subprocess.run([self.program, *words], input=data.hex(), capture_output=True, text=True)
+    def written(self, data):
+        ran = subprocess.run([self.program], input=data.hex(), capture_output=True, text=True)
         if ran.returncode < 0:
             os.kill(os.getpid(), -ran.returncode)
         if ran.returncode:
             raise RuntimeError("panic")
-        return ran.stdout.strip()
-
-    def written(self, data):
-        found = self.ask(data)
+        found = ran.stdout.strip()
         return None if found == "refused" else bytes.fromhex(found)
-
-    def with_srid(self, data):
-        return self.written(data)
-
-    def refused_at(self, data, n):
-        return self.ask(data, "refuse", str(n))

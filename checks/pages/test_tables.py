@@ -1,8 +1,8 @@
 """Compares the rows of tables with their sources.
 
 - ARCHITECTURE.md: its crates are those of crates.txt, each below those that use it.
-- README's rows of other programs are those of docs/DIFFERENCES.md. How many times as fast it says the bounds are,
-  beside OGR and GEOS, is what the bars of docs/SPEED.md show, and where plain C is faster what its quotients say.
+- How many times as fast README says the bounds are, beside OGR and GEOS, is what the bars of docs/SPEED.md show, and
+  where plain C is faster what its quotients say.
 """
 import math
 import re
@@ -10,7 +10,7 @@ import re
 from checks import judge
 from pages import rows_of, spans, text_of
 
-SPEED, PEERS = "docs/SPEED.md", "docs/DIFFERENCES.md"
+SPEED = "docs/SPEED.md"
 QUOTIENTS = "our time / plain C"
 
 
@@ -31,17 +31,6 @@ def timed():
     for _, heads, row in rows_of(SPEED):
         if heads[0] in ("ns a row", QUOTIENTS):
             yield from (((heads[0], row[0], head), float(cell)) for head, cell in zip(heads[1:], row[1:]) if cell)
-
-
-def wrong_peers():
-    """The cells of README's table of other programs that aren't those of docs/DIFFERENCES.md."""
-    rows = {page: {it[2][0]: dict(zip(it[1], it[2])) for it in rows_of(page) if it[1][0] == "what we tried"}
-            for page in ("README.md", PEERS)}
-    if not rows["README.md"]:
-        yield "README.md has no table of other programs"
-    for name, row in rows["README.md"].items():
-        if row != rows[PEERS].get(name):
-            yield f"README.md: {name}: {PEERS} has {rows[PEERS].get(name)}"
 
 
 def wrong_times():
@@ -69,4 +58,4 @@ class Tables(judge.Judge):
     """The rows of tables agree with their sources."""
 
     def wrong(self):
-        yield from (*wrong_crates(), *wrong_peers(), *wrong_times(), *wrong_losses())
+        yield from (*wrong_crates(), *wrong_times(), *wrong_losses())
