@@ -8,7 +8,7 @@ from pages import ROOT, text_of
 CRATES = ROOT / "crates"
 
 # Calls that a user's code reaches through an exported type, though they are no part of the API: their clauses may name
-# anything. docs/DECISIONS.md (D9) says why they are reachable.
+# anything. A crate cannot hide a name from users and show it to the crates above.
 NO_API = {
     "Point::read",
     "LineString::read",

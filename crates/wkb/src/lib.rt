@@ -11,7 +11,7 @@
 //! ```
 //!
 //! All names but those of `canon`, `geom::ordinate`, `geom::Geometry`, `geom::GeometryCollection`, `laws::are_bytes`
-//! and `laws::srid_fits` are re-exports of the crates below (docs/DECISIONS.md, D9). A recursive enum like
+//! and `laws::srid_fits` are re-exports of the crates below. A recursive enum like
 //! `geom::Geometry` is declared here, because a crate that lists `wkb` alone can name it in contracts only so.
 #![tactic(auto)]
 
