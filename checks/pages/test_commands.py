@@ -123,7 +123,7 @@ def code_of(language):
 def lost_pieces(page):
     """The pieces of the code on a page, from one empty line to the next, that are in no source; and lost edits."""
     languages = re.findall(r"(?m)^```(\w+)$", text_of(page))
-    yield from (f"{page}: nothing is known of {it}" for it in languages if it not in {*SOURCES, "console", "text"})
+    yield from (f"{page}: nothing is known of {it}" for it in languages if it not in {*SOURCES, "console", "text", "toml"})
     for language in SOURCES:
         blocks = text_of(page).split(f"```{language}\n")[1:]
         for piece in (piece for block in blocks for piece in block.split("```")[0].strip("\n").split("\n\n")):

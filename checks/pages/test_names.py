@@ -17,8 +17,8 @@ from pages import PAGES, ROOT, files, lines_of, prose_of, rows_of, spans, texts
 FOREIGN = {"geom::bytea", "wkb::geometry"}
 # What a path of code begins with that is std's or stands for a name of the reader's.
 FOREIGN_PATHS = {"io", "u8", "crate", "MODULE"}
-# A file of the kit, one that a command makes, and a folder of the C package.
-MADE_PATHS = {"bin/clang", "crates/app", "source/"}
+# What commands make, and a folder of the C package.
+MADE_PATHS = {"rust/src/wkb*", "source/"}
 # How a path in a command begins that is ours, and not built.
 OURS = re.compile(r"(bench|c|checks|crates|docs|edits|examples|postgres|python|rust|sqlite|tools)/(?!out)")
 # The words in capitals that stand for a part of a path.
@@ -62,9 +62,9 @@ def paths_of_code():
         parts = [it for it in parts if it]
         ends.update("::".join(parts[at:]) for at in range(len(parts)))
 
-    for path, text in texts("crates/*/src/**/*.rt").items():
-        _crates, crate, _src, *modules = path.removesuffix(".rt").split("/")
-        modules = [crate, *(it for it in modules if it not in ("lib", "main"))]
+    for path, text in texts("crates/*/src/**/*.rt", "rust/src/**/*.rs").items():
+        crate, *modules = re.sub(r"^crates/|/src\b|\.r[st]$", "", path).split("/")
+        modules = [crate, *(it for it in modules if it not in ("lib", "main", "mod"))]
         add(modules)
         for owner, name in names_in(text):
             # A check names a method by the module of its type, wherever the `impl` block is.
