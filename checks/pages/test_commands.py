@@ -44,7 +44,7 @@ SKETCHED = ["crates/wkb/src/check.rt", "crates/wkb/src/lib.rt"]
 RUNS = re.compile(r"\(cd crates/wkb_hex && rt try -- (\S+) < \.\./\.\./(\S+)\)|\./wkb_hex (\S+) < (\S+)$")
 # The folders of our scripts.
 OURS = r"(?:\.ci|bench|c|checks|crates|docs|edits|examples|postgres|python|rust|sqlite|tools)"
-# With the kit these commands build and test everything, and README names them; the first prints BIG_POINT.
+# With the kit these commands build and test everything, and README names them.
 KIT = "./wkb_hex be < examples/point.hex", "rt ci"
 # What runs the line that a page has for another processor.
 CROSS = "checks/systems/cross_test"
@@ -61,7 +61,6 @@ def make_files(cls):
         os.symlink(ROOT / name, folder / name)
     (folder / "point.wkb").write_bytes(bytes.fromhex(POINT))
     (folder / "rows.hex").write_text(f"{POINT}\n{BIG_POINT}\n\n", encoding="utf-8")
-    # The version, then flags: little endian, an envelope of four numbers; the SRID; the envelope.
 
 
 def difference(where, expected, status, ran):
@@ -223,8 +222,6 @@ class Shown(judge.Judge):
         for page in PAGES:
             yield from (*lost_pieces(page), *lost_commands(page), *lost_words(page))
         yield from (f"README.md: no {it}" for it in {*KIT} - {it for _, it, _ in commands("README.md")})
-        if f"`{BIG_POINT}`" not in text_of("README.md"):
-            yield f"README.md: no {BIG_POINT}, which {KIT[0]} prints"
         yield from lost_examples()
 
 

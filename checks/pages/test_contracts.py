@@ -2,8 +2,8 @@
 proofs with the clauses that PROMISES gives for them.
 
 In PROMISES a row's last cell names clauses. They belong to the owner in the cell (`clause` of `NAME`, the trait `NAME`:
-`clause`), else to the calls of the first cell, else to those of the row above. A table of *facts* lists all fields of
-the record that the text above names last. A test that the page names with its crate has to be one of that crate. On the
+`clause`), else to the calls of the first cell, else to those of the row above; in a table of *facts* to the record
+that the text above names last. A test that the page names with its crate has to be one of that crate. On the
 other pages a clause that is said to be `of` a call or a record has to be one of its.
 
 README's paragraph "Proved of the sources" has the proved statements, between semicolons, up to its first full stop.
@@ -127,8 +127,10 @@ def lost_promises(clauses):
             heading = next(text[at] for at in range(number - 1, -1, -1) if text[at].startswith("## "))
             owners, crates = [], [it for it in spans(heading) if (ROOT / "crates" / it).is_dir()]
         before = number
-        if heads[1] != "fact" and heads[0] != "README says":
+        if heads[0] != "README says":
             owners = owners_of(found[0], clauses, crates) or owners
+            if heads[1] == "fact":
+                owners = re.findall(r"the record `(\w+)`", "\n".join(text[:number]))[-1:]
             for of, label in lost_in_row(clauses, crates, found[0], found[-1], owners):
                 yield f"{PROMISES}:{number}: {', '.join(of) or 'the crate'} has no clause `{label}`"
 
@@ -145,20 +147,6 @@ def lost_in_sentences(clauses):
         for names, owner in re.findall(r"((?:`\w+`(?:, | and ))*`\w+`) of `(\w+)`", text):
             own = clauses.of(owner, ())
             yield from (f"{page}: `{owner}` has no clause `{it}`" for it in spans(names) if lacks(clauses, own, it))
-
-
-def lost_facts(clauses):
-    """The fields of records that a table of facts leaves out, or that are none."""
-    text = text_of(PROMISES)
-    for match in re.finditer(r"(?m)^\| what \| fact \|\n\|---\|---\|\n((?:\|.*\n)+)", text):
-        record = re.findall(r"the record `(\w+)`", text[: match.start()])[-1]
-        listed = {it for line in match[1].splitlines() for it in spans(cells(line)[-1])}
-        rest = text[match.end() :].split("\n## ")[0]
-        known = clauses.of(record)
-        also = set(re.findall(rf"`(\w+)` of `{record}`", rest))
-        if listed | also != known:
-            lost, more = known - listed - also or "none", listed - known or "none"
-            yield f"{PROMISES}: of `{record}` the table leaves out {lost}, and {more} is no field"
 
 
 def lost_tests():
@@ -228,6 +216,6 @@ class Contracts(judge.Judge):
 
     def wrong(self):
         clauses = Clauses()
-        for it in (lost_promises, lost_in_sentences, lost_facts, wrong_statements):
+        for it in (lost_promises, lost_in_sentences, wrong_statements):
             yield from it(clauses)
         yield from (*lost_tests(), *lost_calls())
