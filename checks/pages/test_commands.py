@@ -51,7 +51,7 @@ CROSS = "checks/systems/cross_test"
 
 
 def make_files(cls):
-    """The folder of a class of tests, with what the commands read: a file of raw bytes, and rows of hex."""
+    """The folder of a class of tests, with what the commands read: a file of raw bytes."""
     around = tempfile.TemporaryDirectory()
     cls.addClassCleanup(around.cleanup)
     # A command may make a folder beside this one (`../mine`).
@@ -60,7 +60,6 @@ def make_files(cls):
     for name in ("wkb_hex", "examples", "c"):
         os.symlink(ROOT / name, folder / name)
     (folder / "point.wkb").write_bytes(bytes.fromhex(POINT))
-    (folder / "rows.hex").write_text(f"{POINT}\n{BIG_POINT}\n\n", encoding="utf-8")
 
 
 def difference(where, expected, status, ran):
