@@ -14,7 +14,7 @@ import collections
 import re
 
 from checks import judge
-from pages import PAGES, ROOT, cells, rows_of, spans, text_of, texts
+from pages import PAGES, ROOT, rows_of, spans, text_of, texts
 
 PROMISES = "docs/PROMISES.md"
 README = "README.md"
