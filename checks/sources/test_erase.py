@@ -20,6 +20,8 @@ ERASED = {
     "#[derive(Debug, Drop)] struct A; fn f<T: Drop>(v: V, t: T) -> R<()> { v.push(t)?; s.push(1); }":
         "#[derive(Debug)] struct A; fn f<T>(v: V, t: T) -> R<()> { v.try_push(t)?; s.push(1); }",
     "impl Drop for A { fn drop(self) { let A { a: _ } = self; } } fn f() {}": "fn f() {}",
+    "#[macro_export] macro_rules! m { () => {} } impl A { pub fn read(layout: L) {} }":
+        "macro_rules! m { () => {} } impl A { pub(crate) fn read(layout: L) {} }",
     "let Some(a) = b else { return; };": "let a = if let Some(a) = b { a } else { return; };",
     "let A::B(mut a, c) = b else { f() };": "let (mut a, c) = if let A::B(mut a, c) = b { (a, c) } else { f() };",
 }
