@@ -12,6 +12,7 @@ extern crate std;
 
 pub mod canon;
 pub mod columns;
+pub mod geopackage;
 pub mod reader;
 mod refused;
 mod rt;
@@ -23,6 +24,11 @@ mod wkb_abi;
 mod wkb_bounds;
 mod wkb_c;
 mod wkb_check;
+#[allow(dead_code)]
+mod wkb_clients {
+    pub mod geopackage;
+    mod own;
+}
 mod wkb_geom;
 mod wkb_levels;
 mod wkb_plain;

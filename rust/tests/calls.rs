@@ -5,6 +5,7 @@ use porchsorrel_wkb::check::{bounds, check, Refused, WkbType};
 use porchsorrel_wkb::columns::{NotCollected, Status};
 use porchsorrel_wkb::error::{General, Overflow, WkbError};
 use porchsorrel_wkb::geom::{CoordTrait, GeometryTrait, GeometryType, LineStringTrait, PointTrait};
+use porchsorrel_wkb::geopackage::{read_header, NoHeader};
 use porchsorrel_wkb::reader::{read_wkb, Dimension, Wkb};
 use porchsorrel_wkb::writer::{geometry_wkb_size, write_geometry, write_point, WriteOptions};
 use porchsorrel_wkb::{AllocError, Endianness};
@@ -74,6 +75,7 @@ fn errors_are_errors() {
     is_error::<AllocError>();
     is_error::<Refused>();
     is_error::<NotCollected>();
+    is_error::<NoHeader>();
     fn all(bytes: &[u8]) -> Result<(), Box<dyn std::error::Error>> {
         check(bytes)?;
         bounds(bytes)?;
@@ -92,22 +94,42 @@ fn errors_are_errors() {
     assert_eq!(as_read(b"\x02").unwrap_err().to_string(), read_wkb(b"\x02").unwrap_err().to_string());
 }
 
-/// The texts of rejections are those of c/test/dump.cases, but for blobs of a GeoPackage.
-#[test]
-fn texts_of_rejections() {
-    let (mut input, mut count) = (vec![], 0);
-    for line in include_str!("../../c/test/dump.cases").lines() {
-        if let Some(case) = line.strip_prefix("> ") {
-            let digits: String = case.split(' ').skip(3).collect();
-            let digits = digits.trim_start_matches("0x").trim_start_matches("\\x");
-            let byte = |i| u8::from_str_radix(&digits[i..i + 2], 16).unwrap();
-            input = (0..digits.len()).step_by(2).map(byte).collect();
-        } else if let Some(text) = line.trim_start().strip_prefix("refused: ").filter(|_| !input.starts_with(b"GP")) {
-            assert_eq!(Some(&*check(&input).unwrap_err().to_string()), text.split("; ").next(), "{input:x?}");
-            count += 1;
-        }
+/// Why an input isn't read, and what its header of a GeoPackage says.
+fn dumped(input: &[u8]) -> (Option<String>, Vec<String>) {
+    let header = read_header(input);
+    if let (Err(why), true) = (header, input.starts_with(b"GP")) {
+        return (Some(why.to_string()), vec![]);
     }
-    assert!(count >= 20, "{count} texts");
+    let size = header.map_or(0, |it| it.size);
+    let why = check(&input[size..]).err().map(|it| Refused { offset: it.offset + size, ..it }.to_string());
+    let mut said: Vec<String> = header.iter().map(|it| format!("SRID {}", it.srs_id)).collect();
+    for (axis, (least, greatest)) in header.iter().flat_map(|it| it.axes.chars().zip(it.envelope)) {
+        said.extend([format!("least {axis} {least}"), format!("greatest {axis} {greatest}")]);
+    }
+    (why, said)
+}
+
+/// Why an input is rejected, and what is read of a GeoPackage's header, is what c/test/dump.cases has.
+#[test]
+fn texts_of_inputs() {
+    let (mut refused, mut numbers) = (0, 0);
+    for case in include_str!("../../c/test/dump.cases").split("\n> ").skip(1) {
+        let (head, lines) = case.split_once('\n').unwrap();
+        let digits: String = head.split(' ').skip(3).collect();
+        let digits = digits.trim_start_matches("0x").trim_start_matches("\\x");
+        let byte = |i| u8::from_str_radix(&digits[i..i + 2], 16).unwrap();
+        let input: Vec<u8> = (0..digits.len()).step_by(2).map(byte).collect();
+        let texts: Vec<&str> = lines.lines().filter_map(|it| it.rsplit("  ").next()).collect();
+        let why = texts.iter().find_map(|it| it.strip_prefix("refused: ")?.split("; ").next());
+        let (ours, said) = dumped(&input);
+        assert_eq!(ours.as_deref(), why, "{input:x?}");
+        let is_said = |it: &&&str| ["SRID", "least", "greatest"].iter().any(|word| it.starts_with(word));
+        if input.starts_with(b"GP") && !said.is_empty() {
+            assert!(texts.iter().filter(is_said).eq(&said), "{said:?}");
+        }
+        (refused, numbers) = (refused + usize::from(why.is_some()), numbers + said.len());
+    }
+    assert!(refused >= 35 && numbers >= 10, "{refused} texts, {numbers} numbers");
 }
 
 /// What the reader says is what the crate `wkb` says.
