@@ -23,9 +23,8 @@
 //! ```
 pub use crate::wkb::reader::*;
 
-use crate::check::{check, WkbType};
+use crate::check::check;
 use crate::error::WkbResult;
-use crate::wkb_geom::Head;
 
 /// Reads the geometry at the start of the bytes. Bytes after it are not looked at.
 ///
@@ -40,8 +39,15 @@ use crate::wkb_geom::Head;
 /// `NestingDepthExceeded` for the 129th collection inside one another. Or `Memory`.
 #[inline]
 pub fn read_wkb(bytes: &[u8]) -> WkbResult<Wkb<'_>> {
-    if let Ok(Head { wkb_type: WkbType::GeometryCollection(_), .. }) = Head::read(bytes) {
+    if may_be_collection(bytes) {
         check(bytes)?;
     }
     Wkb::try_new(bytes)
+}
+
+/// Whether the lowest byte of the type code is that of 7, 1007, 2007 or 3007.
+#[inline]
+fn may_be_collection(bytes: &[u8]) -> bool {
+    let lowest = if bytes.first() == Some(&1) { bytes.get(1) } else { bytes.get(4) };
+    matches!(lowest, Some(0x07 | 0xef | 0xd7 | 0xbf))
 }

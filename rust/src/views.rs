@@ -1,10 +1,24 @@
 // SPDX-License-Identifier: MIT OR Apache-2.0
 //! What views and bounds have beside the proved calls: iterators over parts, and numbers in the place of words.
 use crate::check::{Bounds, Range};
-use crate::geom::{
-    CoordTrait, LineStringTrait, MultiLineStringTrait, MultiPointTrait, MultiPolygonTrait, PolygonTrait,
-};
+use crate::geom::{CoordTrait, MultiLineStringTrait, MultiPointTrait, MultiPolygonTrait, PolygonTrait};
 use crate::reader::{Coord, LineString, LinearRing, MultiLineString, MultiPoint, MultiPolygon, Point, Polygon};
+
+macro_rules! coords {
+    ($($view:ident)*) => {$(
+        impl<'a> $view<'a> {
+            /// The coordinates, in order.
+            #[inline]
+            pub fn coords(&self) -> impl DoubleEndedIterator<Item = Coord<'a>> + ExactSizeIterator + 'a {
+                let (order, dimension) = (self.byte_order(), self.dimension());
+                let each = self.coords_slice().chunks_exact(dimension.coordinate_size());
+                each.map(move |bytes| Coord { bytes, order, dimension })
+            }
+        }
+    )*};
+}
+
+coords! { LineString LinearRing }
 
 macro_rules! parts {
     ($($view:ident: $parts:ident by $part:ident below $count:ident, $item:ty, $says:literal;)*) => {$(
@@ -19,8 +33,6 @@ macro_rules! parts {
 }
 
 parts! {
-    LineString: coords by coord below num_coords, Coord<'a>, "The coordinates, in order.";
-    LinearRing: coords by coord below num_coords, Coord<'a>, "The coordinates, in order.";
     Polygon: interiors by interior below num_interiors, LinearRing<'a>, "The rings behind the exterior, in order.";
     MultiPoint: points by point below num_points, Point<'a>, "The points, in order.";
     MultiLineString: line_strings by line_string below num_line_strings, LineString<'a>,
