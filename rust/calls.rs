@@ -89,192 +89,94 @@ impl RawColumn {
     }
 }
 
-#[no_mangle]
-pub unsafe extern "C" fn wkb_raw_check(buf: *const u8, len: usize, found: &mut Found, fault: &mut WkbFault) -> u32 {
-    raw::wkb_raw_check(slice(buf, len), found, fault)
+macro_rules! calls {
+    ($($name:ident($($argument:ident: $type:ty),* $(,)?) $(-> $status:ty)? { $($code:tt)* })*) => {$(
+        #[no_mangle]
+        pub unsafe extern "C" fn $name($($argument: $type),*) $(-> $status)? { $($code)* }
+    )*};
 }
 
-#[no_mangle]
-pub unsafe extern "C" fn wkb_raw_bounds(buf: *const u8, len: usize, bounds: &mut Bounds, fault: &mut WkbFault) -> u32 {
-    raw::wkb_raw_bounds(slice(buf, len), bounds, fault)
-}
-
-#[no_mangle]
-pub unsafe extern "C" fn wkb_raw_write(
-    buf: *const u8,
-    len: usize,
-    options: &Options,
-    out: *mut u8,
-    room: usize,
-    size: &mut u64,
-    fault: &mut WkbFault,
-) -> u32 {
-    raw::wkb_raw_write(slice(buf, len), options, slice_mut(out, room), size, fault)
-}
-
-#[no_mangle]
-pub unsafe extern "C" fn wkb_raw_same(
-    a: *const u8,
-    a_len: usize,
-    b: *const u8,
-    b_len: usize,
-    equal: &mut u32,
-    fault: &mut WkbFault,
-    which: &mut u32,
-) -> u32 {
-    raw::wkb_raw_same(slice(a, a_len), slice(b, b_len), equal, fault, which)
-}
-
-#[no_mangle]
-pub unsafe extern "C" fn wkb_raw_parts(
-    buf: *const u8,
-    len: usize,
-    parts: *mut Part,
-    room: usize,
-    count: &mut u64,
-    fault: &mut WkbFault,
-) -> u32 {
-    raw::wkb_raw_parts(slice(buf, len), slice_mut(parts, room), count, fault)
-}
-
-#[no_mangle]
-pub unsafe extern "C" fn wkb_raw_column_check(column: &RawColumn, statuses: *mut u8, rows: usize) {
-    raw::wkb_raw_column_check(&column.column(), slice_mut(statuses, rows))
-}
-
-#[no_mangle]
-pub unsafe extern "C" fn wkb_raw_column_found(
-    column: &RawColumn,
-    found: *mut Found,
-    found_count: usize,
-    statuses: *mut u8,
-    rows: usize,
-) {
-    raw::wkb_raw_column_found(&column.column(), slice_mut(found, found_count), slice_mut(statuses, rows))
-}
-
-#[no_mangle]
-pub unsafe extern "C" fn wkb_raw_column_bounds(
-    column: &RawColumn,
-    boxes: *mut Bounds,
-    box_count: usize,
-    statuses: *mut u8,
-    rows: usize,
-) {
-    raw::wkb_raw_column_bounds(&column.column(), slice_mut(boxes, box_count), slice_mut(statuses, rows))
-}
-
-#[no_mangle]
-pub unsafe extern "C" fn wkb_raw_column_parts(
-    column: &RawColumn,
-    parts: *mut Part,
-    room: usize,
-    ends: *mut u64,
-    end_count: usize,
-    statuses: *mut u8,
-    rows: usize,
-) {
-    raw::wkb_raw_column_parts(
-        &column.column(),
-        slice_mut(parts, room),
-        slice_mut(ends, end_count),
-        slice_mut(statuses, rows),
-    )
-}
-
-#[no_mangle]
-pub unsafe extern "C" fn wkb_raw_column_write(
-    column: &RawColumn,
-    options: &Options,
-    out: *mut u8,
-    room: usize,
-    ends: *mut u64,
-    end_count: usize,
-    statuses: *mut u8,
-    rows: usize,
-) {
-    raw::wkb_raw_column_write(
-        &column.column(),
-        options,
-        slice_mut(out, room),
-        slice_mut(ends, end_count),
-        slice_mut(statuses, rows),
-    )
-}
-
-#[no_mangle]
-pub unsafe extern "C" fn wkb_raw_collect(
-    column: &RawColumn,
-    rows: usize,
-    kind: u32,
-    dimension: u32,
-    options: &Options,
-    out: *mut u8,
-    room: usize,
-    size: &mut u64,
-    fault: &mut WkbFault,
-    row: &mut u64,
-) -> u32 {
-    raw::wkb_raw_collect(&column.column(), rows, kind, dimension, options, slice_mut(out, room), size, fault, row)
-}
-
-#[no_mangle]
-pub unsafe extern "C" fn wkb_raw_column_coordinates(
-    column: &RawColumn,
-    dimension: u32,
-    out: &RawLevelSlices,
-    row_ends: *mut u64,
-    row_count: usize,
-    totals: &mut Totals,
-    statuses: *mut u8,
-    rows: usize,
-) {
-    let mut levels = LevelSlices {
-        words: slice_mut(out.words, out.words_room),
-        ring_ends: slice_mut(out.ring_ends, out.ring_room),
-        single_ends: slice_mut(out.single_ends, out.single_room),
-    };
-    raw::wkb_raw_column_coordinates(
-        &column.column(),
-        dimension,
-        &mut levels,
-        slice_mut(row_ends, row_count),
-        totals,
-        slice_mut(statuses, rows),
-    )
-}
-
-#[no_mangle]
-pub unsafe extern "C" fn wkb_raw_column_from_coordinates(
-    column: &RawLevelColumn,
-    kind: u32,
-    dimension: u32,
-    options: &Options,
-    out: *mut u8,
-    room: usize,
-    ends: *mut u64,
-    end_count: usize,
-    statuses: *mut u8,
-    rows: usize,
-) {
-    let levels = LevelColumn {
-        words: slice(column.words, column.word_count),
-        ring_ends: slice(column.ring_ends, column.ring_end_count),
-        rings: column.rings,
-        single_ends: slice(column.single_ends, column.single_end_count),
-        singles: column.singles,
-        row_ends: slice(column.row_ends, column.row_end_count),
-        rows: column.rows,
-        validity: slice(column.validity, column.validity_len),
-        validity_offset: column.validity_offset,
-    };
-    raw::wkb_raw_column_from_coordinates(
-        &levels,
-        kind,
-        dimension,
-        options,
-        slice_mut(out, room),
-        slice_mut(ends, end_count),
-        slice_mut(statuses, rows),
-    )
+calls! {
+    wkb_raw_check(buf: *const u8, len: usize, found: &mut Found, fault: &mut WkbFault) -> u32 {
+        raw::wkb_raw_check(slice(buf, len), found, fault)
+    }
+    wkb_raw_bounds(buf: *const u8, len: usize, bounds: &mut Bounds, fault: &mut WkbFault) -> u32 {
+        raw::wkb_raw_bounds(slice(buf, len), bounds, fault)
+    }
+    wkb_raw_write(
+        buf: *const u8, len: usize, options: &Options, out: *mut u8, room: usize, size: &mut u64, fault: &mut WkbFault,
+    ) -> u32 {
+        raw::wkb_raw_write(slice(buf, len), options, slice_mut(out, room), size, fault)
+    }
+    wkb_raw_same(
+        a: *const u8, a_len: usize, b: *const u8, b_len: usize, equal: &mut u32, fault: &mut WkbFault, which: &mut u32,
+    ) -> u32 {
+        raw::wkb_raw_same(slice(a, a_len), slice(b, b_len), equal, fault, which)
+    }
+    wkb_raw_parts(
+        buf: *const u8, len: usize, parts: *mut Part, room: usize, count: &mut u64, fault: &mut WkbFault,
+    ) -> u32 {
+        raw::wkb_raw_parts(slice(buf, len), slice_mut(parts, room), count, fault)
+    }
+    wkb_raw_column_check(column: &RawColumn, statuses: *mut u8, rows: usize) {
+        raw::wkb_raw_column_check(&column.column(), slice_mut(statuses, rows))
+    }
+    wkb_raw_column_found(
+        column: &RawColumn, found: *mut Found, found_count: usize, statuses: *mut u8, rows: usize,
+    ) {
+        raw::wkb_raw_column_found(&column.column(), slice_mut(found, found_count), slice_mut(statuses, rows))
+    }
+    wkb_raw_column_bounds(column: &RawColumn, boxes: *mut Bounds, box_count: usize, statuses: *mut u8, rows: usize) {
+        raw::wkb_raw_column_bounds(&column.column(), slice_mut(boxes, box_count), slice_mut(statuses, rows))
+    }
+    wkb_raw_column_parts(
+        column: &RawColumn, parts: *mut Part, room: usize, ends: *mut u64, end_count: usize, statuses: *mut u8,
+        rows: usize,
+    ) {
+        let (parts, ends) = (slice_mut(parts, room), slice_mut(ends, end_count));
+        raw::wkb_raw_column_parts(&column.column(), parts, ends, slice_mut(statuses, rows))
+    }
+    wkb_raw_column_write(
+        column: &RawColumn, options: &Options, out: *mut u8, room: usize, ends: *mut u64, end_count: usize,
+        statuses: *mut u8, rows: usize,
+    ) {
+        let (out, ends) = (slice_mut(out, room), slice_mut(ends, end_count));
+        raw::wkb_raw_column_write(&column.column(), options, out, ends, slice_mut(statuses, rows))
+    }
+    wkb_raw_collect(
+        column: &RawColumn, rows: usize, kind: u32, dimension: u32, options: &Options, out: *mut u8, room: usize,
+        size: &mut u64, fault: &mut WkbFault, row: &mut u64,
+    ) -> u32 {
+        raw::wkb_raw_collect(&column.column(), rows, kind, dimension, options, slice_mut(out, room), size, fault, row)
+    }
+    wkb_raw_column_coordinates(
+        column: &RawColumn, dimension: u32, out: &RawLevelSlices, row_ends: *mut u64, row_count: usize,
+        totals: &mut Totals, statuses: *mut u8, rows: usize,
+    ) {
+        let mut levels = LevelSlices {
+            words: slice_mut(out.words, out.words_room),
+            ring_ends: slice_mut(out.ring_ends, out.ring_room),
+            single_ends: slice_mut(out.single_ends, out.single_room),
+        };
+        let (row_ends, statuses) = (slice_mut(row_ends, row_count), slice_mut(statuses, rows));
+        raw::wkb_raw_column_coordinates(&column.column(), dimension, &mut levels, row_ends, totals, statuses)
+    }
+    wkb_raw_column_from_coordinates(
+        column: &RawLevelColumn, kind: u32, dimension: u32, options: &Options, out: *mut u8, room: usize,
+        ends: *mut u64, end_count: usize, statuses: *mut u8, rows: usize,
+    ) {
+        let levels = LevelColumn {
+            words: slice(column.words, column.word_count),
+            ring_ends: slice(column.ring_ends, column.ring_end_count),
+            rings: column.rings,
+            single_ends: slice(column.single_ends, column.single_end_count),
+            singles: column.singles,
+            row_ends: slice(column.row_ends, column.row_end_count),
+            rows: column.rows,
+            validity: slice(column.validity, column.validity_len),
+            validity_offset: column.validity_offset,
+        };
+        let (out, ends) = (slice_mut(out, room), slice_mut(ends, end_count));
+        raw::wkb_raw_column_from_coordinates(&levels, kind, dimension, options, out, ends, slice_mut(statuses, rows))
+    }
 }
