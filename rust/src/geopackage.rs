@@ -74,6 +74,3 @@ impl fmt::Display for NoHeader {
         f.pad(self.0)
     }
 }
-
-#[cfg(feature = "std")]
-impl std::error::Error for NoHeader {}

@@ -38,6 +38,18 @@ mod wkb_sink;
 mod wkb_view;
 mod wkb_write;
 
+#[cfg(feature = "std")]
+mod errors {
+    use std::error::Error;
+
+    impl Error for crate::AllocError {}
+    impl Error for crate::check::Refused {}
+    impl Error for crate::columns::NotCollected {}
+    impl Error for crate::error::General {}
+    impl Error for crate::error::Overflow {}
+    impl Error for crate::error::WkbError {}
+    impl Error for crate::geopackage::NoHeader {}
+}
 #[cfg(not(feature = "std"))]
 pub use rt::io;
 pub use rt::{AllocError, TryClone};

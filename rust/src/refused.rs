@@ -68,9 +68,6 @@ impl fmt::Display for Refused {
     }
 }
 
-#[cfg(feature = "std")]
-impl std::error::Error for Refused {}
-
 /// The error of a reader that rejects the same bytes.
 impl From<Refused> for WkbError {
     fn from(refused: Refused) -> WkbError {

@@ -273,15 +273,3 @@ impl fmt::Display for WkbError {
         }
     }
 }
-
-#[cfg(feature = "std")]
-impl std::error::Error for General {}
-
-#[cfg(feature = "std")]
-impl std::error::Error for Overflow {}
-
-#[cfg(feature = "std")]
-impl std::error::Error for AllocError {}
-
-#[cfg(feature = "std")]
-impl std::error::Error for WkbError {}

@@ -39,9 +39,6 @@ impl fmt::Display for NotCollected {
     }
 }
 
-#[cfg(feature = "std")]
-impl std::error::Error for NotCollected {}
-
 impl From<AllocError> for NotCollected {
     fn from(why: AllocError) -> NotCollected {
         NotCollected::Memory(why)
