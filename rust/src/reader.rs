@@ -40,8 +40,14 @@ use crate::error::WkbResult;
 #[inline]
 pub fn read_wkb(bytes: &[u8]) -> WkbResult<Wkb<'_>> {
     if may_be_collection(bytes) {
-        check(bytes)?;
+        return read_checked(bytes);
     }
+    Wkb::try_new(bytes)
+}
+
+#[inline(never)]
+fn read_checked(bytes: &[u8]) -> WkbResult<Wkb<'_>> {
+    check(bytes)?;
     Wkb::try_new(bytes)
 }
 
