@@ -316,7 +316,7 @@ static bool put_whole(dump *it) {
 }
 
 /* The flags of a GeoPackage's header, and the envelopes that it may have, by their numbers. */
-enum { LITTLE = 1, EMPTY = 16, EXTENDED = 32, FRONT = 8, ENVELOPE_COUNT = 5 };
+enum { LITTLE = 1, EMPTY = 16, EXTENDED = 32, LATER = 64 + 128, FRONT = 8, ENVELOPE_COUNT = 5 };
 static const char *const ENVELOPES[ENVELOPE_COUNT] = {"", "xy", "xyz", "xym", "xyzm"};
 static unsigned envelope_of(uint8_t flags) { return flags >> 1 & 7; }
 
@@ -332,6 +332,7 @@ const char *wkb_dump_read_header(const void *buf, size_t len, wkb_dump_header *h
   header->srs_id = (int32_t)next_number(&it, is_big);
   if (version != 0) return "unknown version of a GeoPackage header";
   if (flags & EXTENDED) return "an extended GeoPackage geometry, which is not WKB";
+  if (flags & LATER) return "unknown flags in a GeoPackage header";
   if (envelope_of(flags) >= ENVELOPE_COUNT) return "unknown envelope in a GeoPackage header";
   header->axes = ENVELOPES[envelope_of(flags)];
   it.at = FRONT;
