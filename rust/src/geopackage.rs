@@ -27,7 +27,8 @@ pub struct Header {
     pub is_empty: bool,
     /// The ordinates of its envelope: `""`, `"xy"`, `"xyz"`, `"xym"` or `"xyzm"`.
     pub axes: &'static str,
-    /// Of each of them the least and the greatest number, as the header says: of the geometry they may be others.
+    /// Of each of them the least and the greatest number, as the header says, and then zeros. Those of the geometry may
+    /// be others.
     pub envelope: [(f64, f64); 4],
 }
 
