@@ -1,7 +1,7 @@
 -- What the check finds in an input is what is rewritten and compared; what it rejects is what the reader rejects.
-use Rattle.std.proofs.Common.{◌≡◌, ℕ, List, ◌++◌, length, Bool, true, false}
-use Rattle.std.proofs.Common.{refl, sym, ap, ◌∙◌}
-use Rattle.std.proofs.Common.{take, drop, ◌↔◌, IsTrue, MatchBool, subst, arith, append-nil}
+use Rattle.std.proofs.Common.{◌≡◌, ℕ, ◌+◌, ◌≤◌, List, ◌++◌, length, length-append, length-drop, Bool, true, false}
+use Rattle.std.proofs.Common.{refl, sym, ap, ◌∙◌, is_some, take, drop, ◌↔◌, IsTrue, MatchBool, subst, arith}
+use Rattle.std.proofs.Common.{append-nil}
 use Rattle.std.proofs.Math.Seq.{take-append_seam}
 use Rattle.std.proofs.lemmas.List.{drop_all}
 use Rattle.std.proofs.lemmas.List.Edits.{sets, sets-eq}
@@ -9,28 +9,56 @@ use Rattle.wkb_geom.specs.declared.common.Endianness.{Endianness}
 use Rattle.wkb_geom.specs.declared.common.Form.{Form}
 use Rattle.wkb_geom.specs.declared.common.Form.TheVariants.{Iso, Ewkb}
 use Rattle.wkb_geom.specs.declared.error.WkbError.{WkbError}
-use Rattle.wkb_geom.specs.Encodings.{encoding, IsRewriting, IsRewritingWithSrid}
+use Rattle.wkb_geom.specs.Encodings.{encoding, form_srid, IsRewriting, IsRewritingWithSrid}
 use Rattle.wkb_geom.specs.Errors.{Tells}
 use Rattle.wkb_geom.specs.Fronts.{Front}
 use Rattle.wkb_geom.specs.Geometries.{geometry_of}
+use Rattle.wkb_geom.specs.Numbers.{AreBytes}
+use Rattle.wkb_geom.specs.Refusals.{srid_size}
 use Rattle.wkb_check.specs.Known.{HasGeometry}
 use Rattle.wkb_check.specs.Public.{DescribesFront, DescribesOnlyFront, IsRefusedFor}
 use Rattle.wkb_check.specs.declared.answer.Refused.{Refused}
 use Rattle.wkb_check.specs.declared.answer.Summary.{Summary}
 use Rattle.wkb_read.specs.Reads.{IsRefusal}
 use Rattle.wkb_check.proofs.Ahead.{here}
+use Rattle.wkb_rewrite.proofs.Measured.{long_of, measured}
 use Rattle.wkb.specs.Canonical.{IsAccepted, HaveOneValue, HaveTwoValues, OverflowsWithSrid}
 
--- what was laid into a list of as many bytes is all that it then holds
-pub filled : (x old new items : List ℕ) (len n : ℕ) → length old ≡ len → len ≡ n → n ≡ length x → new ≡ sets old 0 x
-    → take len (new ++ drop (length new) items) ≡ x
-filled x old new items len n long is fits laid =
-    let new_is : new ≡ x =
-    laid ∙ sets-eq x old 0 (omega (arith, long, is, fits))
-    ∙ ap (λ n. x ++ drop n old) (omega arith)
-    ∙ ap (λ l. x ++ l) (drop_all (length x) old (omega (arith, long, is, fits))) ∙ append-nil x in
-    ap (λ n. take n (new ++ drop (length new) items)) (is ∙ fits ∙ sym (ap length new_is))
+-- what was laid at the start of a list is followed by what was there
+laid_over : (x old new items : List ℕ) (len : ℕ) → length old ≡ len → length x ≤ len → new ≡ sets old 0 x
+    → take len (new ++ drop (length new) items) ≡ x ++ drop (length x) old
+laid_over x old new items len long fits laid =
+    let new_is : new ≡ x ++ drop (length x) old =
+    laid ∙ sets-eq x old 0 (omega (arith, long, fits)) ∙ ap (λ n. x ++ drop n old) (omega arith) in
+    let whole : len ≡ length new =
+    omega (arith, ap length new_is, length-append x (drop (length x) old), length-drop (length x) old, long, fits) in
+    ap (λ n. take n (new ++ drop (length new) items)) whole
     ∙ take-append_seam new (drop (length new) items) ∙ new_is
+
+-- of a list of as many bytes it is all
+pub filled : (x old new items : List ℕ) (len : ℕ) → length old ≡ len → len ≡ length x → new ≡ sets old 0 x
+    → take len (new ++ drop (length new) items) ≡ x
+filled x old new items len long fits laid =
+    laid_over x old new items len long (omega (arith, fits)) laid
+    ∙ ap (λ l. x ++ l) (drop_all (length x) old (omega (arith, long, fits))) ∙ append-nil x
+
+-- and so it is of a longer one that is cut
+pub cut : (x old new items : List ℕ) (len n : ℕ) → length old ≡ len → length x ≤ len → n ≡ length x
+    → new ≡ sets old 0 x
+    → take n (take len (new ++ drop (length new) items)) ≡ x
+cut x old new items len n long fits is laid =
+    ap (take n) (laid_over x old new items len long fits laid) ∙ ap (λ k. take k (x ++ drop (length x) old)) is
+    ∙ take-append_seam x (drop (length x) old)
+
+most_srid : (some : Bool) → srid_size some ≤ 4
+most_srid some = grind arith
+
+-- an encoding is at most an SRID longer than the geometry that the check found
+pub longest : {buf : List ℕ} {found : Summary} (order : Endianness) (form : Form) → DescribesFront buf found
+    → AreBytes buf → (g : HasGeometry buf)
+    → length (encoding order form (geometry_of g.value)) ≤ found.bytes + 4
+longest {buf = buf} order form d are g =
+    omega (arith, measured order form buf g are (long_of d g), most_srid (is_some (form_srid form)))
 
 -- what was made of it is its rewriting
 pub made : {buf : List ℕ} {found : Summary} {order : Endianness} {form : Form} {out : List ℕ}

@@ -17,11 +17,9 @@ use std::alloc::Global;
 use wkb_check::{Summary, check};
 use wkb_geom::code::POLYGON;
 use wkb_geom::error::{WkbError, WkbResult};
-use wkb_geom::header::MAX_HEADER_SIZE;
+use wkb_geom::header::{MAX_HEADER_SIZE, SRID_SIZE};
 use wkb_geom::{Endianness, Form};
-use wkb_rewrite::{
-    Copied, encoded_size, have_one_value, lay_one_piece, lay_pieces, size_with_own_srid,
-};
+use wkb_rewrite::{Copied, have_one_value, lay_one_piece, lay_pieces, size_with_own_srid};
 use wkb_write::WriteOptions;
 
 /// The encoding under the options of the geometry at the start of the bytes.
@@ -141,7 +139,9 @@ fn rewritten(
     if let Some(copied) = Copied::of(buf, found, options) {
         return copied_to_vec(alloc, &copied);
     }
-    let mut encoding = vec![in alloc; 0; encoded_size(buf, found, options.form)]?;
-    lay_pieces(buf, options, encoding.as_mut_slice());
+    // An encoding is at most an SRID longer than the geometry, so that no walk is needed for its size.
+    let mut encoding = vec![in alloc; 0; found.bytes + SRID_SIZE]?;
+    let size = lay_pieces(buf, options, encoding.as_mut_slice());
+    encoding.truncate(size);
     Ok(encoding)
 }
