@@ -1,7 +1,7 @@
 -- Values are equal exactly where their shares are.
-use Rattle.std.proofs.Common.{◌≡◌, ◌↔◌, ℕ, ◌&&◌, ◌==◌, List, ◌∷◌, replicate, refl, sym, ap, ◌∙◌, subst, true, Bool}
+use Rattle.std.proofs.Common.{◌≡◌, ◌↔◌, ℕ, ◌&&◌, List, ◌∷◌, replicate, refl, sym, ap, ◌∙◌, subst, true, Bool}
 use Rattle.std.proofs.Common.{arith, zero, suc, ◌*◌, nat_lt, if◌then◌else◌}
-use Rattle.wkb_laws.specs.Prelude.{Endianness, Form, LittleEndian, Iso, AreBytes, Spells, encoding, geometry_of}
+use Rattle.wkb_laws.specs.Prelude.{Endianness, Form, LittleEndian, Iso, AreBytes, encoding, geometry_of}
 use Rattle.wkb_laws.specs.Prelude.{all_nan, empty_word, width}
 use Rattle.wkb_laws.proofs.Values.{Good, AreBytes-front, spelled_good}
 use Rattle.wkb_laws.proofs.OneFront.{SameSpelling, one_spelling}
@@ -9,7 +9,7 @@ use Rattle.wkb_laws.proofs.Rewritings.{one_encoding}
 use Rattle.wkb_check.specs.declared.pieces.Piece.{Piece}
 use Rattle.wkb_check.specs.declared.pieces.Pieces.{Pieces}
 use Rattle.wkb_check.specs.Known.{HasGeometry}
-use Rattle.wkb_rewrite.specs.Shares.{Share, share_in, is_empty_point, own_words, written_words, word_count}
+use Rattle.wkb_rewrite.specs.Shares.{Share, share_in, is_empty_point, written_words, word_count}
 use Rattle.wkb_rewrite.proofs.ValueShares.{shares_of, shares_same}
 use Rattle.wkb_rewrite.proofs.Encodings.{shares_encoding, shares_encoded}
 use Rattle.wkb_rewrite.proofs.Held.{own_long, written_empty, written_own}
@@ -21,9 +21,7 @@ shares_at g = shares_of g.spelled g.value
 -- the same bytes begin with one geometry
 pub same_spelling : {a b : List ℕ} (g : HasGeometry a) (h : HasGeometry b) → a ≡ b
     → SameSpelling g.spelled h.spelled g.value h.value g.begins.front h.begins.front g.rest h.rest
-same_spelling g h e =
-    one_spelling g.spelled h.spelled g.value h.value g.begins.front h.begins.front g.rest h.rest g.begins.first
-    h.begins.first (sym g.begins.whole ∙ e ∙ h.begins.whole)
+same_spelling g h e = grind (arith, one_spelling)
 
 -- its encoding is that of its shares
 pub encoded : {buf : List ℕ} (order : Endianness) (form : Form) (g : HasGeometry buf)
@@ -37,10 +35,7 @@ value_good g b =
 
 pub shares_of_one : {a b : List ℕ} (g : HasGeometry a) (h : HasGeometry b) → g.value ≡ h.value
     → shares_at g ≡ shares_at h
-shares_of_one g h e =
-    ap (shares_of g.spelled) e
-    ∙ shares_same g.spelled h.spelled h.value g.begins.front h.begins.front
-    (subst (λ v. Spells g.spelled v g.begins.front) e g.begins.first) h.begins.first
+shares_of_one g h e = grind (arith, shares_of, shares_same)
 
 pub value_of_shares : {a b : List ℕ} (g : HasGeometry a) (h : HasGeometry b) → AreBytes a → AreBytes b
     → shares_at g ≡ shares_at h → g.value ≡ h.value
@@ -67,13 +62,7 @@ module _ {a b : List ℕ} {v w : Pieces} {xs ys : List Share} (l : Compared a b 
   unlike e = let first = both e in cc
 
   pub like : share_in a x ≡ share_in b y → Compared a b new more xs ys
-  like e = record {
-    left = m.others;
-    right = n.others;
-    firsts = m.left;
-    seconds = n.left;
-    same = (λ f. let others = both f in cc, λ f. l.same.1 (m.first ∙ (λ i. e i ∷ f i) ∙ sym n.first));
-  }
+  like e = grind arith
 
 -- ---- two pieces
 
@@ -89,10 +78,7 @@ empty_by point empty n own e = grind (arith, empty_is_nan)
 pub empty_told : (a : List ℕ) (x : Piece) (b : List ℕ) (y : Piece) → x.kind ≡ y.kind
     → written_words a x ≡ written_words b y
     → is_empty_point a x ≡ is_empty_point b y
-empty_told a x b y k e =
-    empty_by (x.kind == 1) (all_nan (own_words a x)) (word_count x) (own_words a x) refl
-    ∙ (λ i. (k i == 1) && all_nan (e i))
-    ∙ sym (empty_by (y.kind == 1) (all_nan (own_words b y)) (word_count y) (own_words b y) refl)
+empty_told a x b y k e = grind (arith, empty_by)
 
 pub words_as_many : (x y : Piece) → x.kind ≡ y.kind → x.dimension ≡ y.dimension → x.count ≡ y.count
     → word_count x ≡ word_count y

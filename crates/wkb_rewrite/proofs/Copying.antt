@@ -4,7 +4,7 @@ use Rattle.std.proofs.Common.{is_some, None, refl, sym, ap, ◌∙◌, subst, ar
 use Rattle.std.proofs.Common.{false, true, Bool}
 use Rattle.std.specs.Prelude.{◌&&◌, ◌==◌}
 use Rattle.wkb_laws.specs.Prelude.{number, all_nan}
-use Rattle.wkb_laws.specs.Prelude.{Endianness, Form, AreBytes, Iso, Ewkb, form_srid, inner, type_of, type_dimension}
+use Rattle.wkb_laws.specs.Prelude.{Endianness, Form, AreBytes, form_srid, inner, type_of, type_dimension}
 use Rattle.wkb_geom.specs.Reading.{type_kind}
 use Rattle.wkb_laws.proofs.Parts.{take_front}
 use Rattle.wkb_geom.specs.Refusals.{srid_size}
@@ -25,7 +25,7 @@ use Rattle.wkb_rewrite.proofs.Measured.{srid_sizes, measured}
 use Rattle.wkb_rewrite.proofs.Laying.{header_of_some}
 use Rattle.wkb_rewrite.proofs.Spelled.{pieces_say}
 use Rattle.wkb_sink.proofs.Lengths.{length-header}
-use Rattle.wkb_rewrite.proofs.Standing.{Spans, span_on, own_body, IsGeometry, IsThere, geometry_there, next_there}
+use Rattle.wkb_rewrite.proofs.Standing.{Spans, span_on, own_body, IsGeometryThere, IsThere, geometry_there, next_there}
 use Rattle.wkb_rewrite.proofs.Standing.{there_span}
 use Rattle.wkb_rewrite.proofs.Comparing.{encoded}
 
@@ -34,8 +34,7 @@ abbrev pieces_encoding : List ℕ → Endianness → Form → List Piece → Lis
 pieces_encoding buf order form ps = shares_encoding order form (map (share_in buf) ps)
 
 inner_srid : (form : Form) → form_srid (inner form) ≡ None
-inner_srid Iso = refl
-inner_srid (Ewkb srid) = refl
+inner_srid form = grind arith
 
 -- What the walk came past behind the first piece stands as it is written.
 pub record StandSoFar (buf : List ℕ) (order : Endianness) (form : Form) (w : Pieces) (first : Piece)
@@ -62,17 +61,7 @@ module _ {buf : List ℕ} {order : Endianness} {form : Form} where
   pub first_stands : (w : Pieces) (first : Piece) (g : HasGeometry buf)
       → IsTaken w (pieces_of 0 g.spelled g.value) first → w.at ≡ own_end first → w.bytes.now ≡ buf
       → StandSoFar buf order form w first g
-  first_stands w first g taken at_is same = record {
-    others = taken.rest;
-    left = taken.rest;
-    so_far = [];
-    all = taken.first;
-    ahead = taken.ahead;
-    same = same;
-    spans = record { is = ap (λ k. drop k buf) (sym at_is) };
-    whole = refl;
-    srids = refl;
-  }
+  first_stands w first g taken at_is same = grind arith
 
   pub still_ahead : {w : Pieces} {first : Piece} {g : HasGeometry buf} → StandSoFar buf order form w first g
       → HasAhead w
@@ -114,7 +103,7 @@ all_stand {buf = buf} options {inside = inside} {w = w} {first = first} {bytes =
     outermost inside_is long l none order_is some fits start_is =
     let order = options.endianness in
     let form = options.form in
-    let own = subst (IsGeometry buf 0) (sym (outermost g)) (geometry_there b 0 g) in
+    let own = subst (IsGeometryThere buf 0) (sym (outermost g)) (geometry_there b 0 g) in
     let head : List ℕ = header_of options (type_of first.kind first.dimension) in
     let body : List ℕ = own_body buf order first in
     let tail : List ℕ = body ++ l.so_far in

@@ -32,9 +32,7 @@ pub record Left (buf : List ℕ) (order : Endianness) (form : Form) (w : Pieces)
 module _ {buf : List ℕ} {order : Endianness} {form : Form} {w : Pieces} {at : ℕ} {out before whole : List ℕ}
     (l : Left buf order form w at out before whole) where
   pub left_none : l.shares ≡ [] → (at ≡ length whole) × (out ≡ sets before 0 whole)
-  left_none none =
-      let nothing : shares_encoding order form l.shares ≡ [] = ap (shares_encoding order form) none in
-      (omega (arith, ap length nothing), ap (sets out at) (sym nothing) ∙ l.laid)
+  left_none none = grind arith
 
   module _ {new : Pieces} {p : Piece} (n : Next buf new l.shares p) where
     abbrev pub own : List ℕ
@@ -114,7 +112,4 @@ module _ {buf : List ℕ} {found : Summary} (d : DescribesFront buf found) {p : 
 
   pub alone_laid : {out new : List ℕ} {end : ℕ} → IsLaid out new 0 end own_encoding
       → record { size : IsFrontSize buf options.endianness options.form end; laid : LaysFront buf options out new }
-  alone_laid {out = out} p = record {
-    size = λ g. omega (arith, ap length (alone g));
-    laid = λ g. p.laid ∙ ap (sets out 0) (sym (alone g));
-  }
+  alone_laid p = grind (arith, alone)

@@ -1,11 +1,11 @@
 -- The encoding of a value is that of its shares.
 use Rattle.std.proofs.Common.{◌≡◌, ℕ, List, [], ◌∷◌, ◌++◌, length, map, refl, sym, ap, ◌∙◌, append-nil, append_assoc}
+use Rattle.std.proofs.Common.{arith}
 use Rattle.std.specs.List.{flat_map, concat}
-use Rattle.wkb_laws.specs.Prelude.{Endianness, Dimension, Form, Iso, Ewkb, Coordinate, Value, Values, no_members}
-use Rattle.wkb_laws.specs.Prelude.{member, dimension, members, each, point, line_string, polygon, multi_point}
-use Rattle.wkb_laws.specs.Prelude.{multi_line_string, multi_polygon, collection, Spelling, node, Spellings}
-use Rattle.wkb_laws.specs.Prelude.{no_spellings, spelling, Spells, SpellsEach, Wanted, geometry_of, geometries_of}
-use Rattle.wkb_laws.specs.Prelude.{encoding, encodings, inner, number_bytes}
+use Rattle.wkb_laws.specs.Prelude.{Endianness, Dimension, Form, Coordinate, Value, Values, no_members, member}
+use Rattle.wkb_laws.specs.Prelude.{dimension, members, each, Spelling, node, Spellings, no_spellings, spelling, Spells}
+use Rattle.wkb_laws.specs.Prelude.{SpellsEach, Wanted, geometry_of, geometries_of, encoding, encodings, inner}
+use Rattle.wkb_laws.specs.Prelude.{number_bytes}
 unfoldable use Rattle.wkb_laws.specs.Prelude.{words_encoding, coordinates_encoding, point_encoding}
 unfoldable use Rattle.wkb_laws.specs.Prelude.{line_string_encoding, polygon_encoding, members_encoding}
 use Rattle.wkb_laws.proofs.Values.{same_dimension, count-geometries_of}
@@ -20,8 +20,7 @@ shares_encoding order form [] = []
 shares_encoding order form (x ∷ xs) = share_encoding order form x ++ shares_encoding order (inner form) xs
 
 pub inner_twice : (form : Form) → inner (inner form) ≡ inner form
-inner_twice Iso = refl
-inner_twice (Ewkb srid) = refl
+inner_twice form = grind arith
 
 -- inside a geometry the form stays the same, so that shares can be encoded list by list
 pub shares_append : (order : Endianness) (form : Form) (xs ys : List Share) → inner form ≡ form
@@ -55,17 +54,8 @@ inside order form t =
 pub encoded_apart : (order : Endianness) (form : Form) (t : Value)
     → encoding order form (geometry_of t) ≡ share_encoding order form (own_share t) ++ inside order form t
 unfolding point_encoding line_string_encoding coordinates_encoding polygon_encoding members_encoding words_encoding
-encoded_apart order form (point d c) = simp (same_dimension d, append-nil)
-encoded_apart order form (line_string d cs) = simp (same_dimension d, append-nil, words_joined order cs)
-encoded_apart order form (polygon d rings) = simp (same_dimension d, append-nil, append_assoc)
-encoded_apart order form (multi_point d points) =
-    simp (same_dimension d, append-nil, append_assoc, each_encoded order (inner form) (point d) points)
-encoded_apart order form (multi_line_string d lines) =
-    simp (same_dimension d, append-nil, append_assoc, each_encoded order (inner form) (line_string d) lines)
-encoded_apart order form (multi_polygon d polygons) =
-    simp (same_dimension d, append-nil, append_assoc, each_encoded order (inner form) (polygon d) polygons)
-encoded_apart order form (collection d ts) =
-    simp (same_dimension d, append-nil, append_assoc, count-geometries_of ts)
+encoded_apart order form t =
+    grind (arith, same_dimension, append-nil, words_joined, append_assoc, each_encoded, count-geometries_of)
 
 mutual
   pub shares_encoded : (order : Endianness) (form : Form) (s : Spelling) (t : Value) (x : List ℕ) → Spells s t x

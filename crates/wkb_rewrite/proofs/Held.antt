@@ -9,7 +9,7 @@ use Rattle.std.specs.Str.{bytes_eq}
 use Rattle.std.proofs.lemmas.Slice.Eq.{bytes_eq-Decides}
 use Rattle.wkb_geom.specs.contracts.common.Endianness.{the_type}
 use Rattle.std.proofs.lemmas.Option.{get_or_from_slice_get}
-use Rattle.wkb_laws.specs.Prelude.{Endianness, BigEndian, LittleEndian, AreBytes, length-items, empty_word}
+use Rattle.wkb_laws.specs.Prelude.{Endianness, AreBytes, length-items, empty_word}
 unfoldable use Rattle.wkb_laws.specs.Prelude.{number, number_bytes, words_encoding}
 use Rattle.wkb_geom.specs.Reading.{items}
 use Rattle.wkb_laws.proofs.Parts.{field_taken}
@@ -70,9 +70,7 @@ held_long {order = order} {words = words} h = ap length h.is ∙ words_length or
 
 word_is : {order : Endianness} {words bytes : List ℕ} (i : ℕ) → Holds order words bytes → i < length words
     → number order 8 (drop (8 * i) bytes) ≡ get_or words i 0
-word_is {order = order} {words = words} i h more =
-    ap (λ z. number order 8 (drop (8 * i) z)) h.is
-    ∙ sym (get_or_from_slice_get words i _ 0 (word_at order words i h.fit more))
+word_is i h more = grind (arith, get_or_from_slice_get, word_at)
 
 pub word_next : {order : Endianness} {words bytes : List ℕ} (i : ℕ) → Holds order words bytes → i < length bytes / 8
     → drop i words ≡ number order 8 (drop (8 * i) bytes) ∷ drop (i + 1) words
@@ -96,14 +94,10 @@ same_held {order = order} {ws = ws} {vs = vs} h k e =
     ∙ word_is i k (omega arith))
 
 pub same_order : (x y : Endianness) → sameb the_type x y ≡ true → x ≡ y
-same_order BigEndian BigEndian e = refl
-same_order LittleEndian LittleEndian e = refl
-same_order _ _ e = absurd cc
+same_order x y e = grind arith
 
 pub other_order : (x y : Endianness) → sameb the_type x y ≡ false → x ≡ other y
-other_order BigEndian LittleEndian e = refl
-other_order LittleEndian BigEndian e = refl
-other_order _ _ e = absurd cc
+other_order x y e = grind arith
 
 -- in one order the words are the same exactly where the bytes are
 pub same_words : {order : Endianness} {ws vs xs ys : List ℕ} (same : Bool) → Holds order ws xs → Holds order vs ys
@@ -124,9 +118,7 @@ module _ {o q : Endianness} {ws vs xs ys : List ℕ} (i : ℕ) (h : Holds o ws x
 
   pub words_on : number o 8 (drop (8 * i) xs) ≡ number q 8 (drop (8 * i) ys) → take i ws ≡ take i vs
       → take (i + 1) ws ≡ take (i + 1) vs
-  words_on same before =
-      take_more_same ws vs i 0 (omega (arith, held_long h)) (omega (arith, held_long k)) before
-      (sym first ∙ same ∙ second)
+  words_on same before = grind (arith, take_more_same, held_long, first, second)
 
   pub words_differ : number o 8 (drop (8 * i) xs) ≢ number q 8 (drop (8 * i) ys) → IsTrue false ↔ (ws ≡ vs)
   words_differ differ = (λ no. absurd cc, λ e. absurd (differ (first ∙ ap (λ l. get_or l i 0) e ∙ sym second)))

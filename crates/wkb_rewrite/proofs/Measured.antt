@@ -3,7 +3,7 @@ use Rattle.std.proofs.Common.{◌≡◌, ℕ, ◌+◌, ◌*◌, ◌≤◌, List,
 use Rattle.std.proofs.Common.{length-append}
 use Rattle.wkb_laws.specs.Prelude.{Endianness, Dimension, Form, Coordinate, AreBytes, Value, Values, no_members, member}
 use Rattle.wkb_laws.specs.Prelude.{dimension, members, Spelling, node, Spellings, no_spellings, spelling, Spells}
-use Rattle.wkb_laws.specs.Prelude.{SpellsEach, kind, multi_point, Wanted, srid_count, srid_count_each, srid_size}
+use Rattle.wkb_laws.specs.Prelude.{SpellsEach, kind, Wanted, srid_count, srid_count_each, srid_size}
 use Rattle.wkb_laws.specs.Prelude.{form_srid, geometry_of, encoding}
 use Rattle.wkb_laws.proofs.Lengths.{spelled_length, encoding_length, value_size, srid_size_is, none_without_members}
 use Rattle.wkb_laws.proofs.Lengths.{none_in_points}
@@ -71,8 +71,7 @@ mutual
 none_inside : (h : Header) (words : List ℕ) (ss : Spellings) (t : Value) (x : List ℕ) → Spells (node h words ss) t x
     → kind t ≤ 4
     → srid_count_each ss ≡ 0
-none_inside h words ss (multi_point d l) x a low = none_in_points d ss _ a.second.rest a.second.second
-none_inside h words ss _ x a low = search (arith, none_without_members)
+none_inside h words ss t x a low = grind (arith, none_in_points, none_without_members)
 
 pub own_srid_alone : (at : ℕ) (s : Spelling) (t : Value) (x : List ℕ) → Spells s t x → (p : Piece) → p ≡ piece_of at s t
     → p.kind ≤ 4

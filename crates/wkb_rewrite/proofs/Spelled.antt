@@ -1,11 +1,11 @@
 -- What the pieces of a geometry say is what its value says.
-use Rattle.std.proofs.Common.{◌≡◌, ℕ, zero, suc, ◌+◌, ◌*◌, List, [], ◌∷◌, ◌++◌, drop, map, None, Some, refl, ap, ◌∙◌}
+use Rattle.std.proofs.Common.{◌≡◌, ℕ, zero, suc, ◌+◌, ◌*◌, List, [], ◌∷◌, ◌++◌, drop, map, refl, ap, ◌∙◌}
 use Rattle.std.proofs.Common.{arith, replicate, append-nil, drop-drop, add_comm, mul-one, if◌then◌else◌}
 use native.Mathlib.Numerals.{unary_clauses}
 use Rattle.std.specs.Prelude.{◌&&◌, ◌==◌}
 use Rattle.std.proofs.lemmas.List.{map-append}
 use Rattle.std.specs.List.{concat}
-use Rattle.wkb_laws.specs.Prelude.{Endianness, Dimension, Coordinate, Value, Values, member, dimension, point, members}
+use Rattle.wkb_laws.specs.Prelude.{Endianness, Dimension, Coordinate, Value, Values, member, dimension, members}
 use Rattle.wkb_laws.specs.Prelude.{width, all_nan, empty_word, number, Begins, coordinates, Spelling, node, Spellings}
 use Rattle.wkb_laws.specs.Prelude.{no_spellings, spelling, no_members, Spells}
 unfoldable use Rattle.wkb_laws.specs.Prelude.{point_words}
@@ -51,11 +51,7 @@ module _ (buf : List ℕ) (p : Piece) where
 
   share_is : (x : Subject) → IsPieceOf buf p x → share_in buf p ≡ share_of x
   unfolding point_words
-  share_is (whole (node h words ss) (point d None)) m =
-      rw (own _ m) (simp (m.kind_is, m.dimension_is, m.count_is, append-nil, m.point_is, mul-one (width d)))
-  share_is (whole (node h words ss) (point d (Some c))) m =
-      rw (own _ m) (simp (m.kind_is, m.dimension_is, m.count_is, append-nil, m.point_is))
-  share_is _ m = rw (own _ m) (simp (m.kind_is, m.dimension_is, m.count_is))
+  share_is x m = grind (arith, own, append-nil, mul-one)
 
 -- ---- all pieces
 

@@ -42,11 +42,11 @@ BodyStands buf from p =
     own_end p ≤ length buf → is_empty_point buf p ≡ false → Spans buf from (own_end p) (own_body buf p.order p)
 
 -- what begins at this byte has this piece: a ring, or a geometry
-pub record IsRing (buf : List ℕ) (at : ℕ) (p : Piece) : Type 0 where
+pub record IsRingThere (buf : List ℕ) (at : ℕ) (p : Piece) : Type 0 where
   pub none : p.kind ≡ 0
   pub body : BodyStands buf at p
 
-pub record IsGeometry (buf : List ℕ) (at : ℕ) (p : Piece) : Type 0 where
+pub record IsGeometryThere (buf : List ℕ) (at : ℕ) (p : Piece) : Type 0 where
   pub some : p.kind ≢ 0
   pub header : p.begin + 5 ≤ length buf
   pub begins : p.begin ≡ at
@@ -54,8 +54,8 @@ pub record IsGeometry (buf : List ℕ) (at : ℕ) (p : Piece) : Type 0 where
   pub body : BodyStands buf (p.begin + (5 + srid_size (is_some p.srid))) p
 
 pub data IsThere (buf : List ℕ) (at : ℕ) (p : Piece) : Type 0 where
-  ring : IsRing buf at p → IsThere buf at p
-  geometry : IsGeometry buf at p → IsThere buf at p
+  ring : IsRingThere buf at p → IsThere buf at p
+  geometry : IsGeometryThere buf at p → IsThere buf at p
 
 some_kind : (t : Value) → kind t ≢ 0
 some_kind (point d c) e = omega arith
@@ -83,7 +83,7 @@ module _ {buf : List ℕ} (b : AreBytes buf) where
       (omega (arith, own_end_is p))
 
   ring_there : (order : Endianness) (d : Dimension) (at : ℕ)
-      → IsRing buf at (ring_piece order d at (number order 4 (drop at buf)))
+      → IsRingThere buf at (ring_piece order d at (number order 4 (drop at buf)))
   ring_there order d at =
       let p = ring_piece order d at (number order 4 (drop at buf)) in
       let ends = own_end_is p in
@@ -93,11 +93,11 @@ module _ {buf : List ℕ} (b : AreBytes buf) where
             span_on (number_span order at (at + 4) (omega arith) refl) (words_span p inside some);
       }
 
-  pub geometry_there : (at : ℕ) (g : HasGeometry (drop at buf)) → IsGeometry buf at (piece_of at g.spelled g.value)
+  pub geometry_there : (at : ℕ) (g : HasGeometry (drop at buf)) → IsGeometryThere buf at (piece_of at g.spelled g.value)
   geometry_there at g = by g.spelled g.value g.begins
     where
       by : (s : Spelling) (t : Value) → Begins (Spells s t) (drop at buf) g.rest
-          → IsGeometry buf at (piece_of at s t)
+          → IsGeometryThere buf at (piece_of at s t)
       by (node h words ss) t begins =
           let x = begins.first in
           let p = piece_of at (node h words ss) t in

@@ -1,5 +1,5 @@
 -- The pieces that are to come, and what they say.
-use Rattle.std.proofs.Common.{◌≡◌, ℕ, ◌≤◌, List, [], ◌∷◌, length, map, Option, Some, None, refl, sym, ap, ◌∙◌}
+use Rattle.std.proofs.Common.{◌≡◌, ℕ, ◌≤◌, List, [], ◌∷◌, length, map, Option, Some, None, refl, sym, ap, ◌∙◌, rules}
 use Rattle.std.proofs.Common.{subst, arith, ◌↔◌, IsTrue, is_some, Bool, true, false, not}
 use Rattle.wkb_check.specs.declared.pieces.Piece.{Piece}
 use Rattle.wkb_check.specs.declared.pieces.Pieces.{Pieces}
@@ -18,12 +18,7 @@ pub record Rest (buf : List ℕ) (w : Pieces) (xs : List Share) : Type 0 where
 
 pub all_to_come : {buf : List ℕ} (g : HasGeometry buf) {w : Pieces} → IsAhead w (pieces_of 0 g.spelled g.value)
     → w.bytes.now ≡ buf → Rest buf w (shares_of g.spelled g.value)
-all_to_come {buf = buf} g ahead same = record {
-  pieces = pieces_of 0 g.spelled g.value;
-  ahead = ahead;
-  bytes = same;
-  say = pieces_say buf 0 g.spelled g.value g.rest g.begins;
-}
+all_to_come g ahead same = search (rules, pieces_say)
 
 pub some_ahead : {buf : List ℕ} {w : Pieces} {xs : List Share} → Rest buf w xs → HasAhead w
 some_ahead r = record { pieces = r.pieces; are = r.ahead }

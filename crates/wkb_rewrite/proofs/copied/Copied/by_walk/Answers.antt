@@ -5,9 +5,7 @@ use Rattle.wkb_rewrite.proofs.Copying.{first_stands, one_more_stands, still_ahea
 use Rattle.wkb_rewrite.proofs.copied.Copied.by_walk.Goals as goal
 
 pub loop-stands-init : goal.loop-stands-init
-loop-stands-init c = λ g.
-    let behind = c.behind-pieces.ensures in
-    first_stands _ c.outermost-first.result g (behind.steps g) behind.inside.ends behind.same
+loop-stands-init c = grind (arith, first_stands)
 
 pub pass_next-requires : goal.pass_next-requires
 pass_next-requires c =
