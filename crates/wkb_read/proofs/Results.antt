@@ -32,7 +32,7 @@ count_bounded buf r new h = grind (arith, reading_is_bounded_lem, counted_of)
 
 -- ---- a geometry that was read is at the start
 
-pub record IsRead (buf : List ℕ) (w : Item) (new : Counts) : Type 0 where
+pub record IsAtStart (buf : List ℕ) (w : Item) (new : Counts) : Type 0 where
   pub front : IsFront buf w
   pub one_front : IsOnlyFront buf w
   pub counts : CountsValue w.value new
@@ -44,11 +44,11 @@ only_front buf w p = λ s t rest f.
 
 read_by : (buf : List ℕ) (r : Reading Item) → Agrees buf r → (w : Item) (rest : List ℕ) (new : Counts)
     → r.1 ≡ Ok (w, rest) → Spent zero_counts new r.0
-    → IsRead buf w new
+    → IsAtStart buf w new
 read_by buf (c, Ok x) h w rest new is spent =
     let item : x.0 ≡ w = cc in
     let front : IsFront buf x.0 = record { rest = x.1; front = h.0; encoding_is = h.3 } in
-    subst (λ (i : Item). IsRead buf i new) item
+    subst (λ (i : Item). IsAtStart buf i new) item
     (record {
       front = front;
       one_front = only_front buf x.0 front;
@@ -57,7 +57,7 @@ read_by buf (c, Ok x) h w rest new is spent =
 read_by buf (c, Err f) h w rest new is spent = absurd cc
 
 pub is_read : (buf : List ℕ) (w : Wkb) (new : Counts) → ReadsAs (reading_of buf) (Ok w) zero_counts new
-    → IsRead buf w new
+    → IsAtStart buf w new
 is_read buf w new h = read_by buf (reading_of buf) (geometry_agrees_lem buf) w h.0.0 new h.0.1 h.1
 
 -- ---- a refusal, and its error

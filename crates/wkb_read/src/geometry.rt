@@ -17,7 +17,7 @@ use wkb_geom::{
 };
 use wkb_plain::{Line, Rect, Triangle};
 use wkb_view::any::AnyView;
-use wkb_view::as_written::AsWritten;
+use wkb_view::as_written::{AsWritten, flags_without_srid};
 use wkb_view::lent::are_bytes;
 use wkb_view::line_string::LineString;
 use wkb_view::multi_line_string::MultiLineString;
@@ -239,9 +239,7 @@ impl<'a> GeometryCollectionTrait for GeometryCollection<'a> {
 
 impl<'a> Wkb<'a> {
     ghost use Rattle.std.specs.Prelude.{◌≡◌, true, None, IfOk, IfErr, IfSome, IsSome};
-    ghost use Rattle.wkb_geom.specs.Encodings.{form_with_flags};
     ghost use Rattle.wkb_read.specs.Prelude.{srid_of, dimension, IsCollection, IsSpelledAsWritten};
-    ghost use Rattle.wkb_read.specs.Prelude.{LendsEncoding};
     ghost use Rattle.wkb_read.specs.Places.{collection_seen};
     ghost use Rattle.wkb_read.specs.Types.{geometry_type_of, IsListed};
     ghost use Rattle.wkb_read.specs.Reads.{Reads, Lends};
@@ -344,18 +342,6 @@ impl<'a> Wkb<'a> {
         }
     }
 
-    /// Its bytes, if they are known to be its encoding in this order, with EWKB's flags or without, and with no SRID.
-    #[inline(always)]
-    fn as_written_without_srid(&self, order: Endianness, has_flags: bool) -> Option<&[u8]>
-        ensures { LendsEncoding order (form_with_flags has_flags) (geometry_seen self.now) result }
-    {
-        if self.is_as_written(order, has_flags) {
-            Some(self.buf())
-        } else {
-            None
-        }
-    }
-
     /// The collection that this is, if it is one.
     pub fn as_geometry_collection(&self) -> Option<&GeometryCollection<'a>>
         ensures some { IsCollection self.now.value → IsSome result }
@@ -433,11 +419,11 @@ impl<'a> GeometryTrait for Wkb<'a> {
     /// None if a point in them is empty, and where there is an SRID or one is to be written.
     #[inline(always)]
     fn as_written(&self, order: Endianness, form: Form) -> Option<&[u8]> {
-        // Here the flags are constants, for which the compiler makes each call code of its own.
-        match form {
-            Form::Iso => self.as_written_without_srid(order, false),
-            Form::Ewkb { srid: None } => self.as_written_without_srid(order, true),
-            Form::Ewkb { srid: Some(_) } => None,
+        let has_flags = flags_without_srid(form)?;
+        if self.is_as_written(order, has_flags) {
+            Some(self.buf())
+        } else {
+            None
         }
     }
 
