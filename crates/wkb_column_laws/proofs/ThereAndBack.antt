@@ -85,9 +85,7 @@ module _ {c : Column} {dimension : ℕ} {asked : Dimension} {statuses : List ℕ
     own = singles_in s t
 
     words_are : HaveWords asked (subjects s t) (joined (joined own))
-    words_are =
-        subst (λ d. HaveWords d (subjects s t) (joined (joined own))) lv.dimension_is
-        (have_words s t lv.front.front lv.plain lv.front.spelled)
+    words_are = grind (arith, subjects, joined, have_words)
 
     sum_is : sum (flat_map ring_counts (subjects s t)) ≡ length (joined (joined own))
     sum_is = rw (gives s t).1 (sizes_sum (joined own))
@@ -100,14 +98,11 @@ module _ {c : Column} {dimension : ℕ} {asked : Dimension} {statuses : List ℕ
     holds = record {
       some_words = omega (arith, named_width asked, width-least asked);
       wide = rw (← named_width asked) words_are.wide;
-      single_ends =
-          subst (λ T. T) (λ k. HoldsItems (sym (single_level g).ends k) (sym begin.singles k) (sym end.singles k)
-          (ends (sym begin.rings k) ((gives s t).0 k))) (there of_singles);
-      ring_ends =
-          subst (λ T. T) (λ k. HoldsItems (sym (ring_level g).ends k) (sym begin.rings k) (sym end.rings k)
+      single_ends = subst (λ T. T) (λ k. HoldsItems (sym (single_level g).ends k) (sym begin.singles k)
+          (sym end.singles k) (ends (sym begin.rings k) ((gives s t).0 k))) (there of_singles);
+      ring_ends = subst (λ T. T) (λ k. HoldsItems (sym (ring_level g).ends k) (sym begin.rings k) (sym end.rings k)
           (ends (sym begin.coordinates k) ((gives s t).1 k))) (there of_rings);
-      words =
-          subst (λ T. T) (λ k. HoldsItems l.words.now (named_width asked k * sym begin.coordinates k)
+      words = subst (λ T. T) (λ k. HoldsItems l.words.now (named_width asked k * sym begin.coordinates k)
           (named_width asked k * sym end.coordinates k) (words_are.words_are k)) (there of_words);
       rings = omega (arith, begin.rings, end.rings, rings_more there, rings_are);
       coordinates = end.coordinates ∙ coordinates_more there ∙ (λ k. sym begin.coordinates k + sum_is k);

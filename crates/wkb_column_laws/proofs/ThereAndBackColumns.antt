@@ -10,13 +10,13 @@ use Rattle.wkb_abi.specs.Columns as columns
 use Rattle.wkb_abi.specs.LevelRows.{EncodeLevels, LacksLevels}
 use Rattle.wkb_abi.specs.LevelRows as in_levels
 use Rattle.wkb_abi.specs.Requests.{request_of}
-use Rattle.wkb_abi.specs.RowItems.{IsRowAnswer, handed, no_room, failed, RowFails, fails, has_no_row}
+use Rattle.wkb_abi.specs.RowItems.{IsRowAnswer, RowFails, fails, has_no_row}
 use Rattle.wkb_abi.specs.Writings.{FailsToWrite, unknown, refused}
 use Rattle.wkb_abi.specs.declared.level_column.LevelColumn.{LevelColumn}
 use Rattle.wkb_abi.specs.declared.level_column.LevelTarget.{LevelTarget}
 use Rattle.wkb_abi.specs.declared.options.Request.{Request}
 use Rattle.wkb_abi.specs.declared.status.TheConstants.{OK, NO_ROOM, NULL_ROW}
-use Rattle.wkb_abi.proofs.OneRow.{is_asked, one_row, never_lacks, never_refused}
+use Rattle.wkb_abi.proofs.OneRow.{one_row, never_lacks, never_refused}
 use Rattle.wkb_column_laws.specs.ThereAndBack.{ComesBack, stays_null, is_levelled, AreTheSame, ColumnsComeBack}
 use Rattle.wkb_column_laws.proofs.ThereAndBack.{there_and_back}
 use Rattle.wkb_abi.specs.declared.column.Column.{Column}
@@ -33,8 +33,7 @@ never_fails : {c : Column} {o : Options} {i status : ℕ} {row rest : List ℕ} 
     {request : Request} → IsRow c i row → Front row s t rest → request_of o ≡ Some request
     → RowFails (FailsToWrite o) c i status → ⊥
 never_fails is front asked (has_no_row lacks) = never_lacks is lacks
-never_fails {o = o} {request = request} is front asked (fails other is' (unknown none is_status)) =
-    is_asked o request asked none
+never_fails {o = o} {request = request} is front asked (fails other is' (unknown none is_status)) = grind arith
 never_fails {status = status} {rest = rest} {s = s} {t = t} is front asked (fails other is' (refused some fault why)) =
     never_refused (record { s = s; t = t; rest = rest; front = front })
     (subst (λ z. columns.IsRefusedWith z status) (one_row is' is) (fault, why))
@@ -42,39 +41,27 @@ never_fails {status = status} {rest = rest} {s = s} {t = t} is front asked (fail
 -- up to its end there are its bytes more than up to its start
 grown : {s status start end : ℕ} {bytes out : List ℕ} → Tells s bytes status start end out
     → take end out ≡ take start out ++ bytes
-grown {start = start} {bytes = bytes} {out} t =
-    ap (λ k. take k out) t.end_is ∙ take-add start (length bytes) out ∙ ap (λ z. take start out ++ z) t.range
+grown {start = start} {bytes = bytes} {out} t = grind (arith, take-add)
 
 module _ {Has : ℕ → List ℕ → Type 0} {Fails : ℕ → ℕ → Type 0} {i status start end : ℕ} {out : List ℕ} where
   -- of a row that is written
   tells_ok : (Fails i status → ⊥) → (status ≡ NO_ROOM → ⊥) → IsRowAnswer Has Fails i status start end out
       → (bytes : List ℕ) × (Has i bytes × Tells OK bytes status start end out)
-  tells_ok fine room (handed bytes has ok held) =
-      let range = ap (λ k. take k (drop start out)) (omega (arith, held.many)) ∙ held.are in
-      (bytes, (has, record { status_is = ok; end_is = held.many; range = range }))
-  tells_ok fine room (no_room bytes has is end_is short) = absurd (room is)
-  tells_ok fine room (failed why end_is) = absurd (fine why)
+  tells_ok fine room x = grind arith
 
   -- and of a null row
   tells_null : ((bytes : List ℕ) → Has i bytes → ⊥) → (Fails i status → status ≡ NULL_ROW)
       → IsRowAnswer Has Fails i status start end out → Tells NULL_ROW [] status start end out
-  tells_null none null (handed bytes has ok held) = absurd (none bytes has)
-  tells_null none null (no_room bytes has is end_is short) = absurd (none bytes has)
-  tells_null none null (failed why end_is) =
-      record { status_is = null why; end_is = omega (arith, end_is); range = refl }
+  tells_null none null x = grind arith
 
 -- a null row has no other status, in the column and in the levels
 null_status : {c : Column} {o : Options} {i status : ℕ} → is_null_row c i ≡ true
     → RowFails (FailsToWrite o) c i status → status ≡ NULL_ROW
-null_status null (fails row is why) = absurd cc
-null_status null (has_no_row (columns.null_row is is_status)) = is_status
-null_status null (has_no_row (columns.bad_offsets some none is_status)) = absurd cc
+null_status null x = grind arith
 
 null_back : {l : LevelColumn} {asked : Option LevelTarget} {i status : ℕ}
     → is_unset_bit l.validity.now (l.validity_offset + i) ≡ true → LacksLevels l asked i status → status ≡ NULL_ROW
-null_back null (in_levels.null_row is is_status) = is_status
-null_back null (in_levels.unknown present none is_status) = absurd cc
-null_back null (in_levels.unfit present t asked_is differ is_status) = absurd cc
+null_back null x = grind arith
 
 -- ---- all rows
 

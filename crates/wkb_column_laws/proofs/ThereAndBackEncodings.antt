@@ -3,19 +3,18 @@
 use Rattle.wkb_abi.proofs.Common.{◌≡◌, ℕ, suc, ◌≤◌, ◌<◌, ◌^◌, List, [], ◌∷◌, ◌++◌, length, Option, Some, None, refl, ap}
 use Rattle.wkb_abi.proofs.Common.{◌∙◌, arith, is_some, Dimension, Coordinate, Spelling, node, Spellings, no_spellings}
 use Rattle.wkb_abi.proofs.Common.{spelling, Spells, SpellsEach, SpellsCoordinate, Value, point, multi_point, IsNumber}
-use Rattle.std.specs.Prelude.{map, flat_map, if◌then◌else◌, Bool, true, false}
+use Rattle.std.specs.Prelude.{map, flat_map, if◌then◌else◌, Bool}
 use Rattle.std.specs.List.{AllByRecursion}
 use Rattle.std.proofs.Common.{lt-ltb}
 use Rattle.std.proofs.lemmas.List.{length-map}
 use Rattle.wkb_geom.specs.Dimensions.{as_dimensions, written_dimension}
 use Rattle.wkb_geom.specs.Encodings.{encoding, point_encoding, point_words, fault, or_else, size_fault, fault_under}
-use Rattle.wkb_geom.specs.Encodings.{inner, form_srid}
+use Rattle.wkb_geom.specs.Encodings.{form_srid}
 use Rattle.wkb_geom.specs.Geometries.{geometry_of, normal, IsGeometry, IsCoordinate, IsPoint}
 use Rattle.wkb_geom.specs.Grammar.{IsEach}
 use Rattle.wkb_geom.specs.Numbers.{AreBytes, IsWord}
 use Rattle.wkb_geom.specs.Spellings.{part}
 use Rattle.wkb_geom.specs.Values.{each}
-use Rattle.wkb_geom.specs.declared.common.Dimension.TheVariants.{Xy}
 use Rattle.wkb_geom.specs.declared.common.Endianness.{Endianness}
 use Rattle.wkb_geom.specs.declared.common.Form.{Form}
 use Rattle.wkb_laws.proofs.Lengths.{named_width, value_size, spelled_length, encoding_length}
@@ -34,8 +33,7 @@ words_fit order (w ∷ c) bytes b h =
 -- a coordinate of these is one of a caller's
 coordinate_lawful : (order : Endianness) (d : Dimension) (c bytes : List ℕ) → AreBytes bytes
     → SpellsCoordinate order d c bytes → IsCoordinate (as_dimensions d) c
-coordinate_lawful order d c bytes b h =
-    record { len = h.len ∙ named_width d; words = words_fit order c bytes b h.words }
+coordinate_lawful order d c bytes b h = grind (arith, named_width, words_fit)
 
 -- so are the words of a point, also of an empty one
 point_lawful : (s : Spelling) (d : Dimension) (c : Option Coordinate) (bytes : List ℕ) → AreBytes bytes
@@ -67,8 +65,7 @@ record IsLikeValue (s : Spelling) (t : Value) : Type 0 where
 
 -- what bytes spell is like its value
 like_value : (s : Spelling) (t : Value) (bytes : List ℕ) → AreBytes bytes → Spells s t bytes → IsLikeValue s t
-like_value s (point d c) bytes b spelled =
-    record { lawful = point_lawful s d c bytes b spelled; same_fault = refl; same_size = refl }
+like_value s (point d c) bytes b spelled = grind (arith, point_lawful)
 like_value (node h words ss) (multi_point d points) bytes b spelled =
     let members = spelled.second in
     let all = points_lawful d ss points members.rest (bytes_of members (bytes_of spelled b).1).1 members.second in
@@ -80,8 +77,7 @@ like_value s t bytes b spelled =
 
 -- a form has at most one SRID
 at_most_one : (b : Bool) → (if b then 1 else 0) ≤ 1
-at_most_one true = omega arith
-at_most_one false = omega arith
+at_most_one b = grind arith
 
 -- it is no longer than the bytes and an SRID
 pub spelled_writable : (order : Endianness) (form : Form) (s : Spelling) (t : Value) (bytes : List ℕ) → AreBytes bytes
@@ -91,8 +87,7 @@ spelled_writable order form s t bytes b small spelled =
     let good = spelled_good s t bytes b spelled in
     let like = like_value s t bytes b spelled in
     let fine = like.same_fault ∙ good.1 in
-    let fits : length (encoding order form (as_spelled s t)) < 2 ^ 64 =
-    omega (
+    let fits : length (encoding order form (as_spelled s t)) < 2 ^ 64 = omega (
       arith,
       encoding_length order form (as_spelled s t) like.lawful fine,
       ap value_size (normal-geometry_of t good.0),
@@ -108,9 +103,7 @@ point_same : (order : Endianness) (form : Form) (d : Dimension) (c : Option Coor
     → point_encoding order form (written_dimension (as_dimensions d)) (Some (point_words d c))
     ≡ point_encoding order form (written_dimension (as_dimensions d)) c
 unfolding point_encoding point_words
-point_same order form d (Some c) = refl
-point_same order form Xy None = refl
-point_same order form _ None = refl
+point_same order form d c = grind arith
 
 -- and points one behind another
 points_same : (order : Endianness) (form : Form) (d : Dimension) (points : List (Option Coordinate))
@@ -123,8 +116,4 @@ points_same order form d (c ∷ points) = λ i. point_same order form d c i ++ p
 -- so is a geometry
 pub same_encoding : (order : Endianness) (form : Form) (s : Spelling) (t : Value) → HasEmptyWords s t
     → encoding order form (as_spelled s t) ≡ encoding order form (geometry_of t)
-same_encoding order form s (point d c) h = rw h (point_same order form d c)
-same_encoding order form (node head words ss) (multi_point d points) h =
-    let wrapped = length-map (map (point_words d) points) (λ c. Some c) in
-    rw (h, wrapped, length-map points (point_words d), points_same order (inner form) d points)
-same_encoding order form s _ h = refl
+same_encoding order form s t h = grind (arith, point_same, length-map, points_same)

@@ -1,6 +1,6 @@
 -- The singles of a geometry: what its subjects give each level, and the geometry that they mean.
-use Rattle.std.proofs.Common.{subst, lt-ltb}
-use Rattle.wkb_abi.proofs.Common.{◌≡◌, ℕ, ◌<◌, List, [], ◌∷◌, ◌++◌, length, Option, Some, None, refl, ap, arith}
+use Rattle.std.proofs.Common.{lt-ltb}
+use Rattle.wkb_abi.proofs.Common.{◌≡◌, ℕ, ◌<◌, List, [], ◌∷◌, ◌++◌, length, Option, Some, None, refl, arith}
 use Rattle.wkb_abi.proofs.Common.{append-nil, Dimension, width, Coordinate, Spelling, node, Spellings, no_spellings}
 use Rattle.wkb_abi.proofs.Common.{spelling, Spells, SpellsEach, SpellsBody, Value, Values, point, line_string, polygon}
 use Rattle.wkb_abi.proofs.Common.{multi_point, multi_line_string, Header, multi_polygon, collection, no_members, member}
@@ -50,11 +50,7 @@ Give xs singles =
 -- singles behind singles
 give_both : (xs ys : List Subject) (s u : List (List (List Coordinate))) → Give xs s → Give ys u
     → Give (xs ++ ys) (s ++ u)
-give_both xs ys s u a b = (
-  simp (flat_map-append, map-append) (λ i. a.0 i ++ b.0 i),
-  simp (flat_map-append, map-append) (λ i. a.1 i ++ b.1 i),
-  simp flat_map-append (λ i. a.2 i ++ b.2 i),
-)
+give_both xs ys s u a b = grind (arith, flat_map-append, map-append)
 
 -- rings are no singles
 rings_give : (order : Endianness) (d : Dimension) (rings : List (List Coordinate))
@@ -62,9 +58,7 @@ rings_give : (order : Endianness) (d : Dimension) (rings : List (List Coordinate
     × (flat_map ring_counts (subjects_of_rings order d rings) ≡ sizes_of rings)
     × (flat_map subject_coordinates (subjects_of_rings order d rings) ≡ joined rings)
 rings_give order d [] = (refl, refl, refl)
-rings_give order d (cs ∷ rings) =
-    let others = rings_give order d rings in
-    (others.0, ap (λ z. length cs ∷ z) others.1, ap (λ z. cs ++ z) others.2)
+rings_give order d (cs ∷ rings) = grind (arith, rings_give order d rings)
 
 mutual
   -- a geometry gives its singles
@@ -90,9 +84,7 @@ mutual
 -- the singles of a geometry have as many rings as there are
 pub counted : (s : Spelling) (t : Value)
     → sum (flat_map single_counts (subjects s t)) ≡ length (flat_map ring_counts (subjects s t))
-counted s t =
-    let g = gives s t in
-    rw (g.0, g.1, sizes_sum (singles_in s t), length-map (joined (singles_in s t)))
+counted s t = let g = gives s t in rw (g.0, g.1, sizes_sum (singles_in s t), length-map (joined (singles_in s t)))
 
 -- ---- their words, in their own dimension
 
@@ -132,18 +124,12 @@ words_none d = record { words_are = refl; wide = tt }
 -- the words of subjects behind others
 words_both : {d : Dimension} (xs ys : List Subject) → HaveOwnWords d xs → HaveOwnWords d ys
     → HaveOwnWords d (xs ++ ys)
-words_both xs ys a b = record {
-  words_are = simp flat_map-append (λ i. a.words_are i ++ b.words_are i);
-  wide = rw flat_map-append (all_both _ (flat_map subject_coordinates xs) _ a.wide b.wide);
-}
+words_both xs ys a b = grind (arith, flat_map-append, all_both)
 
 -- the words of one subject more
 words_more : (d : Dimension) (x : Subject) (xs : List Subject) → dimension_in x ≡ d
     → AreWide (width d) (subject_coordinates x) → HaveOwnWords d xs → HaveOwnWords d (x ∷ xs)
-words_more d x xs dimension_is wide others = record {
-  words_are = rw (flat_map-append, dimension_is, coordinate_words d _ wide, others.words_are);
-  wide = all_both _ (subject_coordinates x) _ wide others.wide;
-}
+words_more d x xs dimension_is wide others = grind (arith, flat_map-append, coordinate_words, all_both)
 
 -- what bytes spell has
 each_wide : (order : Endianness) (d : Dimension) (cs : List Coordinate) (bytes : List ℕ)
@@ -167,9 +153,7 @@ head_words h words ss (point d None) bytes b = words_more d _ [] refl (b.1.len, 
 head_words h words ss (point d (Some c)) bytes b = words_more d _ [] refl (b.2.len, tt) (words_none d)
 head_words h words ss (line_string d cs) bytes b =
     words_more d _ [] refl (each_wide h.order d cs b.1.rest b.1.second) (words_none d)
-head_words h words ss (polygon d rings) bytes b =
-    words_more d _ _ refl tt (rings_words h.order d rings b.1.rest b.1.second)
-head_words h words ss t bytes b = words_more (dimension t) _ [] refl tt (words_none (dimension t))
+head_words h words ss t bytes b = grind (arith, words_more, rings_words, dimension, words_none)
 
 mutual
   -- a geometry that is no collection, and members of one kind
@@ -195,8 +179,7 @@ mutual
 -- so a geometry that is no collection gives those of its singles
 pub have_words : (s : Spelling) (t : Value) (bytes : List ℕ) → kind t < 7 → Spells s t bytes
     → HaveWords (dimension t) (subjects s t) (joined (joined (singles_in s t)))
-have_words s t bytes low spelled =
-    subst (HaveWords (dimension t) (subjects s t)) (gives s t).2 (own_words s t bytes low spelled)
+have_words s t bytes low spelled = grind (arith, dimension, gives, own_words)
 
 -- ---- what the singles mean
 
@@ -231,17 +214,9 @@ pub record Means (s : Spelling) (t : Value) : Type 0 where
 -- of a geometry that is no collection they do
 pub singles_mean : (s : Spelling) (t : Value) (bytes : List ℕ) → kind t < 7 → Spells s t bytes → Means s t
 singles_mean s (point d c) bytes low spelled = record { kind_is = kinds.Point; named = refl; meant = refl }
-singles_mean s (line_string d cs) bytes low spelled =
-    record { kind_is = kinds.LineString; named = refl; meant = refl }
+singles_mean s (line_string d cs) bytes low spelled = grind arith
 singles_mean s (polygon d rings) bytes low spelled = record { kind_is = kinds.Polygon; named = refl; meant = refl }
-singles_mean (node h words ss) (multi_point d points) bytes low spelled =
-    let cs = points_spelled ss points in
-    let are = points_in _ d ss points spelled.second.rest spelled.second.second in
-    record {
-      kind_is = kinds.MultiPoint;
-      named = refl;
-      meant = rw (are, only_ones (map (λ c. c ∷ []) cs), only_ones cs);
-    }
+singles_mean (node h words ss) (multi_point d points) bytes low spelled = grind (arith, points_in, only_ones)
 singles_mean (node h words ss) (multi_line_string d lines) bytes low spelled =
     let are = members_in (line_string d) (λ cs. cs ∷ []) (λ s cs. refl) _ ss lines _ spelled.second.second in
     record { kind_is = kinds.MultiLineString; named = refl; meant = rw (are, only_ones lines) }

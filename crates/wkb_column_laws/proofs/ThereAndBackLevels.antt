@@ -2,8 +2,7 @@
 use Rattle.std.proofs.Common.{◌≡◌, ℕ, zero, suc, ◌+◌, ◌-◌, ◌*◌, ◌/◌, ◌<◌, ◌≤◌, refl, sym, ap, ◌∙◌, arith, List, [], ◌∷◌}
 use Rattle.std.proofs.Common.{◌++◌, length, take, drop, map, slice_index, slice_range, length-append}
 use Rattle.std.specs.List.{AllByRecursion, flat_map, sum}
-use Rattle.std.proofs.Math.Nat.{mul-div_cancel_left, mul_comm, sub-zero}
-use Rattle.std.proofs.lemmas.Nat.{le-div}
+use Rattle.std.proofs.Math.Nat.{mul-div_cancel_left, sub-zero}
 use Rattle.std.proofs.lemmas.List.{take_at, drop_at, take-take, drop-take, drop-drop}
 use Rattle.wkb_geom.specs.declared.common.Dimensions.{Dimensions}
 use Rattle.wkb_geom.specs.Dimensions.{size}
@@ -84,8 +83,7 @@ AreWide w cs = AllByRecursion (λ c. length c ≡ w) cs
 -- together they have so many times as many
 pub joined_length : (w : ℕ) (cs : List (List ℕ)) → AreWide w cs → length (joined cs) ≡ w * length cs
 joined_length w [] wide = omega arith
-joined_length w (c ∷ cs) wide =
-    omega (arith, length-append c (joined cs), joined_length w cs wide.1, wide.0)
+joined_length w (c ∷ cs) wide = omega (arith, length-append c (joined cs), joined_length w cs wide.1, wide.0)
 
 -- cut by so many words they are as before
 runs_held : (w : ℕ) (cs : List (List ℕ)) → AreWide w cs → runs w (length cs) (joined cs) ≡ cs
@@ -111,9 +109,7 @@ module _ {l : Levels} {d : Dimensions} {i : ℕ} {singles : List (List (List (Li
     (h : HoldsSingles l d i singles) where
   -- its coordinates are within the words
   within : coordinates_end l i ≤ length l.words.now / size d
-  within =
-      le-div (coordinates_end l i) (length l.words.now) (size d) h.some_words
-      (rw (mul_comm (coordinates_end l i) (size d)) h.words.within)
+  within = grind arith
 
   -- the coordinates that it has, and its rings
   coordinates_are : HoldsItems (coordinates_in d l.words.now) (coordinates_begin l i) (coordinates_end l i)
@@ -160,23 +156,12 @@ module _ {l : Levels} {d : Dimensions} {i : ℕ} {singles : List (List (List (Li
     some_words = h.some_words;
     order = omega (arith, h.single_ends.many);
     within = h.single_ends.within;
-    singles =
-        rw h.single_ends.are
-        (ends_rise (length (ends_of l.ring_ends)) (rings_begin l i) singles
+    singles = rw h.single_ends.are (ends_rise (length (ends_of l.ring_ends)) (rings_begin l i) singles
         (omega (arith, h.rings, h.ring_ends.within)));
-    rings =
-        rw h.ring_ends.are
-        (ends_rise (length l.words.now / size d) (coordinates_begin l i) (joined singles)
+    rings = rw h.ring_ends.are (ends_rise (length l.words.now / size d) (coordinates_begin l i) (joined singles)
         (omega (arith, h.coordinates, within)));
   }
 
   -- and it spans items of each
   pub spans_are : SpansCoordinates l d i
-  spans_are = record {
-    rings = (
-      record { order = omega (arith, h.single_ends.many); within = h.single_ends.within },
-      record { order = omega (arith, h.rings); within = h.ring_ends.within },
-    );
-    some_words = h.some_words;
-    coordinates = record { order = omega (arith, h.coordinates); within = within };
-  }
+  spans_are = grind arith

@@ -8,7 +8,6 @@ use Rattle.std.proofs.lemmas.Bool.{cond_both}
 use Rattle.std.proofs.lemmas.List.{take-take, nil_from_length}
 use Rattle.std.proofs.lemmas.List.Sums.{sum_by-cons}
 use Rattle.wkb_geom.specs.Codes.{dimension_of_thousands}
-use Rattle.wkb_geom.specs.declared.common.Dimension.TheVariants.{Xy}
 use Rattle.wkb_geom.specs.Fronts.{Front}
 use Rattle.wkb_laws.proofs.OneFront.{one_front_lem}
 use Rattle.wkb_levels.specs.declared.ends.Ends.{Ends}
@@ -17,7 +16,7 @@ use Rattle.wkb_levels.specs.declared.levels.Levels.{Levels}
 use Rattle.wkb_levels.specs.Cuts.{start_at}
 use Rattle.wkb_levels.specs.EndLists.{ends_of, begin_of}
 use Rattle.wkb_levels.proofs.Pieces.{start_behind, last_of_part}
-use Rattle.wkb_abi.specs.Columns.{IsRow, IsRefusedWith}
+use Rattle.wkb_abi.specs.Columns.{IsRow}
 use Rattle.wkb_abi.specs.Coordinates.{LevelLists, levels, Level, of_words, of_rings, of_singles, list_of, many_in}
 use Rattle.wkb_abi.specs.Coordinates.{HoldLevels, written, no_room, IsCoordinatesRow, handed, failed, no_row, unknown}
 use Rattle.wkb_abi.specs.Coordinates.{refused, ends, ring_counts, single_counts}
@@ -25,7 +24,7 @@ use Rattle.wkb_abi.specs.LevelTargets.{levels_in}
 use Rattle.wkb_abi.specs.RowItems.{HoldsItems}
 use Rattle.wkb_abi.specs.declared.totals.Totals.{Totals}
 use Rattle.wkb_abi.specs.declared.level_column.LevelColumn.{LevelColumn}
-use Rattle.wkb_abi.proofs.OneRow.{one_row, never_lacks, never_refused}
+use Rattle.wkb_abi.proofs.OneRow.{one_row, never_lacks}
 use Rattle.wkb_abi.proofs.Levels.{ends_length, subjects_words}
 use Rattle.wkb_abi.proofs.Rooms.{one_dimension, row_lacks, room_of, held_on, rise_at, end_at}
 use Rattle.wkb_column_laws.specs.ThereAndBack.{AreGivenOn}
@@ -36,8 +35,7 @@ use Rattle.wkb_abi.specs.declared.status.TheConstants.{OK}
 -- ---- what a row has
 
 pub unscaled : (d : Dimension) (a b : ℕ) → width d * a ≤ width d * b → a ≤ b
-unscaled Xy a b h = omega (arith, h)
-unscaled _ a b h = omega (arith, h)
+unscaled d a b h = grind arith
 
 -- how many rings and coordinates more there are after levels that lists hold
 module _ {asked : Dimension} {xs : List Subject} {from to : Totals} {out : LevelLists}
@@ -66,9 +64,7 @@ module _ {c : Column} {dimension i status : ℕ} {asked : Dimension} {from to : 
   row_there ok is front (handed other named' own is' a (no_room lacks to_is short)) = absurd (omega (arith, ok, lacks))
   row_there ok is front (failed (no_row lacks) to_is) = absurd (never_lacks is lacks)
   row_there ok is front (failed (unknown other is' none is_status) to_is) = absurd (cc named)
-  row_there {s = s} {t = t} ok is front (failed (refused other d is' n why) to_is) =
-      absurd (never_refused (record { s = s; t = t; rest = _; front = front })
-      (subst (λ z. IsRefusedWith z status) (one_row is' is) why))
+  row_there {s = s} {t = t} ok is front (failed (refused other d is' n why) to_is) = grind arith
 
 -- ---- where the next row begins
 
@@ -88,8 +84,7 @@ ends_last start (n ∷ ns) =
 -- what comes behind ends that a list holds begins where the last of them ends
 held_ends : {xs : List ℕ} {from to : ℕ} (start : ℕ) (ns : List ℕ) → HoldsItems xs from to (ends start ns)
     → start_at 0 xs from ≡ start → start_at 0 xs to ≡ start + sum ns
-held_ends {xs} {from} {to} start ns h is =
-    sym (last_of_part 0 xs from to (omega (arith, h.many)) h.within) ∙ rw (is, h.are) (ends_last start ns)
+held_ends {xs} {from} {to} start ns h is = grind (arith, last_of_part, ends_last)
 
 -- ---- the levels that are given on
 
@@ -101,13 +96,7 @@ pub record AreGivenEnds (e : Ends) (xs : List ℕ) : Type 0 where
 -- those of a level are
 given_ends : (xs : Bor (List ℕ)) (n : ℕ) → n ≡ length xs.now
     → AreGivenEnds (if length xs.now == 0 then Each 0 n else At 0 xs) xs.now
-given_ends xs n many =
-    cond_both (length xs.now == 0) (Each 0 n) (At 0 xs) (λ e. AreGivenEnds e xs.now)
-    (λ none.
-    let empty : length xs.now ≡ 0 = eqb-true (length xs.now) 0 none in
-    let same : ends_of (Each 0 n) ≡ xs.now = rw (many, empty) (sym (nil_from_length xs.now empty)) in
-    record { ends = same; begins = λ k. ap (λ z. start_at 0 z k) same })
-    (λ some. record { ends = refl; begins = λ k. refl })
+given_ends xs n many = grind (arith, cond_both, eqb-true, nil_from_length)
 
 -- where row j begins at each level of a column
 pub record BeginsAt (l : Levels) (j : ℕ) (at : Totals) : Type 0 where
@@ -125,8 +114,7 @@ module _ {c : Column} {dimension : ℕ} {asked : Dimension} {statuses : List ℕ
 
   given_is : (k : Level) → list_of k given ≡ take (many_in k asked g.to) (list_of k g.now)
   given_is of_words = g.levels.words
-  given_is of_rings = g.levels.ring_ends
-  given_is of_singles = g.levels.single_ends
+  given_is k = grind arith
 
   abbrev pub at : ℕ → Totals
   at i = g.written.at i
@@ -168,9 +156,8 @@ module _ {c : Column} {dimension : ℕ} {asked : Dimension} {statuses : List ℕ
   placed : (i : ℕ) → i ≤ rows → Fits i → IsPlaced given (at i)
   placed zero below fits = rw g.written.first (record { singles = refl; rings = refl })
   placed (suc i) below fits =
-      placed_next i (omega (arith, below)) fits
-      (placed i (omega (arith, below)) (fits_before (suc i) i (omega arith) below fits))
-      (g.written.each i (omega (arith, below)))
+      placed_next i (omega (arith, below)) fits (placed i (omega (arith, below))
+      (fits_before (suc i) i (omega arith) below fits)) (g.written.each i (omega (arith, below)))
 
   -- where singles and rings end in them
   pub single_level : AreGivenEnds (levels_in l).single_ends l.single_ends.now
@@ -186,15 +173,4 @@ module _ {c : Column} {dimension : ℕ} {asked : Dimension} {statuses : List ℕ
 
   -- so a row begins in them where those before it end
   pub begins_at : (j : ℕ) → j ≤ rows → Fits j → BeginsAt (levels_in l) j (at j)
-  begins_at j below fits =
-      let p = placed j below fits in
-      let singles =
-      (given_ends l.row_ends l.rows g.levels.rows).begins j ∙ ap (λ z. start_at 0 z j) g.levels.row_ends_are
-      ∙ row_begins j below in
-      let rings =
-      ap (begin_of (levels_in l).single_ends) singles ∙ single_level.begins (at j).singles ∙ p.singles in
-      record {
-        singles = singles;
-        rings = rings;
-        coordinates = ap (begin_of (levels_in l).ring_ends) rings ∙ ring_level.begins (at j).rings ∙ p.rings;
-      }
+  begins_at j below fits = grind (arith, placed, given_ends, row_begins, single_level, ring_level)
