@@ -2,11 +2,9 @@
 use Rattle.wkb_abi.proofs.Common.{◌≡◌, ℕ, suc, ◌+◌, ◌-◌, ◌<◌, ◌≤◌, ◌^◌, List, [], ◌∷◌, ◌++◌, length, drop, set, refl}
 use Rattle.wkb_abi.proofs.Common.{sym, ap, ◌∙◌, arith, length-append, sets, length-sets, width, number, Piece}
 use Rattle.wkb_abi.proofs.Common.{Dimension, Endianness, Spelling, Value, Subject, subjects, subjects_of_each}
-use Rattle.std.proofs.Common.{add-one}
-use Rattle.std.proofs.Common.{get_or, length-set}
+use Rattle.std.proofs.Common.{add-one, get_or, length-set}
 use Rattle.std.proofs.lemmas.List.{set_comm, set-set}
 use lib.Seq.{get_or-set_same}
-use Rattle.wkb_geom.specs.declared.common.Dimension.TheVariants.{Xy}
 use Rattle.wkb_check.specs.Known.{AreWhole, HasGeometry, HasGeometries}
 use Rattle.wkb_check.specs.Subjects.{ring, subjects_of_rings}
 use Rattle.wkb_check.specs.Pieces.{own_end, piece_of, piece_at, ring_piece, last_end, first_rings}
@@ -18,8 +16,7 @@ use Rattle.wkb_abi.specs.declared.parts.PartPlace.{PartPlace}
 use Rattle.wkb_abi.specs.Tables.{entry_of, entry_at, entries_from, geometry_entries, EndsPart}
 
 pub width_is_small : (d : Dimension) → width d < 2 ^ 32
-width_is_small Xy = omega arith
-width_is_small _ = omega arith
+width_is_small d = grind arith
 
 pub as_many_entries : (index at : ℕ) (xs : List Subject) → length (entries_from index at xs) ≡ length xs
 as_many_entries index at [] = refl
@@ -27,12 +24,9 @@ as_many_entries index at (x ∷ xs) = omega (arith, as_many_entries (index + 1) 
 
 entries_append : (index at next to : ℕ) (xs ys : List Subject) → next ≡ index + length xs → to ≡ last_end at xs
     → entries_from index at xs ++ entries_from next to ys ≡ entries_from index at (xs ++ ys)
-entries_append index at next to [] ys n e =
-    let here : next ≡ index = omega (arith, n) in
-    λ i. entries_from (here i) (e i) ys
+entries_append index at next to [] ys n e = grind arith
 entries_append index at next to (x ∷ xs) ys n e =
-    ap (λ es. entry_at index at x ∷ es)
-    (entries_append (index + 1) (own_end (piece_at at x)) next to xs ys (omega (arith, n)) e)
+    grind (arith, entries_append (index + 1) (own_end (piece_at at x)) next to xs ys (omega (arith, n)) e)
 
 -- What is left of some subjects, from the next byte on, makes of the table at the next index what all make of it.
 pub record AreLeft (xs all : List Subject) (index at first start : ℕ) (parts before : List Part) : Type 0 where
@@ -46,14 +40,7 @@ left_more : {xs all : List Subject} {index at first start next to : ℕ} {parts 
     → new ≡ sets parts index (entries_from index at own) → next ≡ index + length own → to ≡ last_end at own
     → AreLeft others all next to first start new before
 left_more {index = index} {at} {next = next} {to} {parts} left own others are laid n b =
-    let left = rw are at left in
-    let more = sets_after parts index next (entries_from index at own) (entries_from next to others)
-    (omega (arith, n, as_many_entries index at own)) in
-    record {
-      bytes = rw (b, ← end_append at own others) left.bytes;
-      laid = rw laid (more ∙ ap (sets parts index) (entries_append index at next to own others n b) ∙ left.laid);
-      long = ap length laid ∙ length-sets parts index (entries_from index at own) ∙ left.long;
-    }
+    grind (arith, sets_after, as_many_entries, end_append, entries_append, length-sets)
 
 -- of the rings of a polygon these are left
 pub record RingsLeft (buf : List ℕ) (order : Endianness) (d : Dimension) (n index at : ℕ) (parts : List Part)
@@ -86,9 +73,7 @@ ring_laid {buf} {order} {d} {n} {m} {index} {at} {parts} l e p next ends is =
 module _ {A : Type 0} where
   set_first : (l : List A) (i j : ℕ) (a : A) (vs : List A) → i < j → set (sets l j vs) i a ≡ sets (set l i a) j vs
   set_first l i j a [] h = refl
-  set_first l i j a (v ∷ vs) h =
-      set_first (set l j v) i (suc j) a vs (omega (arith, h))
-      ∙ ap (λ r. sets r (suc j) vs) (set_comm l j i v a (λ e. omega (arith, e, h)))
+  set_first l i j a (v ∷ vs) h = grind (arith, set_comm, set_first (set l j v) i (suc j) a vs (omega (arith, h)))
 
   -- an item that is laid last, before others
   laid_first : (l r : List A) (i : ℕ) (a : A) (vs : List A) → r ≡ sets l (i + 1) vs → set r i a ≡ sets l i (a ∷ vs)
@@ -132,16 +117,7 @@ pub ended : (old before : List Part) (i : ℕ) (e none : Part) (end next : ℕ) 
     → set (set old i (with_end (get_or old i none) end)) i
     (with_next (get_or (set old i (with_end (get_or old i none) end)) i none) next)
     ≡ set before i (with_next (with_end e end) next)
-ended old before i e none end next there is =
-    let first = with_end (get_or old i none) end in
-    let was : get_or old i none ≡ e =
-    ap (λ l. get_or l i none) is
-    ∙ get_or-set_same before i e none (omega (arith, there, ap length is, length-set before i e)) in
-    let now : get_or (set old i first) i none ≡ first = get_or-set_same old i first none there in
-    set-set old i first (with_next (get_or (set old i first) i none) next)
-    ∙ (λ j. set (is j) i (with_next (now j) next))
-    ∙ set-set before i e (with_next first next)
-    ∙ (λ j. set before i (with_next (with_end (was j) end) next))
+ended old before i e none end next there is = grind (arith, get_or-set_same, length-set, set-set)
 
 -- ---- a geometry
 

@@ -27,22 +27,12 @@ no_subject = record { coordinates_are = refl; rings_are = refl; singles_are = re
 -- and so many have these and others
 both : {xs ys : List Subject} {c d cd r q rq s t st : ℕ} → Count xs c r s → Count ys d q t → cd ≡ c + d → rq ≡ r + q
     → st ≡ s + t → Count (xs ++ ys) cd rq st
-both {xs} {ys} a b c_is r_is s_is =
-    let rings = flat_map-append ring_counts xs ys in
-    let singles = flat_map-append single_counts xs ys in record {
-      coordinates_are = omega (arith, ap sum rings, sum_by-append (λ (n : ℕ). n));
-      rings_are = omega (arith, ap length rings, length-append {A = ℕ});
-      singles_are = omega (arith, ap length singles, length-append {A = ℕ});
-    }
+both {xs} {ys} a b c_is r_is s_is = grind (arith, flat_map-append, sum_by-append, length-append)
 
 -- and so many has one more
 more : {xs : List Subject} {c cd r rq s st : ℕ} (x : Subject) → Count xs c r s → cd ≡ sum (ring_counts x) + c
     → rq ≡ length (ring_counts x) + r → st ≡ length (single_counts x) + s → Count (x ∷ xs) cd rq st
-more x are c_is r_is s_is = record {
-  coordinates_are = omega (arith, sum_by-append (λ (n : ℕ). n));
-  rings_are = omega (arith, length-append {A = ℕ});
-  singles_are = omega (arith, length-append {A = ℕ});
-}
+more x are c_is r_is s_is = grind (arith, sum_by-append, length-append)
 
 rings_count : (order : Endianness) (d : Dimension) (rings : List (List Coordinate))
     → Count (subjects_of_rings order d rings) (sum_by length rings) (length rings) 0

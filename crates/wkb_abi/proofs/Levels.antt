@@ -1,14 +1,13 @@
 -- Words and ends that are written one after another, and how far they go.
-use Rattle.wkb_abi.proofs.Common.{◌≡◌, ℕ, suc, ◌+◌, ◌*◌, ◌≤◌, ◌<◌, ◌^◌, List, [], ◌∷◌, ◌++◌, length, drop, None}
+use Rattle.wkb_abi.proofs.Common.{◌≡◌, ℕ, suc, ◌+◌, ◌*◌, ◌≤◌, ◌<◌, ◌^◌, List, [], ◌∷◌, ◌++◌, length, drop}
 use Rattle.wkb_abi.proofs.Common.{slice_index, refl, ap, sym, ◌∙◌, arith, append_assoc, append-nil, length-append}
 use Rattle.wkb_abi.proofs.Common.{drop-drop, Dimension, width, number, Coordinate, Spelling, node, Spellings}
-use Rattle.wkb_abi.proofs.Common.{no_spellings, spelling, Value, Values, point, no_members, member, members, dimension}
+use Rattle.wkb_abi.proofs.Common.{no_spellings, spelling, Value, Values, no_members, member, members, dimension}
 use Rattle.wkb_abi.proofs.Common.{sets, length-sets, Endianness, HasGeometry, Piece, levels_of, Totals, Subject}
 use Rattle.wkb_abi.proofs.Common.{subjects, subjects_of_each}
-use Rattle.std.specs.Prelude.{sum, flat_map, nat_lt, Bool, true, false, cond}
+use Rattle.std.specs.Prelude.{sum, flat_map, nat_lt, Bool, cond}
 use Rattle.std.proofs.lemmas.List.Sums.{sum_by-cons, sum_by-append}
 use Rattle.std.proofs.lemmas.Option.{slice_get-get_or}
-use Rattle.wkb_geom.specs.declared.common.Dimension.TheVariants.{Xy}
 use Rattle.wkb_geom.specs.Items.{length-items}
 use Rattle.wkb_geom.specs.Reading.{coordinate, coordinates}
 use Rattle.wkb_laws.proofs.Parts.{item_at}
@@ -22,7 +21,7 @@ use Rattle.wkb_abi.specs.declared.level_slices.LevelSlices.{LevelSlices}
 use Rattle.wkb_abi.specs.PieceLevels.{ring_sizes, single_sizes, piece_words, PieceFits, with_piece, totals_with}
 use Rattle.wkb_abi.specs.RowItems.{end_of}
 use Rattle.wkb_check.proofs.Subjects.{ArePlaced, all_placed, says}
-use Rattle.wkb_check.specs.Subjects.{whole, ring, subjects_of_rings, dimension_in, subject_coordinates, rings_of}
+use Rattle.wkb_check.specs.Subjects.{whole, subjects_of_rings, subject_coordinates, rings_of}
 
 -- ---- words
 
@@ -30,13 +29,10 @@ use Rattle.wkb_check.specs.Subjects.{whole, ring, subjects_of_rings, dimension_i
 pub coordinate_word : (order : Endianness) (d : Dimension) (from n at : ℕ) (row : List ℕ) → n < width d
     → at ≡ from + 8 * n → number order 8 (drop at row) ≡ slice_index (coordinate order d (drop from row)) n
 coordinate_word order d from n at row h is =
-    ap (λ k. number order 8 (drop k row)) is ∙ ap (number order 8) (sym (drop-drop (8 * n) from row))
-    ∙ item_at 8 (number order 8) (width d) n (drop from row) _
-    (slice_get-get_or _ n 0 (omega (arith, h, length-items 8 (number order 8) (width d) (drop from row))))
+    grind (arith, number, drop-drop, item_at, width, slice_get-get_or, length-items)
 
 asked_length : (asked own : Dimension) (c : Coordinate) → length (words_asked asked own c) ≡ width asked
-asked_length Xy own c = refl
-asked_length _ own c = refl
+asked_length asked own c = grind arith
 
 -- n coordinates are still to be written
 pub record WordsLeft (asked own : Dimension) (order : Endianness) (row all : List ℕ) (n from at : ℕ) (out : List ℕ)
@@ -50,16 +46,7 @@ pub words_next : {asked own : Dimension} {order : Endianness} {row all : List �
     → next ≡ at + width asked → new ≡ sets out at (words_asked asked own (coordinate order own (drop from row)))
     → WordsLeft asked own order row all m to next new
 words_next {asked} {own} {order} {row} {m = m} {from} {at = at} {next} {out} left some to_is next_is new_is =
-    let more = rw some at left in
-    let first = words_asked asked own (coordinate order own (drop from row)) in
-    let one = asked_length asked own (coordinate order own (drop from row)) in
-    record {
-      inside = omega arith;
-      room = omega (arith, ap length new_is ∙ length-sets out at first);
-      written =
-          rw (new_is, to_is, ← drop-drop (8 * width own) from row)
-          (sets_after out at next first _ (omega arith) ∙ more.written);
-    }
+    grind (arith, asked_length, length-sets, drop-drop, width, sets_after)
 
 -- ---- ends
 
@@ -78,9 +65,7 @@ ends_append start to (n ∷ ns) ms is =
 -- what the piece of a subject gives each level
 own_sizes : (begin : ℕ) (x : Subject)
     → (ring_sizes (piece_at begin x) ≡ ring_counts x) × (single_sizes (piece_at begin x) ≡ single_counts x)
-own_sizes begin (whole (node h words ss) (point d c)) = (refl, refl)
-own_sizes begin (whole (node h words ss) _) = (refl, refl)
-own_sizes begin (ring order d cs) = (refl, refl)
+own_sizes begin x = grind arith
 
 -- the pieces that are to come, and what is known of them
 pub record Coming (w : Pieces) (P : List Piece → Type 0) : Type 0 where
@@ -118,11 +103,7 @@ totals_reached begin (x ∷ xs) at small =
 
 pub totals_next : {now : Pieces} {ps : List Piece} {p : Piece} {to all : Totals} (at : Totals) → IsTaken now ps p
     → to ≡ totals_with at p → totals_behind at ps ≡ all → Coming now (λ ps. totals_behind to ps ≡ all)
-totals_next at taken with left = record {
-  ps = taken.rest;
-  ahead = taken.ahead;
-  left = ap (λ to. totals_behind to taken.rest) with ∙ ap (totals_behind at) (sym taken.first) ∙ left;
-}
+totals_next at taken with left = grind arith
 
 -- ---- where singles end
 
@@ -140,15 +121,12 @@ rings_end : (order : Endianness) (d : Dimension) (rings : List (List Coordinate)
     → (at : ℕ) → single_ends at (subjects_of_rings order d rings ++ xs)
     ≡ ends (at + length rings) (flat_map single_counts (subjects_of_rings order d rings ++ xs))
 rings_end order d [] xs h at = h at ∙ ap (λ k. ends k (flat_map single_counts xs)) (omega arith)
-rings_end order d (cs ∷ rings) xs h at =
-    rings_end order d rings xs h (at + 1)
-    ∙ ap (λ k. ends k (flat_map single_counts (subjects_of_rings order d rings ++ xs))) (omega arith)
+rings_end order d (cs ∷ rings) xs h at = grind (arith, rings_end order d rings xs h (at + 1))
 
 -- a single counts its own ring, or those behind it
 single_opens : (s : Spelling) (t : Value)
     → sum (single_counts (whole s t)) ≡ length (ring_counts (whole s t)) + length (rings_of t)
-single_opens s (point d c) = refl
-single_opens s _ = omega arith
+single_opens s t = grind arith
 
 mutual
   geometry_ends : (s : Spelling) (t : Value) (xs : List Subject) → EndInTurn xs → EndInTurn (subjects s t ++ xs)
@@ -175,44 +153,33 @@ mutual
 
 -- slices that stay are the same all along
 pub stay_same : {a b c : LevelSlices} → AreSameSlices b c → AreSameSlices a b → AreSameSlices a c
-stay_same next before = record {
-  words_stay = next.words_stay ∙ before.words_stay;
-  ring_ends_stay = next.ring_ends_stay ∙ before.ring_ends_stay;
-  single_ends_stay = next.single_ends_stay ∙ before.single_ends_stay;
-}
+stay_same next before = grind arith
 
 pub wide_enough : (d : Dimension) (n : ℕ) → n ≤ width d * n
-wide_enough Xy n = omega arith
-wide_enough _ n = omega arith
+wide_enough d n = grind arith
 
 words_length : (asked own : Dimension) (cs : List Coordinate)
     → length (flat_map (words_asked asked own) cs) ≡ width asked * length cs
 words_length asked own [] = omega arith
-words_length asked own (c ∷ cs) =
-    omega (arith, length-append {A = ℕ}, asked_length asked own c, words_length asked own cs)
+words_length asked own (c ∷ cs) = grind (arith, length-append, asked_length, words_length asked own cs)
 
 -- a ring has as many coordinates as it counts, and nothing else has any
 subject_length : (x : Subject) → length (subject_coordinates x) ≡ sum (ring_counts x)
-subject_length (ring order d cs) = omega arith
-subject_length (whole (node h words ss) (point d None)) = refl
-subject_length (whole (node h words ss) _) = omega arith
+subject_length x = grind arith
 
 subject_words : (asked : Dimension) (x : Subject)
     → length (asked_subject_words asked x) ≡ width asked * sum (ring_counts x)
-subject_words asked x =
-    words_length asked (dimension_in x) (subject_coordinates x) ∙ ap (λ n. width asked * n) (subject_length x)
+subject_words asked x = grind (arith, words_length, width, subject_length)
 
 pub subjects_words : (asked : Dimension) (xs : List Subject)
     → length (flat_map (asked_subject_words asked) xs) ≡ width asked * sum (flat_map ring_counts xs)
 subjects_words asked [] = omega arith
 subjects_words asked (x ∷ xs) =
-    let sums = ap (λ n. width asked * n) (sum_by-append (λ n. n) (ring_counts x) (flat_map ring_counts xs)) in
-    omega (arith, length-append {A = ℕ}, subject_words asked x, subjects_words asked xs, sums)
+    grind (arith, width, sum_by-append, length-append, subject_words, subjects_words asked xs)
 
 words_if : (asked own : Dimension) (has : Bool) (cs : List Coordinate)
     → flat_map (words_asked asked own) (cond has cs []) ≡ cond has (flat_map (words_asked asked own) cs) []
-words_if asked own false cs = refl
-words_if asked own true cs = refl
+words_if asked own has cs = grind arith
 
 -- these items are still to be laid here, for which there is room, and then the list is this
 record ItemsLeft (out : List ℕ) (at : ℕ) (items all : List ℕ) : Type 0 where
@@ -223,13 +190,7 @@ record ItemsLeft (out : List ℕ) (at : ℕ) (items all : List ℕ) : Type 0 whe
 items_next : {out : List ℕ} {at : ℕ} {items all : List ℕ} → ItemsLeft out at items all → (next : ℕ)
     (first others : List ℕ) → items ≡ first ++ others → next ≡ at + length first
     → ItemsLeft (sets out at first) next others all
-items_next {out} {at} left next first others items_is next_is =
-    let long = length-sets out at first in
-    record {
-      short = omega arith;
-      room = omega (arith, ap length items_is ∙ length-append first others);
-      written = sets_after out at next first others next_is ∙ ap (sets out at) (sym items_is) ∙ left.written;
-    }
+items_next {out} {at} left next first others items_is next_is = grind (arith, length-sets, length-append, sets_after)
 
 -- there is room for these pieces, and with them the lists become these
 abbrev pub Fill : Dimension → List ℕ → LevelLists → Totals → LevelLists → List Piece → Type 0
@@ -243,8 +204,7 @@ module _ (asked : Dimension) (input : List ℕ) (all : LevelLists) where
       → ItemsLeft out.ring_ends at.rings (ends at.coordinates (flat_map ring_counts xs)) all.ring_ends
       → ItemsLeft out.single_ends at.singles (single_ends at.rings xs) all.single_ends
       → Fill asked input all at out (pieces_from begin xs)
-  fill begin [] at out placed w r s =
-      λ i. record { words = w.written i; ring_ends = r.written i; single_ends = s.written i }
+  fill begin [] at out placed w r s = grind arith
   fill begin (x ∷ xs) at out placed w r s =
       let p = piece_at begin x in
       let to = totals_with at p in
@@ -292,8 +252,7 @@ levels_next : {asked : Dimension} {input : List ℕ} (all : LevelLists) (at : To
     {new : LevelLists} {ps : List Piece} {p : Piece} {now : Pieces} → Fill asked input all at out ps
     → IsTaken now ps p → to ≡ totals_with at p → new ≡ with_piece asked input p at out
     → Coming now (Fill asked input all to new)
-levels_next all at out left taken with laid =
-    record { ps = taken.rest; ahead = taken.ahead; left = rw (with, laid) (rw taken.first at left).1 }
+levels_next all at out left taken with laid = grind arith
 
 module _ (asked : Dimension) (row : List ℕ) (from : Totals) (before : LevelSlices)
     (fits : HasRoomFor asked row from before) (short : length before.words.now < 2 ^ 63)

@@ -1,7 +1,6 @@
 -- What holds of one row of a column: it has one list of bytes, and no two answers.
-use Rattle.wkb_abi.proofs.Common.{◌≡◌, ◌≢◌, ℕ, List, Some, None, sym, ◌∙◌, IsAccepted, IsRow, IsRefusedWith, Column}
-use Rattle.wkb_abi.proofs.Common.{Options}
-use Rattle.std.specs.Prelude.{slice_range}
+use Rattle.std.proofs.Common.{arith}
+use Rattle.wkb_abi.proofs.Common.{◌≡◌, ◌≢◌, ℕ, List, Some, None, IsAccepted, IsRow, IsRefusedWith, Column, Options}
 use Rattle.wkb_laws.proofs.Outcomes.{never_both_lem}
 use Rattle.wkb_abi.specs.Columns.{LacksRow, null_row, bad_offsets}
 use Rattle.wkb_abi.specs.Requests.{request_of}
@@ -9,12 +8,7 @@ use Rattle.wkb_abi.specs.declared.options.Request.{Request}
 
 -- a row has one list of bytes
 pub one_row : {c : Column} {i : ℕ} {a b : List ℕ} → IsRow c i a → IsRow c i b → a ≡ b
-one_row {c} x y =
-    let p = x.slice in
-    let q = y.slice in
-    let starts : p.start ≡ q.start = p.span.start_is.number_is ∙ sym q.span.start_is.number_is in
-    let ends : p.end ≡ q.end = p.span.end_is.number_is ∙ sym q.span.end_is.number_is in
-    p.row_is ∙ (λ i. slice_range c.bytes.now (starts i) (ends i)) ∙ sym q.row_is
+one_row {c} x y = grind arith
 
 pub never_lacks : {c : Column} {i status : ℕ} {row : List ℕ} → IsRow c i row → LacksRow c i status → ⊥
 never_lacks is (null_row null is_status) = cc

@@ -1,8 +1,8 @@
 -- Items that are laid into lists row by row, and that with room for the totals no row lacks room.
 use Rattle.wkb_abi.proofs.Common.{◌≡◌, ℕ, zero, suc, ◌+◌, ◌*◌, ◌≤◌, ◌<◌, ◌^◌, List, length, drop, Some, refl, sym, ap}
 use Rattle.wkb_abi.proofs.Common.{◌∙◌, subst, arith, Dimension, width, set, sets, sets-eq, length-sets, ◌-◌}
-use Rattle.wkb_abi.proofs.Common.{DescribesFront, Summary, IsRow, Column, Totals, OK, NO_ROOM, Subject, subjects}
-use Rattle.wkb_abi.proofs.Common.{length-append, append_assoc, levels_of, ◌++◌}
+use Rattle.wkb_abi.proofs.Common.{DescribesFront, Summary, IsRow, Column, Totals, OK, NO_ROOM, subjects}
+use Rattle.wkb_abi.proofs.Common.{length-append, append_assoc, levels_of}
 use Rattle.std.specs.Prelude.{flat_map, take, sum, nat_lt, if◌then◌else◌}
 use Rattle.std.proofs.Common.{length-take, mul-add, lt-ltb}
 use Rattle.std.proofs.lemmas.Bool.{le-ltb}
@@ -11,16 +11,14 @@ use Rattle.std.proofs.lemmas.Slice.{drop-append-drop}
 use borrow.Author.Count.{below_more, below_none}
 use lib.Seq.{get_or-set_same, get_or-set_other}
 use Rattle.wkb_geom.specs.Codes.{dimension_of_thousands}
-use Rattle.std.proofs.Math.Nat.{mul-le-mul_left}
 use Rattle.wkb_abi.specs.Coordinates.{LevelLists, HasRoomUpTo, LevelsSuffice, totals_after, with_levels, ring_counts}
 use Rattle.wkb_abi.specs.Coordinates.{no_totals, Level, of_words, of_rings, of_singles, list_of, many_in, items_of}
-use Rattle.wkb_abi.specs.Coordinates.{AreLaid, written, no_room, LacksCoordinates, IsCoordinatesRow, handed, failed}
+use Rattle.wkb_abi.specs.Coordinates.{AreLaid, written, no_room, IsCoordinatesRow, handed, failed}
 use Rattle.wkb_abi.specs.Coordinates.{AreColumnCoordinates, IsCoordinatesStep}
 use Rattle.wkb_abi.specs.LevelLists.{LaysAny}
 use Rattle.wkb_abi.specs.RowItems.{HoldsItems, KeepsFrom, end_of}
 use Rattle.wkb_abi.specs.declared.level_slices.LevelSlices.{LevelSlices}
 use Rattle.wkb_abi.proofs.Levels.{AreSmall, ends_length, wide_enough, subjects_words}
-use Rattle.wkb_abi.proofs.Reasons.{coordinates_tell_other}
 use Rattle.wkb_abi.proofs.Rows.{statuses_more}
 
 -- ---- items in a list
@@ -29,29 +27,18 @@ module _ {A : Type 0} where
   -- a list has the items that are laid into it
   pub held_laid : (xs items : List A) (from to : ℕ) → to ≡ from + length items → to ≤ length xs
       → HoldsItems (sets xs from items) from to items
-  held_laid xs items from to many within = record {
-    many = many;
-    within = omega (arith, within, length-sets xs from items);
-    are =
-        let wide : to - from ≡ length items = omega (arith, many) in
-        let front = length-take-le from xs (omega (arith, many, within)) in
-        rw (sets-eq items xs from (omega (arith, many, within)), append_assoc, drop_at (take from xs) _ from front)
-        (take_at items (drop (from + length items) xs) (to - from) (sym wide));
-  }
+  held_laid xs items from to many within =
+      grind (arith, many, length-sets, items, length-take-le, sets-eq, append_assoc, drop_at, take_at)
 
   -- what is in front of them stays, and so does what is behind them
   pub front_laid : (xs items : List A) (at : ℕ) → at + length items ≤ length xs
       → take at (sets xs at items) ≡ take at xs
-  front_laid xs items at there =
-      rw (sets-eq items xs at there, append_assoc)
-      (take_at (take at xs) _ at (length-take-le at xs (omega (arith, there))))
+  front_laid xs items at there = grind (arith, sets-eq, items, there, append_assoc, take_at, length-take-le)
 
   pub behind_laid : (xs items : List A) (at n : ℕ) → at + length items ≤ length xs → at + length items ≤ n
       → KeepsFrom n xs (sets xs at items)
   behind_laid xs items at n there far =
-      let end = at + length items in
-      rw (sets-eq items xs at there) (drop-append-drop end xs (take at xs ++ items) n far
-      (omega (arith, length-append (take at xs) items, length-take-le at xs (omega (arith, there)))))
+      grind (arith, items, sets-eq, there, drop-append-drop, far, length-append, length-take-le)
 
   -- lists that are the same up to a number are so up to fewer
   pub fewer : (m n : ℕ) (xs ys : List A) → m ≤ n → take n xs ≡ take n ys → take m xs ≡ take m ys
@@ -79,9 +66,7 @@ one_dimension P n a b f g = let same : Some a ≡ Some b = sym f ∙ g in let on
 -- there is room in each list
 room_at : {asked : Dimension} {out : LevelLists} {to : Totals} → HasRoomUpTo asked out to → (k : Level)
     → many_in k asked to ≤ length (list_of k out)
-room_at room of_words = room.words_fit
-room_at room of_rings = room.rings_fit
-room_at room of_singles = room.singles_fit
+room_at room k = grind arith
 
 pub room_of : (asked : Dimension) (out : LevelLists) (to : Totals)
     → ((k : Level) → many_in k asked to ≤ length (list_of k out)) → HasRoomUpTo asked out to
@@ -91,8 +76,7 @@ room_of asked out to fits =
 -- a row that is laid into no list
 pub unchanged : {c : Column} {dimension i status : ℕ} {from to : Totals} {out : LevelLists}
     → IsCoordinatesRow c dimension i status from to out → IsCoordinatesStep c dimension i status from to out out
-unchanged row =
-    record { row = row; long = λ k. refl; front = λ k asked named. refl; kept = λ k n far. refl }
+unchanged row = record { row = row; long = λ k. refl; front = λ k asked named. refl; kept = λ k n far. refl }
 
 module _ {asked : Dimension} {row : List ℕ} {found : Summary} {from to : Totals} (before : LevelSlices)
     (d : DescribesFront row found) (to_is : to ≡ totals_after from (subjects d.spelled d.value)) where
@@ -155,24 +139,10 @@ record Rises (from to : Totals) : Type 0 where
   small : AreSmall to
   far : (k : Level) (asked : Dimension) → many_in k asked from ≤ many_in k asked to
 
-after_rises : (from : Totals) (xs : List Subject) → AreSmall from → Rises from (totals_after from xs)
-after_rises from xs small = record {
-  small = record { coordinates = omega arith; rings = omega arith; singles = omega arith };
-  far = far;
-}
-  where
-    far : (k : Level) (asked : Dimension) → many_in k asked from ≤ many_in k asked (totals_after from xs)
-    far of_words asked = mul-le-mul_left (width asked) (omega (arith, small))
-    far _ asked = omega (arith, small)
-
--- nor does a row
+-- those of a row
 row_rises : {c : Column} {dimension i status : ℕ} {from to : Totals} {out : LevelLists}
     → IsCoordinatesRow c dimension i status from to out → AreSmall from → Rises from to
-row_rises (handed asked named row is a (written ok to_is held)) small =
-    rw to_is (after_rises _ (subjects a.s a.t) small)
-row_rises (handed asked named row is a (no_room is_status to_is short)) small =
-    rw to_is (after_rises _ (subjects a.s a.t) small)
-row_rises (failed why to_is) small = rw to_is (record { small = small; far = λ k asked. omega arith })
+row_rises x small = grind arith
 
 -- with room up to its end a row doesn't lack room
 pub row_lacks : {c : Column} {dimension i status : ℕ} {asked : Dimension} {from to : Totals} {out : LevelLists}
@@ -182,8 +152,7 @@ row_lacks named (handed other named' row is a (written ok to_is held)) room lack
 row_lacks {dimension = dimension} {asked} {to = to} {out} named
     (handed other named' row is a (no_room is_status to_is short)) room lacks =
     short (one_dimension (λ d. HasRoomUpTo d out to) dimension asked other named named' room)
-row_lacks {c = c} {dimension} {i} named (failed why to_is) room lacks =
-    coordinates_tell_other c dimension i (subst (LacksCoordinates c dimension i) lacks why)
+row_lacks {c = c} {dimension} {i} named (failed why to_is) room lacks = grind arith
 
 module _ {c : Column} {dimension : ℕ} {statuses row_ends : List ℕ} {out : LevelLists} {rows : ℕ} {at : Totals}
     {before : LevelLists} (r : AreColumnCoordinates c dimension statuses row_ends out rows at before) where
@@ -194,8 +163,7 @@ module _ {c : Column} {dimension : ℕ} {statuses row_ends : List ℕ} {out : Le
   -- no row ends before an earlier one
   pub rise_at : (k : Level) (asked : Dimension) (i : ℕ) → i ≤ rows → (j : ℕ) → j < i + 1
       → many_in k asked (r.at j) ≤ many_in k asked (r.at i)
-  rise_at k asked zero below =
-      below_more (λ j. many_in k asked (r.at j) ≤ many_in k asked (r.at 0)) 0 (below_none _) (omega arith)
+  rise_at k asked zero below = grind arith
   rise_at k asked (suc i) below =
       let row = row_rises (r.each i (omega (arith, below))) (small_at i (omega (arith, below))) in
       below_more (λ j. many_in k asked (r.at j) ≤ many_in k asked (r.at (suc i))) (suc i)
@@ -204,8 +172,7 @@ module _ {c : Column} {dimension : ℕ} {statuses row_ends : List ℕ} {out : Le
 
   -- nor after the last
   pub end_at : (k : Level) (asked : Dimension) (i : ℕ) → i ≤ rows → many_in k asked (r.at i) ≤ many_in k asked at
-  end_at k asked i below =
-      omega (arith, rise_at k asked rows (omega arith) i (omega (arith, below)), ap (many_in k asked) r.last)
+  end_at k asked i below = grind (arith, rise_at)
 
   pub levels_suffice : LevelsSuffice dimension out at rows statuses
   levels_suffice asked named room i below =

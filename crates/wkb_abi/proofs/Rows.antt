@@ -1,7 +1,6 @@
 -- The statuses of a column's rows, and their items where each row has one.
 use Rattle.wkb_abi.proofs.Common.{ℕ, ◌+◌, ◌<◌, List, length, slice_index, refl, sym, subst, arith, set, IsAccepted}
 use Rattle.wkb_abi.proofs.Common.{Column}
-use borrow.Author.Count.{below_more}
 use Rattle.std.specs.Prelude.{slice_index_or}
 use lib.Seq.{get_or-set_same, get_or-set_other}
 use Rattle.wkb_abi.specs.Columns.{RowShows, RowsShow, accepted, refused, no_row, IsStatusOfRow}
@@ -10,11 +9,7 @@ use Rattle.wkb_abi.specs.Columns.{RowShows, RowsShow, accepted, refused, no_row,
 pub statuses_more : (Q : ℕ → ℕ → Type 0) (statuses : List ℕ) (i s : ℕ) → i < length statuses
     → ((j : ℕ) → j < i → Q j (slice_index statuses j)) → Q i s
     → (j : ℕ) → j < i + 1 → Q j (slice_index (set statuses i s) j)
-statuses_more Q statuses i s there above own =
-    below_more (λ j. Q j (slice_index (set statuses i s) j)) i
-    (λ j below. subst (Q j) (sym (get_or-set_other statuses i j s 0 (λ same. omega (arith, same, below))))
-    (above j below))
-    (subst (Q i) (sym (get_or-set_same statuses i s 0 there)) own)
+statuses_more Q statuses i s there above own = grind (arith, get_or-set_other, get_or-set_same)
 
 -- the same of statuses and items
 pub shown_more : {A : Type 0} {Shows : List ℕ → A → Type 0} {none : A} {c : Column} {statuses : List ℕ} {items : List A}

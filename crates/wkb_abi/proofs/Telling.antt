@@ -1,11 +1,9 @@
 -- What the C library reports of a result of the check.
-use Rattle.wkb_abi.proofs.Common.{◌≡◌, ◌≢◌, ℕ, List, refl, arith, sym, subst, Value, header, Spelling}
+use Rattle.wkb_abi.proofs.Common.{◌≡◌, ◌≢◌, ℕ, List, arith, Value, header, Spelling}
 use Rattle.wkb_abi.proofs.Common.{node, Spells, Piece, HasGeometry, DescribesFront, Summary, IsAccepted, IsRefusedWith}
 use Rattle.std.proofs.Common.{rules}
 use Rattle.wkb_geom.specs.Fronts.{Front}
 use Rattle.wkb_geom.specs.Grammar.{Begins}
-use Rattle.wkb_geom.specs.declared.error.Cause.TheVariants.{General as general}
-use Rattle.wkb_geom.specs.declared.error.General.TheVariants.{InvalidByteOrder, CodeOutOfRange, UnsupportedDimensions}
 use Rattle.wkb_check.specs.Pieces.{leading, count_of, piece_of, HeaderIs}
 use Rattle.wkb_check.specs.Public.{IsRefusedFor}
 use Rattle.wkb_check.specs.declared.answer.Refused.{Refused}
@@ -17,17 +15,11 @@ use Rattle.wkb_abi.specs.Statuses.{cause_status, cause_fault}
 
 -- each cause has a status of the class of refusals
 pub refusals : AreRefusals
-refusals (general InvalidByteOrder) = omega arith
-refusals (general _) = omega arith
-refusals _ = omega arith
+refusals x = grind arith
 
 -- and only those of the last part tell where the input ends too early
 pub others_tell_no_end : OthersTellNoEnd
-others_tell_no_end (general InvalidByteOrder) part offset long = (refl, refl)
-others_tell_no_end (general (CodeOutOfRange code)) part offset long = (refl, refl)
-others_tell_no_end (general (UnsupportedDimensions n)) part offset long = (refl, refl)
-others_tell_no_end (general _) part offset long = absurd (long (omega arith))
-others_tell_no_end _ part offset long = (refl, refl)
+others_tell_no_end x part offset long = grind arith
 
 -- the status of its cause says why the bytes are rejected
 pub refused_with : (buf : List ℕ) (e : Refused) (status : ℕ) → IsRefusedFor buf e → status ≡ cause_status e.cause
@@ -49,8 +41,7 @@ begins buf s t rest f = record { front = f.front; whole = f.whole; first = f.spe
 -- what the first piece of a geometry says of it
 pub first_piece : (s : Spelling) (t : Value) {p : Piece} → p ≡ piece_of 0 s t
     → HeaderIs s t p.kind p.dimension p.order p.srid × ((p.offset ≡ leading (header s) t) × (p.count ≡ count_of t))
-first_piece (node h words ss) t is =
-    rw is (record { kind_is = refl; dimension_is = refl; order_is = refl; srid_is = refl }, (omega arith, refl))
+first_piece (node h words ss) t is = grind arith
 
 -- the geometry that is accepted
 abbrev pub accepted_there : (buf : List ℕ) → IsAccepted buf → HasGeometry buf
@@ -59,19 +50,7 @@ accepted_there buf a =
 
 -- two that are accepted have one value, or two
 pub same_values : (a b : List ℕ) (x : IsAccepted a) (y : IsAccepted b) → x.t ≡ y.t → HaveOneValue a b
-same_values a b x y is =
-    let second = subst (λ t. Front b y.s t y.rest) (sym is) y.front in
-    record { s = x.s; u = y.s; t = x.t; rest = x.rest; more = y.rest; first = x.front; second = second }
+same_values a b x y is = grind arith
 
 pub other_values : (a b : List ℕ) (x : IsAccepted a) (y : IsAccepted b) → x.t ≢ y.t → HaveTwoValues a b
-other_values a b x y differ = record {
-  s = x.s;
-  u = y.s;
-  t = x.t;
-  v = y.t;
-  rest = x.rest;
-  more = y.rest;
-  first = x.front;
-  second = y.front;
-  different = differ;
-}
+other_values a b x y differ = grind arith
