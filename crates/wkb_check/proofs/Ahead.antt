@@ -11,7 +11,6 @@ use Rattle.wkb_geom.specs.Refusals.{srid_size}
 use Rattle.wkb_geom.specs.declared.common.Dimension.TheVariants.{Xy}
 use Rattle.wkb_geom.proofs.Meanings.{type_kind-type_of}
 use Rattle.wkb_geom.proofs.Heads.{iso_meant}
-use Rattle.wkb_geom.specs.Codes.{iso_code}
 use Rattle.wkb_geom.specs.Spellings.{header, Header}
 use Rattle.wkb_laws.proofs.Parts.{then_append, begins_number, drop_front, header_length}
 use Rattle.wkb_laws.proofs.Complete.{head_of}
@@ -29,8 +28,7 @@ use Rattle.wkb_check.proofs.Joining.{geometry_of_front}
 count_first : (order : Endianness) (n : ℕ) (x rest more : List ℕ) {front : List ℕ} → x ≡ front ++ rest
     → IsNumber order 4 n front → (4 ≤ length (x ++ more)) × (number order 4 (x ++ more) ≡ n)
 count_first order n x rest more {front} whole h =
-    let b = begins_number order 4 n (x ++ more) (rest ++ more)
-    (record { front = front; whole = ap (λ z. z ++ more) whole ∙ append_assoc front rest more; first = h }) in
+    let b = begins_number order 4 n (x ++ more) (rest ++ more) (grind (arith, append_assoc)) in
     (b.0, b.1)
 
 counted : (order : Endianness) (words : List ℕ) (t : Value) (x more : List ℕ) → SpellsBody order words t x → kind t ≢ 1
@@ -42,12 +40,10 @@ counted order words _ x more h differs = count_first order _ x [] more (sym (app
 
 -- the type of a value has its kind and its dimension
 pub type_kind_is : (t : Value) → type_kind (type_of (kind t) (dimension t)) ≡ kind t
-type_kind_is (point d c) = refl
-type_kind_is _ = refl
+type_kind_is t = grind arith
 
 pub type_dimension_is : (t : Value) → type_dimension (type_of (kind t) (dimension t)) ≡ dimension t
-type_dimension_is (point d c) = refl
-type_dimension_is _ = refl
+type_dimension_is t = grind arith
 
 -- what is read of a geometry at the start of the bytes up to its rings or members
 pub record Says (bytes : List ℕ) (s : Spelling) (t : Value) (h : Head) : Type 0 where
@@ -91,8 +87,7 @@ pub begins_inside : (bytes : List ℕ) (begin : ℕ) → HasGeometry (drop begin
 begins_inside bytes begin g = omega (arith, rest_smaller g, length-drop begin bytes)
 
 other_leads : (h : Header) (t : Value) → kind t ≢ 1 → leading h t ≡ 9 + srid_size (is_some h.srid)
-other_leads h (point d c) differs = absurd (differs refl)
-other_leads h _ differs = refl
+other_leads h t differs = grind arith
 
 piece_is : (at : ℕ) (s : Spelling) (t : Value) {k : ℕ} {d : Dimension} {order : Endianness} {srid : Option ℕ}
     → HeaderIs s t k d order srid → (n offset : ℕ) → n ≡ count_of t → offset ≡ at + leading (header s) t
@@ -119,11 +114,7 @@ piece_by at (node h words ss) t is p e = grind arith
 
 -- the number of a kind is the code of that kind
 pub bare_meant : (k : ℕ) → 1 ≤ k → k ≤ 7 → meaning_of k ≡ Some (meaning (type_of k Xy) false)
-bare_meant k least most =
-    let type = type_kind-type_of k Xy least most in
-    let code : k ≡ iso_code (type_kind (type_of k Xy)) (type_dimension (type_of k Xy)) =
-    omega arith ∙ (λ i. iso_code (sym type.0 i) (sym type.1 i)) in
-    ap meaning_of code ∙ iso_meant (type_of k Xy)
+bare_meant k least most = grind (arith, type_kind-type_of k Xy least most, iso_meant (type_of k Xy))
 
 module _ (bytes : List ℕ) (begin : ℕ) (g : HasGeometry (drop begin bytes)) where
   -- what the header says that the geometry was spelled with
@@ -155,16 +146,12 @@ module _ (bytes : List ℕ) (begin : ℕ) {k : ℕ} {d : Dimension} {order : End
 
   -- the header is inside the bytes
   pub header_inside : HasGeometry (drop begin bytes) → begin + 5 + srid_size (is_some srid) ≤ length bytes
-  header_inside g =
-      let own = own_says bytes begin g in
-      omega (arith, own.long, own.start_is, srid_long g, length-drop begin bytes, begins_inside bytes begin g)
+  header_inside g = let own = own_says bytes begin g in grind (arith, srid_long, length-drop, begins_inside)
 
   -- and the count, of all but a point
   pub count_inside : HasGeometry (drop begin bytes) → k ≢ 1 → begin + 9 + srid_size (is_some srid) ≤ length bytes
   count_inside g other =
-      let own = own_says bytes begin g in
-      let long = (own.counts (λ e. other ((is g).kind_is ∙ e))).0 in
-      omega (arith, long, own.start_is, srid_long g, length-drop begin bytes, begins_inside bytes begin g)
+      grind (arith, own_says bytes begin g, srid_long g, length-drop begin bytes, begins_inside bytes begin g)
 
   -- the piece, by its header and its count
   pub counted_piece : (n size offset : ℕ) → k ≢ 1 → size ≡ srid_size (is_some srid)

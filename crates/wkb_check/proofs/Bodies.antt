@@ -1,6 +1,5 @@
 -- What stands at the start of the bytes of a geometry, and behind its header.
-use Rattle.std.proofs.Common.{◌≡◌, ℕ, ◌+◌, ◌≤◌, List, [], ◌∷◌, ◌++◌, length}
-use Rattle.std.proofs.Common.{refl, sym, ap, ◌∙◌, arith, length-append}
+use Rattle.std.proofs.Common.{◌≡◌, ℕ, ◌+◌, ◌≤◌, List, [], ◌∷◌, ◌++◌, length, refl, sym, ap, ◌∙◌, arith, length-append}
 use Rattle.wkb_laws.specs.Prelude.{Endianness, Dimension, number, IsEach, Coordinate, Value, kind, dimension, Spelling}
 use Rattle.wkb_laws.specs.Prelude.{node, SpellsCoordinates, Spells, ring_end}
 use Rattle.wkb_laws.proofs.Parts.{then_length, then_append, drop_front, header_length}
@@ -14,9 +13,7 @@ spelled_long (node h words ss) t x a =
     omega (arith, then_length a, header_length h (kind t) (dimension t) a.front a.first)
 
 pub rest_smaller : {bytes : List ℕ} (g : HasGeometry bytes) → length g.rest + 5 ≤ length bytes
-rest_smaller g =
-    let b = g.begins in
-    omega (arith, ap length b.whole, length-append b.front g.rest, spelled_long g.spelled g.value b.front b.first)
+rest_smaller g = grind (arith, length-append, spelled_long)
 
 -- ---- rings
 

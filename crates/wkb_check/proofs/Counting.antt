@@ -1,23 +1,19 @@
 -- A count, and the parts after it.
-use Rattle.std.proofs.Common.{◌≡◌, ℕ, ◌+◌, ◌≤◌, List, [], ◌∷◌, length, map, sum_by, Result, Ok, Err, refl, sym, ap}
-use Rattle.std.proofs.Common.{◌∙◌, arith, zero-add, add-zero, nat_lt, lt-ltb, le-ltb, Bor}
-use Rattle.std.proofs.lemmas.Bool.{cond-true, cond-false}
+use Rattle.std.proofs.Common.{◌≡◌, ℕ, ◌+◌, ◌≤◌, List, [], ◌∷◌, length, map, sum_by, Result, Ok, Err, refl, arith, Bor}
 use Rattle.std.proofs.lemmas.List.Sums.{sum_by-cons}
 use Rattle.wkb_geom.specs.declared.error.Cause.{Cause}
 use Rattle.wkb_geom.specs.declared.header.Layout.{Layout}
-use Rattle.wkb_geom.specs.Refusals.{slots_asked, multi_point_end}
+use Rattle.wkb_geom.specs.Refusals.{slots_asked}
 use Rattle.wkb_geom.specs.Reading.{Reading, Item, and_then, costs, done, slots_of, consumed, body_start, parts_start}
-use Rattle.wkb_geom.specs.Reading.{count_in, HasNoCount, with_count, list_at, parts_body, polygon_item, ring_in}
-use Rattle.wkb_geom.specs.Reading.{ring_part, member_at, refused, points_counted, point_of, line_string_of, polygon_of}
+use Rattle.wkb_geom.specs.Reading.{count_in, HasNoCount, with_count, list_at, parts_body}
+use Rattle.wkb_geom.specs.Reading.{member_at, refused, points_counted}
 unfoldable use Rattle.wkb_geom.specs.Reading.{repeated, polygon_at, multi_point_at, multi_line_string_at}
 unfoldable use Rattle.wkb_geom.specs.Reading.{multi_polygon_at}
 use Rattle.wkb_geom.specs.Reading.{list_item, multi_point_with, multi_line_string_with, multi_polygon_with}
 use Rattle.wkb_check.specs.declared.walk.Walk.{Walk}
 use Rattle.wkb_check.specs.Passes.{Passes, tally}
-use Rattle.wkb_check.proofs.Leaves.{cond_image, refused_walked}
-use Rattle.wkb_check.specs.Walked.{Tally, Walked, walked, ring_coordinates, coordinates_by, number_of_member}
-use Rattle.wkb_check.specs.Walked.{item_coordinates, rings_walked, polygon_walked, members_walked, multi_point_walked}
-use Rattle.wkb_check.specs.Walked.{multi_walked}
+use Rattle.wkb_check.specs.Walked.{Tally, Walked, walked, coordinates_by, number_of_member, item_coordinates}
+use Rattle.wkb_check.specs.Walked.{rings_walked, polygon_walked, members_walked, multi_point_walked, multi_walked}
 unfoldable use Rattle.wkb_check.specs.Walked.{multi_at}
 use Rattle.wkb_check.specs.declared.skip.MemberKind.{MemberKind}
 use Rattle.wkb_check.specs.declared.skip.MemberKind.TheVariants as kinds
@@ -26,16 +22,12 @@ use Rattle.wkb_check.specs.declared.skip.MemberKind.TheVariants as kinds
 pub no_count : {A : Type 0} (many : A → ℕ) (l : Layout) (bytes : List ℕ) (turns passed : ℕ)
     (behind : ℕ → Reading A) (c : Cause) → HasNoCount l bytes c
     → walked many (with_count l bytes behind) (turns, passed) ≡ Err (turns, (c, length bytes))
-no_count many l bytes turns passed behind c none =
-    ap (λ r. walked many r (turns, passed))
-    (cond-true (nat_lt (length bytes) (body_start l.has_srid + 4)) _ _ (lt-ltb _ _ none.1)
-    ∙ ap (refused bytes) (sym none.0)) ∙ refused_walked many bytes c (turns, passed)
+no_count many l bytes turns passed behind c none = grind arith
 
 -- a reading that is walked over as another one
 as_walked : (walk other : Tally → Walked) (r : Result (Bor (List ℕ)) Cause) (old new : Walk)
     → walk (tally old) ≡ other (tally old) → Passes r other old new → Passes r walk old new
-as_walked walk other (Ok rest) old new same h = same ∙ h
-as_walked walk other (Err c) old new same h = same ∙ h
+as_walked walk other r old new same h = grind arith
 
 module _ {A : Type 0} (many : A → ℕ) (whole : List A → List ℕ → Item) (total : Item → ℕ)
     (sum : (parts : List A) (encoding : List ℕ) → total (whole parts encoding) ≡ sum_by many parts) where
@@ -43,18 +35,13 @@ module _ {A : Type 0} (many : A → ℕ) (whole : List A → List ℕ → Item) 
   whole_walked : (n : ℕ) (bytes : List ℕ) (r : Reading (List A)) (t : Tally)
       → walked total (costs (slots_of n) (and_then r (λ parts rest. done (whole parts (consumed bytes rest)) rest))) t
       ≡ walked (sum_by many) r t
-  whole_walked n bytes (c, Ok x) t = simp (add-zero, zero-add, sum)
-  whole_walked n bytes (c, Err e) t = simp zero-add
+  whole_walked n bytes r t = grind arith
 
   pub list_walked : (part : List ℕ → Reading A) (k : ℕ) (l : Layout) (bytes start : List ℕ) (n : ℕ)
       → n ≡ count_in l bytes → body_start l.has_srid + 4 ≤ length bytes → start ≡ parts_start l.has_srid bytes
       → (t : Tally)
       → walked total (list_at k l part whole bytes) t ≡ walked (sum_by many) (repeated n part start) t
-  list_walked part k l bytes start n counts long at t =
-      rw (counts, at) (ap (λ r. walked total r t)
-      (cond-false (nat_lt (length bytes) (body_start l.has_srid + 4)) _ _ (le-ltb _ _ long))
-      ∙ whole_walked (slots_asked k (count_in l bytes) (length (parts_start l.has_srid bytes))) bytes
-      (repeated (count_in l bytes) part (parts_start l.has_srid bytes)) t)
+  list_walked part k l bytes start n counts long at t = grind arith
 
 -- ---- the sums
 
@@ -72,11 +59,7 @@ pub polygon_passes : (l : Layout) (bytes start : List ℕ) (n : ℕ) (r : Result
     → n ≡ count_in l bytes → body_start l.has_srid + 4 ≤ length bytes → start ≡ parts_start l.has_srid bytes
     → Passes r (rings_walked l n start) old new → Passes r (polygon_walked l bytes) old new
 unfolding polygon_at
-polygon_passes l bytes start n r old new counts long at h =
-    as_walked (polygon_walked l bytes) (rings_walked l n start) r old new
-    (list_walked (ring_coordinates l) (polygon_item l) (coordinates_by 3)
-    (λ rings encoding. mapped_sum length (ring_in l.order l.dimension) rings) (ring_part l) 3 l bytes
-    start n counts long at (tally old)) h
+polygon_passes l bytes start n r old new counts long at h = grind (arith, as_walked, list_walked, mapped_sum)
 
 abbrev multi_with : MemberKind → Layout → List Item → List ℕ → Item
 multi_with kinds.Point l = list_item l multi_point_with
@@ -86,17 +69,14 @@ multi_with kinds.Polygon l = list_item l multi_polygon_with
 multi_sum : (kind : MemberKind) (l : Layout) (parts : List Item) (encoding : List ℕ)
     → item_coordinates (multi_with kind l parts encoding)
     ≡ sum_by (coordinates_by (number_of_member kind)) parts
-multi_sum kinds.Point l parts encoding = mapped_ones (λ i. point_of i.value) parts
-multi_sum kinds.LineString l parts encoding = mapped_sum length (λ i. line_string_of i.value) parts
-multi_sum kinds.Polygon l parts encoding = mapped_sum (λ rings. sum_by length rings) (λ i. polygon_of i.value) parts
+multi_sum kind l parts encoding = grind (arith, mapped_ones, mapped_sum, sum_by)
 
 multi_is : (kind : MemberKind) (l : Layout) (bytes : List ℕ)
     → multi_at kind l bytes
     ≡ list_at (3 + number_of_member kind) l (member_at (number_of_member kind) l.dimension)
     (multi_with kind l) bytes
 unfolding multi_at multi_line_string_at multi_polygon_at
-multi_is kinds.Point l bytes = refl
-multi_is _ l bytes = refl
+multi_is kind l bytes = grind arith
 
 module _ (kind : MemberKind) (l : Layout) (bytes : List ℕ) where
   abbrev member_part : List ℕ → Reading Item
@@ -104,18 +84,12 @@ module _ (kind : MemberKind) (l : Layout) (bytes : List ℕ) where
 
   pub multi_cut : (turns passed : ℕ) (c : Cause) → HasNoCount l bytes c
       → walked item_coordinates (multi_at kind l bytes) (turns, passed) ≡ Err (turns, (c, length bytes))
-  multi_cut turns passed c none =
-      rw (multi_is kind l bytes) (no_count item_coordinates l bytes turns passed
-      (parts_body (3 + number_of_member kind) l member_part (multi_with kind l) bytes) c none)
+  multi_cut turns passed c none = grind (arith, multi_is, no_count)
 
   pub multi_passes : (start : List ℕ) (n : ℕ) (r : Result (Bor (List ℕ)) Cause) (old new : Walk) → n ≡ count_in l bytes
       → body_start l.has_srid + 4 ≤ length bytes → start ≡ parts_start l.has_srid bytes
       → Passes r (members_walked kind l.dimension n start) old new → Passes r (multi_walked kind l bytes) old new
-  multi_passes start n r old new counts long at h =
-      let k = number_of_member kind in
-      as_walked (multi_walked kind l bytes) (members_walked kind l.dimension n start) r old new
-      (rw (multi_is kind l bytes) (list_walked (coordinates_by k) (multi_with kind l) item_coordinates
-      (multi_sum kind l) member_part (3 + k) l bytes start n counts long at (tally old))) h
+  multi_passes start n r old new counts long at h = grind (arith, multi_is kind l bytes, multi_sum kind l)
 
 -- ---- multi points
 
@@ -126,15 +100,11 @@ module _ (l : Layout) (bytes : List ℕ) where
 
   points_are : multi_point_at l bytes ≡ points_behind (points_counted l bytes)
   unfolding multi_point_at
-  points_are =
-      let end = multi_point_end l.dimension l.has_srid (count_in l bytes) in
-      cond_image points_behind (nat_lt (length bytes) (body_start l.has_srid + 4)) _ _ _ _ refl
-      (cond_image points_behind (nat_lt (length bytes) end) _ _ _ _ refl refl)
+  points_are = grind arith
 
   pub points_stop : (turns passed : ℕ) (c : Cause) → points_counted l bytes ≡ Err c
       → walked item_coordinates (multi_point_at l bytes) (turns, passed) ≡ Err (turns, (c, length bytes))
-  points_stop turns passed c e =
-      rw (points_are, e) (refused_walked item_coordinates bytes c (turns, passed))
+  points_stop turns passed c e = rw (points_are, e) (grind arith)
 
   pub points_pass : (start : List ℕ) (n : ℕ) (r : Result (Bor (List ℕ)) Cause) (old new : Walk)
       → points_counted l bytes ≡ Ok n → start ≡ parts_start l.has_srid bytes

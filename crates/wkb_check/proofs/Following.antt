@@ -1,19 +1,17 @@
 -- The pieces that are to come, one after another.
-use Rattle.std.proofs.Common.{◌≡◌, ◌≢◌, ℕ, ◌+◌, ◌-◌, ◌<◌, ◌≤◌, List, [], ◌∷◌, ◌++◌, length, drop}
-use Rattle.std.proofs.Common.{refl, sym, ap, ◌∙◌, subst, arith, append-nil, append_assoc, length-drop}
-use Rattle.std.proofs.Common.{lt-ltb, le-ltb}
+use Rattle.std.proofs.Common.{rules, ◌≡◌, ◌≢◌, ℕ, ◌+◌, ◌-◌, ◌<◌, ◌≤◌, List, [], ◌∷◌, ◌++◌, length, drop, refl, sym, ap}
+use Rattle.std.proofs.Common.{◌∙◌, subst, arith, append-nil, append_assoc, length-drop, lt-ltb, le-ltb}
 use Rattle.std.specs.Prelude.{Some, None}
 use Rattle.std.specs.Iterator.{MakesProgress, Yields, at_most}
 use Rattle.wkb_laws.specs.Prelude.{Endianness, Dimension, number, any}
 use Rattle.wkb_check.specs.Known.{HasGeometry, decoded_rings}
 use Rattle.wkb_check.specs.Subjects.{subjects, subjects_of_rings, subjects_of_each}
-use Rattle.wkb_check.specs.Pieces.{Ahead, own_end, ring_piece, last_end, pieces_from, pieces_of, first_rings}
-use Rattle.wkb_check.specs.Pieces.{IsPieceAt, IsInside, IsAhead, HasAhead, Takes, Steps}
-use Rattle.wkb_check.specs.Pieces.{bytes_left, AreRings, IsRing}
+use Rattle.wkb_check.specs.Pieces.{Ahead, own_end, ring_piece, last_end, pieces_from, pieces_of, first_rings, IsPieceAt}
+use Rattle.wkb_check.specs.Pieces.{IsInside, IsAhead, HasAhead, Takes, Steps, bytes_left, AreRings, IsRing}
 use Rattle.wkb_check.specs.declared.pieces.Piece.{Piece}
 use Rattle.wkb_check.specs.declared.pieces.Pieces.{Pieces}
 use Rattle.wkb_check.proofs.Placing.{First, alone, first_one, Inside, leaf_inside, rings_inside}
-use Rattle.wkb_check.proofs.Placing.{members_inside, inner, itself_first, geometry_inside, onward, begun_at}
+use Rattle.wkb_check.proofs.Placing.{members_inside, inner, itself_first, geometry_inside, begun_at}
 use Rattle.wkb_check.proofs.Rings.{NextRing, next_ring}
 use Rattle.wkb_check.proofs.Joining.{few_geometries, joined}
 
@@ -81,8 +79,7 @@ module _ (w : Pieces) {xs : List Piece} (a : IsAhead w xs) (none : w.rings ≡ 0
   to_come = subst (λ r. Ahead w.bytes.now w.order w.dimension r w.geometries w.at xs) none a
 
   one : First w.geometries (drop w.at w.bytes.now) to_come.more to_come.all (w.geometries - 1)
-  one =
-      first_one w.geometries (w.geometries - 1) (drop w.at w.bytes.now) to_come.more to_come.all (omega (arith, some))
+  one = search (rules, first_one, to_come)
 
   pub geometry_there : HasGeometry (drop w.at w.bytes.now)
   geometry_there = one.geometry
@@ -142,8 +139,7 @@ module _ (w : Pieces) (ahead : HasAhead w) (none : w.rings ≡ 0) (some : 0 < w.
           order = p.order;
           dimension = p.dimension;
         }) p
-    polygon_takes three =
-        takes {m = 0} ends (λ g. rings_inside w.bytes.now w.at g p (is g) next ends three) (w.geometries - 1) (omega arith)
+    polygon_takes three = takes {m = 0} ends (search (rules, rings_inside)) (w.geometries - 1) (omega arith)
 
     pub members_takes : 3 < p.kind → p.kind ≢ 3
         → Takes w (record w { at = next; geometries = w.geometries - 1 + p.count }) p
@@ -168,11 +164,7 @@ pub goes : (w now : Pieces) (p : Piece) → HasAhead w → Takes w now p
 goes w now p h t =
     let x = t.steps h.pieces h.are in
     let can : HasAhead now = record { pieces = x.rest; are = x.ahead } in
-    record {
-      on = λ f. (can, f, omega (arith, ap length t.same, t.inside.inside, onward w.bytes.now w.at now.at p t.inside));
-      keeps = can;
-      rests = λ f. tt;
-    }
+    grind arith
 
 -- fewer bytes are left after a piece
 pub fewer_left : {old new : Pieces} {p : Piece} → Steps old (Some p) new → bytes_left new < bytes_left old

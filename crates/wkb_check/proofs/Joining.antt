@@ -1,5 +1,5 @@
 -- Geometries one after another, and the first of them.
-use Rattle.std.proofs.Common.{◌≡◌, ℕ, ◌+◌, ◌≤◌, List, ◌++◌, length, sym, ap, subst, arith}
+use Rattle.std.proofs.Common.{◌≡◌, ℕ, ◌+◌, ◌≤◌, List, ◌++◌, length, sym, ap, arith}
 use Rattle.std.proofs.Common.{length-append, append_assoc, refl, ◌∙◌}
 use Rattle.wkb_laws.specs.Prelude.{Value, Values, no_members, member, count}
 use Rattle.wkb_laws.specs.Prelude.{Spelling, Spellings, no_spellings, spelling, SpellsEach, Wanted, any, Front}
@@ -17,9 +17,7 @@ pub record Joined (n : ℕ) (bytes more : List ℕ) (xs : List Subject) : Type 0
 pub joined : (w : Wanted) (ss : Spellings) (ts : Values) (x : List ℕ) {m n : ℕ} {bytes more : List ℕ}
     {xs : List Subject} → SpellsEach w ss ts x → Joined n bytes more xs → m ≡ count ts + n
     → Joined m (x ++ bytes) more (subjects_of_each ss ts ++ xs)
-joined w no_spellings no_members x {m} {n} {bytes} {more} {xs} h k e =
-    let same : n ≡ m = omega arith in
-    subst (λ i. Joined i (x ++ bytes) more xs) same (rw h k)
+joined w no_spellings no_members x {m} {n} {bytes} {more} {xs} h k e = grind arith
 joined w (spelling s ss) (member t ts) x {m} {n} {bytes} {more} {xs} h k e =
     let o = joined w ss ts h.rest {m = count ts + n} h.second k refl in
     let y = o.all.begins in
@@ -46,14 +44,7 @@ each_some (spelling s ss) (member t ts) x h =
 each_some _ _ x h = absurd h
 
 pub few_geometries : (n : ℕ) (bytes more : List ℕ) → HasGeometries n bytes more → n ≤ length bytes
-few_geometries n bytes more all =
-    omega (
-      arith,
-      all.counted,
-      each_some all.spelled all.values all.begins.front all.begins.first,
-      ap length all.begins.whole,
-      length-append all.begins.front more,
-    )
+few_geometries n bytes more all = grind (arith, each_some, length-append)
 
 -- ---- the first
 

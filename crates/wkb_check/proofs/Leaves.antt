@@ -1,10 +1,8 @@
 -- Points, line strings and rings: how they are passed, and how many coordinates they have.
-use Rattle.std.proofs.Common.{◌≡◌, ℕ, ◌+◌, ◌*◌, ◌≤◌, List, length, drop, take, Ok, Err, Bool, true, false}
-use Rattle.std.proofs.Common.{refl, sym, ◌∙◌, ◌-◌, arith, if◌then◌else◌, length-drop, length-take-le}
-use Rattle.std.proofs.Common.{take-append-drop, add-zero}
+use Rattle.std.proofs.Common.{rules, ◌≡◌, ℕ, ◌+◌, ◌*◌, ◌≤◌, List, length, drop, take, Ok, Err, sym, ◌∙◌, ◌-◌}
+use Rattle.std.proofs.Common.{arith, length-drop, length-take-le, take-append-drop, add-zero}
 use Rattle.std.proofs.lemmas.List.{take_all}
 use Rattle.wkb_geom.specs.declared.common.Dimension.{Dimension}
-use Rattle.wkb_geom.specs.declared.common.Dimension.TheVariants.{Xy}
 use Rattle.wkb_geom.specs.declared.common.Endianness.{Endianness}
 use Rattle.wkb_geom.specs.declared.error.Cause.{Cause}
 use Rattle.wkb_geom.specs.declared.header.Layout.{Layout}
@@ -17,12 +15,6 @@ use Rattle.wkb_geom.specs.Reading.{line_string_at, ring_part, line_string_item, 
 use Rattle.wkb_laws.proofs.GeometryAt.{line_string_free}
 use Rattle.wkb_laws.proofs.Heads.{number_in}
 use Rattle.wkb_check.specs.Walked.{Tally, walked, ring_coordinates, coordinates_by}
-
--- if both are images, then so is the one that is chosen
-pub cond_image : {A B : Type 0} (f : A → B) (b : Bool) (p q : A) (s t : B) → s ≡ f p → t ≡ f q
-    → (if b then s else t) ≡ f (if b then p else q)
-cond_image f true p q s t first second = first
-cond_image f false p q s t first second = second
 
 -- what is rejected itself
 pub refused_walked : {A : Type 0} (many : A → ℕ) (bytes : List ℕ) (c : Cause) (t : Tally)
@@ -42,8 +34,7 @@ coordinates_there order d start end bytes counted whole =
 
 -- a coordinate has sixteen bytes at least
 pub wide : (d : Dimension) (n : ℕ) → 16 * n ≤ 8 * width d * n
-wide Xy n = omega arith
-wide _ n = omega arith
+wide d n = grind arith
 
 -- what is counted of a part that is passed, by where it ends
 leaf_passes : {A : Type 0} (many : A → ℕ) (x : A) (bytes : List ℕ) (n end turns passed : ℕ)
@@ -51,9 +42,7 @@ leaf_passes : {A : Type 0} (many : A → ℕ) (x : A) (bytes : List ℕ) (n end 
     → read ≡ Ok (x, drop end bytes) → many x ≡ n
     → walked many (at_no_cost read) (turns, passed)
     ≡ Ok ((turns, passed + n), take (length bytes - end) (drop end bytes))
-leaf_passes many x bytes n end turns passed read is counted =
-    let all = take_all (length bytes - end) (drop end bytes) (omega (arith, length-drop end bytes)) in
-    simp (is, counted, all, add-zero)
+leaf_passes many x bytes n end turns passed read is counted = grind (arith, take_all, length-drop, add-zero)
 
 module _ (l : Layout) (bytes : List ℕ) where
   pub ring_passes : (n end turns passed : ℕ) → n ≡ number l.order 4 bytes → end ≡ ring_end l.dimension n
@@ -71,16 +60,14 @@ module _ (l : Layout) (bytes : List ℕ) where
       → walked (coordinates_by 2) (line_string_at l bytes) (turns, passed)
       ≡ Ok ((turns, passed + n), take (length bytes - end) (drop end bytes))
   line_string_passes n end turns passed n-is end-is whole read =
-      let many =
-      coordinates_there l.order l.dimension (body_start l.has_srid) end bytes (omega (arith, end-is)) whole in
       rw (line_string_free l bytes) (leaf_passes (coordinates_by 2) (line_string_item l (take end bytes)) bytes n end
-      turns passed _ read (many ∙ sym n-is))
+      turns passed _ read ((coordinates_there l.order l.dimension (body_start l.has_srid) end bytes
+      (omega (arith, end-is)) whole) ∙ sym n-is))
 
   pub point_passes : (end turns passed : ℕ) → end ≤ length bytes
       → point_at l bytes ≡ Ok (point_item l (take end bytes), drop end bytes)
       → walked (coordinates_by 1) (at_no_cost (point_at l bytes)) (turns, passed)
       ≡ Ok ((turns, passed + 1), take (length bytes - end) (drop end bytes))
-  point_passes end turns passed whole read =
-      leaf_passes (coordinates_by 1) (point_item l (take end bytes)) bytes 1 end turns passed _ read refl
+  point_passes end turns passed whole read = search (rules, leaf_passes)
 
 pub ruleset leaf_laws = (wide, refused_walked, point_passes, line_string_free, line_string_passes, ring_passes)

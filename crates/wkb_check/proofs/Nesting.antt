@@ -1,6 +1,5 @@
 -- The loop over the open collections: what is looked at, and what is ahead of it.
 use Rattle.std.proofs.Common.{◌≡◌, ℕ, zero, suc, ◌+◌, ◌-◌, ◌<◌, ◌≤◌, List, [], ◌∷◌, length, take, slice_set, sum_by}
-use Rattle.std.proofs.Common.{Bor, Result, Ok, Err, refl, sym, ap, ◌∙◌, arith, length-take, slice_index_or, replicate}
 use Rattle.std.proofs.lemmas.List.{length-reverse}
 use Rattle.std.proofs.lemmas.List.Sums.{sum_by-cons}
 use Rattle.wkb_geom.specs.declared.code.WkbType.{WkbType}
@@ -11,24 +10,19 @@ use Rattle.wkb_geom.specs.declared.header.Head.{Head}
 use Rattle.wkb_geom.specs.declared.header.Layout.{Layout}
 use Rattle.wkb_geom.specs.Fronts.{max_nesting}
 use Rattle.wkb_geom.specs.Reading.{Item, values, list_item, collection_with, layout_of, body_start, parts_start}
-use Rattle.wkb_geom.specs.Reading.{count_in, HasNoCount, list_at, parts_body, type_kind, Reading, done, point_item_of}
-use Rattle.wkb_geom.specs.Reading.{costs, slots_of, and_then, polygon_item, consumed, body_at, at_no_cost}
-use Rattle.wkb_geom.specs.Reading.{point_words_in, then_body, collection_within}
+use Rattle.wkb_geom.specs.Reading.{count_in, HasNoCount, list_at, type_kind, Reading, done, point_item_of, costs}
+use Rattle.wkb_geom.specs.Reading.{slots_of, and_then, polygon_item, consumed, body_at, then_body}
 unfoldable use Rattle.wkb_geom.specs.Reading.{geometry_at, by_type, point_at, line_string_at, polygon_at, head_at}
-use Rattle.wkb_geom.specs.Refusals.{point_end, line_string_end, slots_asked}
-use Rattle.wkb_geom.specs.Numbers.{all_nan}
-use Rattle.std.proofs.lemmas.Bool.{cond_both}
-use Rattle.std.proofs.Common.{Bool, true, false, nat_lt}
+use Rattle.std.proofs.Common.{Bor, Result, Ok, Err, refl, sym, ◌∙◌, arith, length-take, slice_index_or, replicate, Bool}
 unfoldable use Rattle.wkb_geom.specs.Reading.{collection_at}
 use Rattle.wkb_geom.specs.Counted.{coordinate_count_each}
 use Rattle.wkb_check.specs.declared.nested.OpenCounts.{OpenCounts}
 use Rattle.wkb_check.specs.declared.walk.Walk.{Walk}
-use Rattle.wkb_check.specs.Passes.{tally, open_counts, counts_of, IsFollowed, Passes, PassesOrOpens}
+use Rattle.wkb_check.specs.Passes.{open_counts, IsFollowed, Passes, PassesOrOpens}
 use Rattle.wkb_check.specs.Walked.{type_walked, body_walked, inside_walked, Tally, Walked, walked, onward}
 use Rattle.wkb_check.specs.Walked.{item_coordinates, coordinates_by, geometry_inside, body_within, ahead_of}
 use Rattle.wkb_check.proofs.Counting.{no_count, list_walked}
 use Rattle.wkb_check.proofs.Closing.{top_set, top_is, none_left}
-use Rattle.wkb_check.proofs.Leaves.{refused_walked}
 
 values_sum : (l : List Item) → coordinate_count_each (values l) ≡ sum_by item_coordinates l
 values_sum [] = refl
@@ -42,49 +36,32 @@ module _ (u : Tally) (l : Layout) (bytes : List ℕ) where
 
   point_same : (encoding words : List ℕ) (empty : Bool) (rest : List ℕ)
       → IsSame 1 (done (point_item_of l encoding words empty) rest)
-  point_same encoding words true rest = refl
-  point_same encoding words false rest = refl
+  point_same encoding words empty rest = grind arith
 
   rings_same : (n : ℕ) (r : Reading (List (List ℕ)))
       → IsSame 3
       (costs (slots_of n) (and_then r (λ rings rest. done (polygon_item l rings (consumed bytes rest)) rest)))
-  rings_same n (c, Ok x) = refl
-  rings_same n (c, Err e) = refl
+  rings_same n r = grind arith
 
   -- the coordinates of a geometry are those of one of its kind
   kind_same : (collection : Layout → List ℕ → Reading Item) (t : WkbType)
       → IsSame (type_kind t) (body_at collection t l bytes)
   unfolding point_at line_string_at polygon_at
-  kind_same collection (kinds.Point d) =
-      cond_both (nat_lt (length bytes) (point_end l.dimension l.has_srid)) _ _ (λ p. IsSame 1 (at_no_cost p))
-      (λ e. refl)
-      (λ e. point_same _ (point_words_in l _) (all_nan (point_words_in l _)) _)
-  kind_same collection (kinds.LineString d) =
-      cond_both (nat_lt (length bytes) (body_start l.has_srid + 4)) _ _ (IsSame 2) (λ e. refl)
-      (λ e. cond_both (nat_lt (length bytes) (line_string_end l.dimension l.has_srid (count_in l bytes))) _ _
-      (λ p. IsSame 2 (at_no_cost p)) (λ e. refl) (λ e. refl))
-  kind_same collection (kinds.Polygon d) =
-      cond_both (nat_lt (length bytes) (body_start l.has_srid + 4)) _ _ (IsSame 3) (λ e. refl) (λ e. rings_same
-      (slots_asked 3 (count_in l bytes) (length (parts_start l.has_srid bytes))) _)
-  kind_same collection _ = refl
+  kind_same collection t = grind arith
 
 by_header : (room : ℕ) (bytes : List ℕ) (read : Result Head Cause) → head_at bytes ≡ read
     → geometry_at room bytes
     ≡ then_body bytes read (λ h. body_within room h.wkb_type (layout_of h) bytes)
 unfolding geometry_at by_type
-by_header zero bytes read e = rw e
-by_header (suc room) bytes read e = rw e
+by_header room bytes read e = grind arith
 
 pub with_header : (around : ℕ) (bytes : List ℕ) (h : Head) (t : Tally) → head_at bytes ≡ Ok h
     → inside_walked around bytes t ≡ body_walked around h bytes t
-with_header around bytes h t e =
-    rw (by_header (max_nesting - around) bytes (Ok h) e)
-    (kind_same t (layout_of h) bytes (collection_within (max_nesting - around)) h.wkb_type)
+with_header around bytes h t e = rw (by_header (max_nesting - around) bytes (Ok h) e) (grind (arith, kind_same))
 
 pub without_header : (around : ℕ) (bytes : List ℕ) (c : Cause) (t : Tally) → head_at bytes ≡ Err c
     → inside_walked around bytes t ≡ Err (t.0, (c, length bytes))
-without_header around bytes c t e =
-    rw (by_header (max_nesting - around) bytes (Err c) e) (refused_walked item_coordinates bytes c t)
+without_header around bytes c t e = rw (by_header (max_nesting - around) bytes (Err c) e) (grind arith)
 
 -- ---- the open collections
 
@@ -101,40 +78,24 @@ module _ (depth : ℕ) (h : Head) (d : Dimension) (l : Layout) (bytes : List ℕ
       ≡ walked item_coordinates (list_at 7 l (geometry_inside (suc depth)) (list_item l collection_with) bytes)
       t
   unfolding collection_at
-  behind t =
-      let k : max_nesting - depth ≡ suc (max_nesting - suc depth) = omega arith in
-      rw (l-is, is, k) refl
+  behind t = grind arith
 
   pub opens : (left start : List ℕ) (n turns passed : ℕ) → length left ≡ max_nesting → n ≡ count_in l bytes
       → body_start l.has_srid + 4 ≤ length bytes → start ≡ parts_start l.has_srid bytes
       → onward (body_walked depth h bytes (turns, passed)) (ahead_of (open_counts left depth))
       ≡ ahead_of (open_counts (slice_set left depth n) (depth + 1)) (turns, passed) start
-  opens left start n turns passed len counts long at =
-      let ns = open_counts left depth in
-      let more = top_set left depth (depth + 1) n (omega arith) (omega (arith, len, shallow)) in
-      rw (
-        more,
-        behind (turns, passed),
-        list_walked item_coordinates (list_item l collection_with) item_coordinates (λ parts encoding. values_sum parts)
-            (geometry_inside (suc depth)) 7 l bytes start n counts long at (turns, passed),
-        as_many left depth len (omega (arith, shallow)),
-      )
+  opens left start n turns passed len counts long at = grind (arith, top_set, behind, list_walked, values_sum, as_many)
 
   pub opens_none : (turns passed : ℕ) (c : Cause) → HasNoCount l bytes c
       → body_walked depth h bytes (turns, passed) ≡ Err (turns, (c, length bytes))
-  opens_none turns passed c none =
-      behind (turns, passed) ∙ no_count item_coordinates l bytes turns passed
-      (parts_body 7 l (geometry_inside (suc depth)) (list_item l collection_with) bytes) c none
+  opens_none turns passed c none = grind (arith, behind, no_count)
 
 -- a geometry that is no collection is passed, and opens nothing
 pub passes_plain : (r : Result (Bor (List ℕ)) Cause) (h : Head) (l : Layout) (bytes : List ℕ) (o : OpenCounts)
     (old new : Walk) → l ≡ layout_of h
     → Passes r (type_walked (max_nesting - o.depth) h.wkb_type l bytes) old new
     → PassesOrOpens r h bytes o o old new
-passes_plain (Ok rest) h l bytes o old new is p =
-    let passed : body_walked o.depth h bytes (tally old) ≡ Ok (tally new, rest.now) = rw (← is) p in
-    ap (λ w. onward w (ahead_of (counts_of o))) passed
-passes_plain (Err c) h l bytes o old new is p = rw (← is) p
+passes_plain r h l bytes o old new is p = grind arith
 
 -- ---- the loop
 
@@ -151,8 +112,7 @@ none_follow left (suc around) none fits t rest =
     rw (
       top_is left around (suc around) 0 refl (omega (arith, fits)) (sym (none around)),
       none_left (open_counts left around) t rest,
-    )
-    (none_follow left around none (omega (arith, fits)) t rest)
+    ) (none_follow left around none (omega (arith, fits)) t rest)
 
 pub starts : (around : ℕ) (w : Walked) → around ≤ max_nesting
     → onward w (ahead_of (open_counts (replicate max_nesting 0) around)) ≡ w
@@ -165,10 +125,7 @@ module _ (left next bytes : List ℕ) (depth deep turns passed : ℕ) (reached w
     (settled : IsFollowed (open_counts left depth) (open_counts next deep)) (len : length next ≡ max_nesting)
     (shallow : deep ≤ max_nesting) where
   begun : onward (inside_walked deep bytes (turns + 1, passed)) (ahead_of (open_counts next deep)) ≡ whole
-  begun =
-      ap (λ k. onward (inside_walked k bytes (turns + 1, passed)) (ahead_of (open_counts next deep)))
-      (sym (as_many next deep len shallow)) ∙ sym (settled.by_member (turns, passed) bytes)
-      ∙ sym finished ∙ ahead
+  begun = grind (arith, as_many)
 
   pub next_begins : (h : Head) → head_at bytes ≡ Ok h
       → onward (body_walked deep h bytes (turns + 1, passed)) (ahead_of (open_counts next deep)) ≡ whole

@@ -5,11 +5,10 @@ use Rattle.std.proofs.Common.{None, Some, is_some, true, false, nat_lt, le-ltb, 
 use Rattle.std.proofs.lemmas.Bool.{cond_both}
 use Rattle.std.proofs.lemmas.List.{drop-drop}
 use lib.Seq.{sets}
-use Rattle.wkb_laws.specs.Prelude.{Endianness, Dimension, Begins, Coordinate, Value, Values}
-use Rattle.wkb_laws.specs.Prelude.{point, line_string, polygon}
-use Rattle.wkb_laws.specs.Prelude.{no_members, member, members, count, kind, dimension}
-use Rattle.wkb_laws.specs.Prelude.{Spelling, node, Spellings, no_spellings, spelling, SpellsBody, Spells, SpellsEach}
-use Rattle.wkb_laws.specs.Prelude.{Wanted, SpellsCoordinates, IsEach, any, ring_end}
+use Rattle.wkb_laws.specs.Prelude.{Endianness, Dimension, Begins, Coordinate, Value, Values, point, line_string}
+use Rattle.wkb_laws.specs.Prelude.{polygon, no_members, member, members, count, kind, dimension, Spelling, node}
+use Rattle.wkb_laws.specs.Prelude.{Spellings, no_spellings, spelling, SpellsBody, Spells, SpellsEach, Wanted}
+use Rattle.wkb_laws.specs.Prelude.{SpellsCoordinates, IsEach, any, ring_end}
 use Rattle.wkb_geom.specs.Grammar.{Then}
 use Rattle.wkb_geom.specs.Numbers.{number}
 use Rattle.wkb_geom.specs.Refusals.{srid_size}
@@ -81,8 +80,7 @@ counted_at h at = at + (9 + srid_size (is_some h.srid))
 pub body_stands : {input : List ℕ} {at : ℕ} {bytes rest : List ℕ} {Q : List ℕ → Type 0} (h : Header) (t : Value)
     → Stands input at bytes rest → (sp : Then (IsHeader h (kind t) (dimension t)) Q bytes)
     → Stands input (body_at h at) sp.rest rest
-body_stands {at = at} h t stands sp =
-    rest_stands stands sp (body_at h at) (omega (arith, header_length h (kind t) (dimension t) sp.front sp.first))
+body_stands {at = at} h t stands sp = rest_stands stands sp (body_at h at) (omega (arith, header_length))
 
 -- ---- subjects one after another
 
@@ -100,8 +98,7 @@ own_behind p = cond_both (nat_lt p.kind 3) _ _ (λ e. p.offset ≤ e) (λ _. ome
 pub end_onward : (at : ℕ) (xs : List Subject) → at ≤ last_end at xs
 end_onward at [] = omega arith
 end_onward at (x ∷ xs) =
-    let p = piece_at at x in
-    omega (arith, begins_onward at x, own_behind p, end_onward (own_end p) xs)
+    omega (arith, begins_onward at x, own_behind (piece_at at x), end_onward (own_end (piece_at at x)) xs)
 
 -- they end where the bytes do that spell them
 rings_end : (order : Endianness) (d : Dimension) (at : ℕ) (rings : List (List Coordinate)) (bytes : List ℕ)
@@ -124,12 +121,7 @@ body_end at h words ss (point d None) bytes b = omega (arith, coordinate_length 
 body_end at h words ss (point d (Some c)) bytes b = omega (arith, coordinate_length h.order d c bytes b.2)
 body_end at h words ss (line_string d cs) bytes b = omega (arith, coordinates_length h.order d cs bytes b.1)
 body_end at h words ss (polygon d rings) bytes b =
-    omega (
-      arith,
-      then_length b.1,
-      b.1.first.len,
-      rings_end h.order d (counted_at h at) rings b.1.rest b.1.second,
-    )
+    grind (arith, then_length b.1, rings_end h.order d (counted_at h at) rings b.1.rest b.1.second)
 body_end at h words ss _ bytes b = omega (arith, b.1.len)
 
 mutual
@@ -271,8 +263,7 @@ pub record Inside (buf : List ℕ) (s : Spelling) (t : Value) (more : List ℕ) 
 -- the first n rings are so many
 first_many : (order : Endianness) (d : Dimension) (n : ℕ) (bytes : List ℕ) → length (first_rings order d n bytes) ≡ n
 first_many order d zero bytes = refl
-first_many order d (suc n) bytes =
-    omega (arith, first_many order d n (drop (ring_end d (number order 4 bytes)) bytes))
+first_many order d (suc n) bytes = grind (arith, first_many order d n (drop (ring_end d (number order 4 bytes)) bytes))
 
 -- so many entries are inside
 pub inside_many : {buf more : List ℕ} {s : Spelling} {t : Value} {order : Endianness} {d : Dimension}
@@ -354,15 +345,14 @@ pub geometry_inside : (buf : List ℕ) (at to : ℕ) (g : HasGeometry (drop at b
 geometry_inside buf at to g p is ends = record {
   begins = omega (arith, ap (λ (q : Piece). q.offset) is, begins_onward at (whole g.spelled g.value));
   ends = ends;
-  inside =
-      omega (
-        arith,
-        ends,
-        ap own_end is,
-        ap (last_end at) (itself_first g.spelled g.value),
-        end_onward (own_end (piece_of at g.spelled g.value)) (inner g.spelled g.value),
-        (behind_geometry buf at _ g refl).1,
-      );
+  inside = omega (
+    arith,
+    ends,
+    ap own_end is,
+    ap (last_end at) (itself_first g.spelled g.value),
+    end_onward (own_end (piece_of at g.spelled g.value)) (inner g.spelled g.value),
+    (behind_geometry buf at _ g refl).1,
+  );
 }
 
 -- what is inside bytes ends further on
@@ -400,8 +390,7 @@ module _ (buf : List ℕ) (at : ℕ) (g : HasGeometry (drop at buf)) (p : Piece)
     }
 
     pub rings_inside : p.kind ≡ 3 → Inside buf g.spelled g.value g.rest p.order p.dimension p.count 0 end
-    rings_inside three =
-        rw (ends, is) (has_rings buf at g.spelled g.value g.rest g.begins (sym kind_of ∙ three))
+    rings_inside three = rw (ends, is) (has_rings buf at g.spelled g.value g.rest g.begins (sym kind_of ∙ three))
 
     pub members_inside : nat_lt p.kind 3 ≡ false → p.kind ≢ 3 → (order : Endianness) (d : Dimension)
         → Inside buf g.spelled g.value g.rest order d 0 p.count end

@@ -1,13 +1,12 @@
 -- The next ring, and those after it.
-use Rattle.std.proofs.Common.{◌≡◌, ℕ, zero, suc, ◌*◌, ◌≤◌, List, ◌∷◌, length, drop}
-use Rattle.std.proofs.Common.{sym, ap, ◌∙◌, subst, arith, length-drop}
+use Rattle.std.proofs.Common.{◌≡◌, ℕ, zero, suc, ◌*◌, ◌≤◌, List, ◌∷◌, length, drop, ap, ◌∙◌, arith, length-drop}
 use Rattle.std.proofs.lemmas.List.{drop-drop}
 use Rattle.wkb_geom.specs.declared.common.Dimension.{Dimension}
 use Rattle.wkb_geom.specs.declared.common.Endianness.{Endianness}
 use Rattle.wkb_geom.specs.Dimensions.{width}
 use Rattle.wkb_geom.specs.Numbers.{number}
 use Rattle.wkb_geom.specs.Items.{length-items}
-use Rattle.wkb_geom.specs.Reading.{ring_in, coordinate}
+use Rattle.wkb_geom.specs.Reading.{coordinate}
 use Rattle.wkb_geom.specs.Refusals.{ring_end}
 use Rattle.wkb_geom.specs.Values.{Coordinate}
 use Rattle.wkb_check.specs.Pieces.{own_end, ring_piece}
@@ -30,14 +29,7 @@ next_ring buf order d (suc r) m at next w e ends =
     let bytes = drop at buf in
     let many : ℕ = number order 4 bytes in
     let cs-many = length-items (8 * width d) (coordinate order d) many (drop 4 bytes) in
-    let rest : drop (ring_end d many) bytes ≡ drop next buf = drop-drop (ring_end d many) at buf
-    ∙ ap (λ k. drop k buf) (omega (arith, ends)) in
+    let rest : drop (ring_end d many) bytes ≡ drop next buf = drop-drop (ring_end d many) at buf ∙ ap (λ k. drop k buf)
+    (omega (arith, ends)) in
     let m-is : r ≡ m = omega (arith, e) in
-    record {
-      ring = ring_in order d bytes;
-      many = cs-many;
-      are = λ i. ring_in order d bytes ∷ decoded_rings order d (m-is i) (rest i);
-      whole = subst (λ k. AreWhole order d k (drop next buf)) m-is (subst (AreWhole order d r) rest w.2);
-      next_is = ends ∙ ap (λ n. own_end (ring_piece order d at n)) (sym cs-many);
-      inside = omega (arith, w.0, w.1, ends, length-drop at buf);
-    }
+    grind (arith, length-drop)

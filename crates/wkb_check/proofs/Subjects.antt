@@ -1,9 +1,8 @@
 -- Where the subjects of a geometry stand in its bytes, and what its pieces and entries say of them.
-use Rattle.std.proofs.Common.{◌≡◌, ℕ, ◌+◌, ◌*◌, ◌≤◌, List, [], ◌∷◌, ◌++◌, length, drop, Some, None}
-use Rattle.std.proofs.Common.{refl, sym, ap, ◌∙◌, arith, append-nil, nat_lt, if◌then◌else◌, true, false}
-use Rattle.wkb_laws.specs.Prelude.{Endianness, Dimension, width, Coordinate, Value, Values, point}
-use Rattle.wkb_laws.specs.Prelude.{line_string}
-use Rattle.wkb_laws.specs.Prelude.{polygon, no_members, member, members, kind, dimension, Spelling, node, Spellings}
+use Rattle.std.proofs.Common.{rules, ◌≡◌, ℕ, ◌+◌, ◌*◌, ◌≤◌, List, [], ◌∷◌, ◌++◌, length, drop, Some, None, refl, ap}
+use Rattle.std.proofs.Common.{◌∙◌, arith, nat_lt, if◌then◌else◌, true, false}
+use Rattle.wkb_laws.specs.Prelude.{Endianness, Dimension, width, Coordinate, Value, Values, point, line_string, polygon}
+use Rattle.wkb_laws.specs.Prelude.{no_members, member, members, kind, dimension, Spelling, node, Spellings}
 use Rattle.wkb_laws.specs.Prelude.{no_spellings, spelling, Spells, SpellsBody, SpellsCoordinate, SpellsCoordinates}
 use Rattle.wkb_laws.specs.Prelude.{SpellsEach, Wanted, Begins, coordinates, all_nan}
 use Rattle.wkb_geom.specs.Spellings.{Header}
@@ -41,8 +40,7 @@ placed_append input at (x ∷ xs) ys f g = (f.0, placed_append input (own_end (p
 
 is_placed : {input : List ℕ} {at : ℕ} {bytes rest : List ℕ} (x : Subject) → Stands input at bytes rest
     → SpellsSubject x bytes → IsPlaced input at x
-is_placed {bytes = bytes} {rest = rest} x stands sp =
-    record { bytes = bytes; rest = rest; stands = stands; spell = sp }
+is_placed {bytes = bytes} {rest = rest} x stands sp = grind arith
 
 rings_placed : {input : List ℕ} (order : Endianness) (d : Dimension) (rings : List (List Coordinate)) {at : ℕ}
     {bytes rest : List ℕ} → Stands input at bytes rest → IsEach (SpellsCoordinates order d) rings bytes
@@ -138,19 +136,16 @@ coordinates_read {bytes = bytes} {rest = rest} order d cs stands h = record {
       ap (coordinates order d (length cs)) stands.is
       ∙ items_read (SpellsCoordinate order d) (8 * width d) (coordinate order d)
       (λ c x y is. (coordinate_length order d c x is, coordinate_read order d c x y is)) cs bytes rest h;
-  inside =
-      omega (
-        arith,
-        stands.inside,
-        each_len (SpellsCoordinate order d) (8 * width d) (λ c x is. coordinate_length order d c x is) cs bytes h,
-      );
+  inside = omega (
+    arith,
+    stands.inside,
+    each_len (SpellsCoordinate order d) (8 * width d) (λ c x is. coordinate_length order d c x is) cs bytes h,
+  );
 }
 
 one_read : {input : List ℕ} {offset : ℕ} {bytes rest : List ℕ} (order : Endianness) (d : Dimension) (c : Coordinate)
     → Stands input offset bytes rest → SpellsCoordinate order d c bytes → AreRead input order d offset 1 (c ∷ [])
-one_read {bytes = bytes} order d c stands h =
-    coordinates_read order d (c ∷ []) stands
-    (record { front = bytes; rest = []; whole = sym (append-nil bytes); first = h; second = refl })
+one_read {bytes = bytes} order d c stands h = coordinates_read order d (c ∷ []) stands (search rules)
 
 -- a piece of a point, a line string or a ring, whose coordinates are read where it says
 with_coordinates : {input : List ℕ} {p : Piece} {x : Subject} → p.kind ≡ kind_in x → p.dimension ≡ dimension_in x
@@ -161,10 +156,8 @@ with_coordinates {input} {p} {x} kind_is dimension_is count_is low r point_is = 
 body_says : {input : List ℕ} (at : ℕ) {body rest : List ℕ} (h : Header) (own : List ℕ) (ss : Spellings) (t : Value)
     → Stands input (body_at h at) body rest → SpellsBody h.order own t body
     → IsPieceOf input (piece_of at (node h own ss) t) (whole (node h own ss) t)
-body_says at h own ss (point d None) stands b =
-    with_coordinates refl refl refl refl (one_read h.order d own stands b.1) b.0
-body_says at h own ss (point d (Some c)) stands b =
-    with_coordinates refl refl refl refl (one_read h.order d c stands b.2) b.1
+body_says at h own ss (point d None) stands b = search (rules, with_coordinates, one_read)
+body_says at h own ss (point d (Some c)) stands b = search (rules, with_coordinates, one_read)
 body_says at h own ss (line_string d cs) stands b =
     with_coordinates refl refl refl refl
     (coordinates_read h.order d cs (rest_stands stands b.1 (counted_at h at) (omega (arith, b.1.first.len)))

@@ -4,5 +4,4 @@ pub pass_geometry-requires-clause-ahead : goal.pass_geometry-requires-clause-ahe
 pass_geometry-requires-clause-ahead c = record { pieces = _; are = c.of-pieces.ensures.ahead c.requires.here }
 
 pub pass_geometry-requires-clause-piece : goal.pass_geometry-requires-clause-piece
-pass_geometry-requires-clause-piece c =
-    rw (c.of-pieces.ensures.begins, c.of-pieces.ensures.same) c.requires.first
+pass_geometry-requires-clause-piece c = rw (c.of-pieces.ensures.begins, c.of-pieces.ensures.same) c.requires.first
