@@ -1,7 +1,6 @@
 -- The singles of a row, from what its ends are.
-use Rattle.std.proofs.Common.{◌≡◌, ℕ, zero, suc, ◌+◌, ◌-◌, ◌/◌, ◌<◌, ◌≤◌, ◌↔◌, refl, subst, arith}
-use Rattle.std.proofs.Common.{List, [], ◌∷◌, length, drop, length-take, length-drop, slice_range}
-use Rattle.std.proofs.Common.{Option, None, IsSome, IfSome}
+use Rattle.std.proofs.Common.{rules, ◌≡◌, ℕ, zero, suc, ◌+◌, ◌-◌, ◌/◌, ◌<◌, ◌≤◌, ◌↔◌, refl, subst, arith, List, [], ◌∷◌}
+use Rattle.std.proofs.Common.{length, length-take, length-drop, slice_range, Option, None, IsSome, IfSome}
 use Rattle.std.proofs.lemmas.Bool.{false≢true}
 use Rattle.std.proofs.lemmas.List.{drop-drop, take-take, drop-take}
 use Rattle.wkb_geom.specs.declared.common.Dimensions.{Dimensions}
@@ -22,14 +21,7 @@ inner_range items r0 r1 s e a b c =
     let whole : r1 - r0 ≡ s - r0 + (r1 - s) = omega (arith, a, b, c) in
     let short : e - r0 - (s - r0) ≡ e - s = omega (arith, a, b) in
     let there : r0 + (s - r0) ≡ s = omega (arith, a) in
-    rw (
-      whole,
-      short,
-      drop-take (s - r0) (r1 - s) (drop r0 items),
-      take-take (e - s) (r1 - s) (drop (s - r0) (drop r0 items)) (omega (arith, c)),
-      drop-drop (s - r0) r0 items,
-      there,
-    ) (grind arith)
+    grind (arith, drop-take, take-take, drop-drop)
 
 -- the pieces of some of the items are those of all, where the ends are within them
 pieces_within : {A : Type 0} (items : List A) (r0 r1 start : ℕ) (ends : List ℕ) → r0 ≤ start
@@ -76,10 +68,7 @@ part_count e from to part has = grind (arith, length-drop, length-take)
 -- where ends are in order the first is not behind the last
 pub rises : (limit : ℕ) (e : Ends) → AreEndsWithin limit e
     → (start_of e ≤ begin_of e (length (ends_of e))) × (begin_of e (length (ends_of e)) ≤ limit)
-rises limit e are = (
-  start_from limit (start_of e) (ends_of e) (length (ends_of e)) are (omega arith),
-  start_within limit (start_of e) (ends_of e) (length (ends_of e)) are (omega arith),
-)
+rises limit e are = search (rules, start_from, start_within)
 
 ascend : (limit start : ℕ) (ends : List ℕ) (i k : ℕ) → AreEnds limit start ends → i + k ≤ length ends
     → start_at start ends i ≤ start_at start ends (i + k)
@@ -109,9 +98,7 @@ module _ (l : Levels) (d : Dimensions) (i : ℕ) (s : Ends)
   pub spans_some : AreRowLevels l d i
       → (start_of s ≤ begin_of s (length (ends_of s)))
       × (begin_of s (length (ends_of s)) ≤ length (ends_of l.ring_ends))
-  spans_some are =
-      rises (length (ends_of l.ring_ends)) s
-      (part_ends (length (ends_of l.ring_ends)) l.single_ends (row_begin l i) (row_end l i) s has are.singles)
+  spans_some are = rises (length (ends_of l.ring_ends)) s (grind arith)
 
   module _ (r : Ends) (spans : HasPart l.ring_ends (start_of s) (begin_of s (length (ends_of s))) r) where
     -- these are in order

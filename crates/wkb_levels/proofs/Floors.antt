@@ -15,8 +15,7 @@ Reaches Spans end i floor next = (Spans i × (next ≡ max floor (end i))) ⊎ (
 
 module _ {Spans : ℕ → Type 0} {end : ℕ → ℕ} where
   floor_first : (n : ℕ) → n ≡ 0 → IsLevelFloor Spans end 0 n
-  floor_first n is =
-      record { enough = λ j h. absurd (omega (arith, h)); least = λ other are. omega (arith, is) }
+  floor_first n is = record { enough = λ j h. absurd (omega (arith, h)); least = λ other are. omega (arith, is) }
 
   pub floor_next : {i floor next : ℕ} → IsLevelFloor Spans end i floor → Reaches Spans end i floor next
       → IsLevelFloor Spans end (i + 1) next
@@ -59,11 +58,10 @@ module _ {l : Levels} {d : Dimensions} {i : ℕ} {floor : Place} (is : IsFloor l
       → Reaches (SpansRings l) (rings_end l) i floor.rings next.rings
       → Reaches (SpansCoordinates l d) (coordinates_end l) i floor.coordinates next.coordinates
       → IsFloor l d (i + 1) next
-  place_next s r c =
-      record {
-        singles = floor_next is.singles s;
-        rings = floor_next is.rings r;
-        coordinates = floor_next is.coordinates c;
-      }
+  place_next s r c = record {
+    singles = floor_next is.singles s;
+    rings = floor_next is.rings r;
+    coordinates = floor_next is.coordinates c;
+  }
 
 pub ruleset floor_laws = front_floor

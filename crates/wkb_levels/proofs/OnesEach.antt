@@ -1,6 +1,6 @@
 -- Ends of items that are one each: the numbers from one to another.
 use Rattle.std.proofs.Common.{◌≡◌, ℕ, zero, suc, ◌+◌, ◌-◌, ◌<◌, ◌≤◌, refl, ap, arith}
-use Rattle.std.proofs.Common.{subst, ◌⊎◌, ◌∷◌, length, take, drop, slice_index, slice_range}
+use Rattle.std.proofs.Common.{◌⊎◌, ◌∷◌, length, take, drop, slice_index, slice_range}
 use Rattle.std.specs.List.{range_with_len}
 use Rattle.std.proofs.lemmas.List.FromFn.{length-range_with_len, get_or-range_with_len}
 use Rattle.wkb_levels.specs.declared.ends.Ends.{Ends}
@@ -33,19 +33,11 @@ pub each-part : (n k from to : ℕ) → from ≤ to → to ≤ k
 each-part n k from to order within = grind (arith, drop-each, take-each)
 
 pub each-ones : (n k : ℕ) → AreOnes n (range_with_len (suc n) k)
-each-ones n k i h =
-    let inside : i < k = omega (arith, each-length n k, h) in
-    omega (arith, each-end n k i inside, each-begin n k i (omega (arith, inside)))
+each-ones n k i h = grind (arith, each-length, each-end, each-begin)
 
 pub each-within : (limit from to : ℕ) → from ≤ limit → to ≤ limit
     → AreEnds limit from (range_with_len (suc from) (to - from))
-each-within limit from to a b = (
-  a,
-  λ i h.
-      let inside : i < to - from = omega (arith, each-length from (to - from), h) in
-      let e = each-end from (to - from) i inside in
-      (omega (arith, e, each-begin from (to - from) i (omega (arith, inside))), omega (arith, e, b, inside)),
-)
+each-within limit from to a b = grind (arith, each-length, each-end, each-begin)
 
 -- items of one each end within the numbers
 pub each-number : (e : Ends) (from to i : ℕ) → e ≡ variants.Each from to → i ≤ length (ends_of e)
@@ -53,7 +45,6 @@ pub each-number : (e : Ends) (from to i : ℕ) → e ≡ variants.Each from to �
 each-number e from to is_each is h = grind (arith, each-length)
 
 pub each-inside : (e : Ends) (from to i : ℕ) → e ≡ variants.Each from to → i < length (ends_of e) → from + i < to
-each-inside e from to i is h =
-    let inside = subst (λ x. i < length (ends_of x)) is h in omega (arith, each-length from (to - from), inside)
+each-inside e from to i is h = grind (arith, each-length)
 
 pub ruleset each_laws = (each-length, each-end, each-begin, each-part, each-ones, each-within, each-number, each-inside)

@@ -1,10 +1,9 @@
 -- The pieces between ends, one by one, and some of them; and the coordinates in some of the words.
-use Rattle.std.proofs.Common.{◌≡◌, ℕ, zero, suc, ◌+◌, ◌-◌, ◌*◌, ◌/◌, ◌<◌, ◌≤◌, refl, sym, ap, ◌∙◌, arith}
-use Rattle.std.proofs.Common.{List, [], ◌∷◌, length, take, drop, length-take, length-drop, Option, Some, slice_get}
-use Rattle.std.proofs.Common.{option_map, option_and_then}
-use Rattle.std.proofs.Common.{slice_index, slice_range, None, inl, inr}
+use Rattle.std.proofs.Common.{◌≡◌, ℕ, zero, suc, ◌+◌, ◌-◌, ◌*◌, ◌/◌, ◌<◌, ◌≤◌, refl, sym, ap, ◌∙◌, arith, List, [], ◌∷◌}
+use Rattle.std.proofs.Common.{length, take, drop, length-take, length-drop, Option, Some, slice_get, option_map}
+use Rattle.std.proofs.Common.{option_and_then, slice_index, slice_range, None, inl, inr}
 use Rattle.std.proofs.lemmas.Bool.{cases_eq}
-use Rattle.std.proofs.Math.Nat.{mul-le-mul_left, mul-div-le, mul-div_cancel_left, mul-sub, mul-zero}
+use Rattle.std.proofs.Math.Nat.{mul-div-le, mul-div_cancel_left, mul-sub, mul-zero}
 use Rattle.std.proofs.lemmas.List.{drop-drop, take-take, drop-take, get_or-drop, get_or-take}
 use Rattle.wkb_geom.specs.declared.common.Dimensions.{Dimensions}
 use Rattle.wkb_geom.specs.Dimensions.{size}
@@ -36,8 +35,7 @@ drop-pieces : {A : Type 0} (base : ℕ) (items : List A) (start : ℕ) (ends : L
     → drop k (pieces_from base items start ends) ≡ pieces_from base items (start_at start ends k) (drop k ends)
 drop-pieces base items start ends zero h = refl
 drop-pieces base items start [] (suc k) h = absurd (omega arith)
-drop-pieces base items start (e ∷ ends) (suc k) h =
-    grind (arith, start_behind, drop-pieces base items e ends k (omega arith))
+drop-pieces base items start (e ∷ ends) (suc k) h = grind (arith, drop-pieces base items e ends k (omega arith))
 
 take-pieces : {A : Type 0} (base : ℕ) (items : List A) (start : ℕ) (ends : List ℕ) (k : ℕ)
     → take k (pieces_from base items start ends) ≡ pieces_from base items start (take k ends)
@@ -106,13 +104,11 @@ ones_only base items start [] low ones h = refl
 ones_only base items start (e ∷ ends) low ones h =
     let next : e ≡ start + 1 = ones 0 (omega arith) in
     let k = start - base in
-    let m = one_more items k (omega arith) in
-    let rest = ones_only base items e ends (omega (arith, low, next))
-    (λ i lt. ones (suc i) (omega (arith, lt)) ∙ ap (λ b. b + 1) (sym (start_behind start e ends i)))
-    (omega (arith, next, low, h)) in
+    let rest = ones_only base items e ends (omega (arith, low, next)) (λ i lt. ones (suc i) (omega (arith, lt)) ∙ ap (λ
+    b. b + 1) (sym (start_behind start e ends i))) (omega (arith, next, low, h)) in
     let wide : e - base - k ≡ 1 = omega (arith, next, low) in
     let up : e - base ≡ suc k = omega (arith, next, low) in
-    rw (rest, wide, up, m.1) refl
+    rw (rest, wide, up, (one_more items k (omega arith)).1) refl
 
 pub not_only : {A : Type 0} (items : List A) → (length items ≡ 1 → ⊥) → only items ≡ None
 not_only items differ = grind arith
@@ -160,27 +156,16 @@ take-runs : (width count k : ℕ) (words : List ℕ) → k ≤ count
 take-runs width count zero words h = refl
 take-runs width zero (suc k) words h = absurd (omega arith)
 take-runs width (suc count) (suc k) words h =
-    ap (λ rest. take width words ∷ rest) (take-runs width count k (drop width words) (omega arith)
-    ∙ ap (runs width k) (sym (drop-take width (width * k) words)))
-    ∙ ap (λ first. first ∷ runs width k (drop width (take (width + width * k) words)))
-    (sym (take-take width (width + width * k) words (omega arith)))
-    ∙ ap (λ n. take width (take n words) ∷ runs width k (drop width (take n words))) (omega arith)
+    ap (λ rest. take width words ∷ rest) (take-runs width count k (drop width words) (omega arith) ∙ ap (runs width k)
+    (sym (drop-take width (width * k) words))) ∙ ap (λ first. first ∷ runs width k
+    (drop width (take (width + width * k) words))) (sym (take-take width (width + width * k) words (omega arith))) ∙ ap
+    (λ n. take width (take n words) ∷ runs width k (drop width (take n words))) (omega arith)
 
 -- some of the coordinates are those in some of the words
 pub coordinates_between : (d : Dimensions) (words : List ℕ) (from to : ℕ) → 0 < size d → from ≤ to
     → to ≤ length words / size d
     → coordinates_in d (slice_range words (size d * from) (size d * to)) ≡ slice_range (coordinates_in d words) from to
 coordinates_between d words from to some order within =
-    grind (
-      arith,
-      mul-div_cancel_left,
-      mul-le-mul_left,
-      length-drop,
-      length-take,
-      mul-div-le,
-      mul-sub,
-      drop-runs,
-      take-runs,
-    )
+    grind (arith, mul-div_cancel_left, length-drop, length-take, mul-div-le, mul-sub, drop-runs, take-runs)
 
 pub ruleset piece_laws = (length-pieces, slice_get-pieces, slice_range-pieces)

@@ -6,7 +6,7 @@ use Rattle.wkb_levels.specs.EndLists.{start_of, ends_of, begin_of}
 use Rattle.wkb_levels.specs.RingLists.{rings_rings}
 use Rattle.wkb_levels.specs.PolygonLists.{polygons_polygons}
 use Rattle.wkb_levels.specs.declared.polygons.Polygons.{Polygons}
-use Rattle.wkb_levels.proofs.Pieces.{length-pieces, slice_get-pieces, slice_range-pieces, start_within, start_from}
+use Rattle.wkb_levels.proofs.Pieces.{length-pieces, slice_get-pieces, slice_range-pieces, start_from}
 use Rattle.wkb_levels.proofs.Pieces.{ones_at, ones_only, not_ones}
 
 -- a polygon for each end
@@ -34,14 +34,7 @@ ends_in p s b e i first at to h = grind (arith, count_polygons, begins_from)
 -- where each has one ring, there are as many rings
 pub ones_in : (p : Polygons) (n : ℕ) → n ≡ length (ends_of p.ends) → AreOnes (start_of p.ends) (ends_of p.ends)
     → n ≤ length (rings_rings p.rings)
-ones_in p n count ones =
-    let limit = start_of p.ends + length (rings_rings p.rings) in
-    omega (
-      arith,
-      count,
-      ones_at (start_of p.ends) (ends_of p.ends) n ones (omega (arith, count)),
-      start_within limit (start_of p.ends) (ends_of p.ends) n p.fit (omega (arith, count)),
-    )
+ones_in p n count ones = grind (arith, ones_at (start_of p.ends) (ends_of p.ends) n ones (omega (arith, count)))
 
 -- and they are the first ones
 pub ones_first : (p : Polygons) (n : ℕ) (rings : List (List (List ℕ))) → n ≡ length (ends_of p.ends)

@@ -1,7 +1,6 @@
 -- A ring's words are inside the words, and are the coordinates of the piece.
-use Rattle.std.proofs.Common.{◌≡◌, ℕ, ◌+◌, ◌-◌, ◌*◌, ◌/◌, ◌%◌, ◌<◌, ◌≤◌, sym, ap, ◌∙◌, arith}
-use Rattle.std.proofs.Common.{◌↔◌, length, take, drop, Option, Some, None, IfSome, IsSome}
-use Rattle.std.proofs.Common.{option_map, slice_get, slice_index, slice_range}
+use Rattle.std.proofs.Common.{◌≡◌, ℕ, ◌+◌, ◌-◌, ◌*◌, ◌/◌, ◌%◌, ◌<◌, ◌≤◌, sym, ap, ◌∙◌, arith, ◌↔◌, length, take, drop}
+use Rattle.std.proofs.Common.{Option, Some, None, IfSome, IsSome, option_map, slice_get, slice_index, slice_range}
 use Rattle.std.proofs.Math.Nat.{mul-le-mul_left, mul-div-le, mul-sub, mul-mod_right, mul-add}
 use Rattle.std.proofs.lemmas.Bool.{false≢true}
 use Rattle.std.proofs.lemmas.Option.{slice_get_past}
@@ -77,8 +76,7 @@ ones_are r w s n (Some l) wide at count ones some is =
     let d = r.dim in
     let words = r.words.now in
     let cs = coordinates_in d words in
-    let last : s + n ≤ length words / size d =
-    omega (
+    let last : s + n ≤ length words / size d = omega (
       arith,
       at,
       count,
@@ -88,13 +86,11 @@ ones_are r w s n (Some l) wide at count ones some is =
     let long = length-runs (size d) (length words / size d) words in
     let zero : s ≡ start_of r.ends - 0 = omega (arith, at) in
     let same : s + n - s ≡ n = omega arith in
-    ap (λ c. Some c) (is
-    ∙ ap (λ k. coordinates_in d (slice_range words (k * s) (k * s + k * n))) wide
-    ∙ ap (λ k. coordinates_in d (slice_range words (size d * s) k)) (sym (mul-add (size d) s n))
-    ∙ coordinates_between d words s (s + n) r.some_words (omega arith) last
-    ∙ ap (λ k. take k (drop s cs)) (same ∙ count)
-    ∙ ap (λ k. take (length (ends_of r.ends)) (drop k cs)) zero)
-    ∙ sym (ones_only 0 cs (start_of r.ends) (ends_of r.ends) (omega arith) ones (omega (arith, long, last, at, count)))
+    ap (λ c. Some c) (is ∙ ap (λ k. coordinates_in d (slice_range words (k * s) (k * s + k * n))) wide ∙ ap
+    (λ k. coordinates_in d (slice_range words (size d * s) k)) (sym (mul-add (size d) s n)) ∙ coordinates_between d
+    words s (s + n) r.some_words (omega arith) last ∙ ap (λ k. take k (drop s cs)) (same ∙ count) ∙ ap
+    (λ k. take (length (ends_of r.ends)) (drop k cs)) zero) ∙ sym (ones_only 0 cs (start_of r.ends) (ends_of r.ends)
+    (omega arith) ones (omega (arith, long, last, at, count)))
 
 -- where they aren't, not each has one
 pub not_ones_are : (r : Rings) → (AreOnes (start_of r.ends) (ends_of r.ends) → ⊥) → only_each (rings_rings r) ≡ None

@@ -1,5 +1,5 @@
 -- What became of a row, from what its writer and its size returned.
-use Rattle.std.proofs.Common.{◌≡◌, ℕ, ◌<◌, ◌++◌, List, None, length, drop, refl, sym, ap, ◌∙◌, inl, inr}
+use Rattle.std.proofs.Common.{arith, ◌≡◌, ℕ, ◌<◌, List, None, length, refl, sym, ap, ◌∙◌, inl, inr}
 use Rattle.std.proofs.lemmas.Option.{none-some, same_Some}
 use Rattle.wkb_geom.specs.declared.common.Dimensions.{Dimensions}
 use Rattle.wkb_geom.specs.declared.error.WkbError.{WkbError}
@@ -20,9 +20,8 @@ module _ (l : Levels) (kind : Kind) (d : Dimensions) (o : WriteOptions) (i : ℕ
   pub row_put : (g : Geometry) (n : ℕ) → IsLevelRow l kind d i g → fault_of o g ≡ None
       → IsInFront before after (encoding_of o g) n → IsRowWrite l kind d o i before after (written.Whole n)
   row_put g n row fine front =
-      put (encoding_of o g) (record { geometry = g; row = row; writable = fine; is = refl })
-      (ap (λ k. written.Whole k) front.len)
-      (front.whole ∙ ap (λ k. encoding_of o g ++ drop k before) front.len)
+      put (encoding_of o g) (record { geometry = g; row = row; writable = fine; is = refl }) (ap (λ k. written.Whole k)
+      front.len) (grind arith)
 
   pub row_lacks : (g : Geometry) (n : ℕ) (e : WkbError) → IsLevelRow l kind d i g → IsSliceError o g before e
       → (fault_of o g ≡ None) × (n ≡ length (encoding_of o g)) → after ≡ before

@@ -42,21 +42,18 @@ returns-in_err-rings-clause-some c =
 pub new-requires-2 : goal.new-requires-2
 new-requires-2 c =
     let at = goal.at.new-requires-2 c in
-    let counted =
-    count_rings c.args.self.now c.args.dim c.args.i _ (singles at.After-last) _ (spans at.After-new) _
+    let counted = count_rings c.args.self.now c.args.dim c.args.i _ (singles at.After-last) _ (spans at.After-new) _
     c.in_ok-rings.ensures.rings in
     omega (arith, counted, c.last.ensures, c.last.type_inv)
 
 pub returns-clause-some : goal.returns-clause-some
 returns-clause-some c =
     let at = goal.at.returns-clause-some c in
-    follows_on c.new-2.result c.new-2.ensures.some
-    (levels_are c.args.self.now c.args.dim c.args.i _ (singles at.After-last) _ (spans at.After-new) _
-    c.in_ok-rings.ensures.rings (c.in_ok-rings.ensures.some.0 refl))
+    follows_on c.new-2.result c.new-2.ensures.some (levels_are c.args.self.now c.args.dim c.args.i _
+    (singles at.After-last) _ (spans at.After-new) _ c.in_ok-rings.ensures.rings (c.in_ok-rings.ensures.some.0 refl))
 
 pub returns-clause-polygons : goal.returns-clause-polygons
 returns-clause-polygons c =
     let at = goal.at.returns-clause-polygons c in
-    some_told polygons_polygons _ _ c.new-2.result c.new-2.ensures.some c.new-2.ensures.polygons
-    (polygons_are c.args.self.now c.args.dim c.args.i _ (singles at.After-last) _ (spans at.After-new) _
-    c.in_ok-rings.ensures.rings)
+    some_told polygons_polygons _ _ c.new-2.result c.new-2.ensures.some c.new-2.ensures.polygons (polygons_are
+    c.args.self.now c.args.dim c.args.i _ (singles at.After-last) _ (spans at.After-new) _ c.in_ok-rings.ensures.rings)
