@@ -95,7 +95,7 @@ impl AxisRanks {
         self.y = y;
     }
 
-    /// As `widen_plane_by`, with a test of each word where one isn't a number.
+    /// As `widen_plane_by`, with a test of each word on an axis where one isn't a number.
     #[tactic(auto, using(crate::proofs::Widening::run_laws))]
     #[inline(always)]
     pub(crate) fn widen_plane_in(&mut self, run: Run<'_>)
@@ -109,29 +109,48 @@ impl AxisRanks {
             self.x = numbers.x;
             self.y = numbers.y;
         } else {
-            // A copy is lent, so that the ranks stay in registers.
+            // Copies are lent, so that the ranks stay in registers.
             let mut tested = *self;
-            tested.widen_plane_word_by_word(run.order, run.size, run.count, run.bytes);
+            let untested = numbers;
+            tested.widen_again(&untested, run.order, run.size, run.count, run.bytes);
             self.x = tested.x;
             self.y = tested.y;
         }
     }
 
-    /// As `widen_plane_by`, with a test of each word. It isn't inlined, so that the loop without such tests is short.
+    /// As `widen_plane_by`, with a test of each word on an axis where one isn't a number, of ranks that become
+    /// `numbers` without. It isn't inlined, so that the loop without such tests is short.
     #[tactic(auto, using(crate::proofs::Widening::run_laws))]
     #[inline(never)]
-    fn widen_plane_word_by_word(&mut self, order: Endianness, size: usize, count: u32, bytes: &[u8])
+    fn widen_again(
+        &mut self,
+        numbers: &AxisRanks,
+        order: Endianness,
+        size: usize,
+        count: u32,
+        bytes: &[u8],
+    )
         requires plane { 16 ≤ size }
         requires whole { size * count ≤ length bytes.now }
         requires room { HasRoom (bounds_by self.old) count }
+        requires by { WidensPlane false self.old numbers.now (rows order size count bytes.now) }
         ensures { WidensPlane true self.old self.new (rows order size count bytes.now) }
     {
-        self.widen_plane_by(Run::of(order, size, count, bytes), true);
+        let run = Run::of(order, size, count, bytes);
+        if numbers.x.are_numbers() {
+            self.y.widen_by(1, run, true);
+            self.x = numbers.x;
+        } else if numbers.y.are_numbers() {
+            self.x.widen_by(0, run, true);
+            self.y = numbers.y;
+        } else {
+            self.widen_plane_by(run, true);
+        }
     }
 
-    /// As `widen_plane_in`, with a loop for each order. It isn't inlined, so that its counters stay in registers.
+    /// As `widen_plane_in`, with a loop for each order.
     #[tactic(auto, using(crate::proofs::Widening::run_laws))]
-    #[inline(never)]
+    #[inline(always)]
     fn widen_plane(&mut self, order: Endianness, size: usize, count: u32, bytes: &[u8])
         requires plane { 16 ≤ size }
         requires whole { size * count ≤ length bytes.now }

@@ -86,7 +86,7 @@ impl Ranks {
     /// Widens the ranks by word `k` of each coordinate.
     #[tactic(auto, using(crate::proofs::Widening::run_laws))]
     #[inline(always)]
-    fn widen_by(&mut self, k: usize, run: Run<'_>, tested: bool)
+    pub(crate) fn widen_by(&mut self, k: usize, run: Run<'_>, tested: bool)
         requires there { k < run.size / 8 }
         requires room { self.old.count + run.count < 2 ^ 64 }
         ensures { WidensRanks tested self.old self.new
@@ -101,7 +101,7 @@ impl Ranks {
         *self = ranks;
     }
 
-    /// As `widen_by`, with a test of each word where one isn't a number.
+    /// As `widen_by`, with a test of each word where one isn't a number. Where none is, the first isn't either.
     #[tactic(auto, using(crate::proofs::Widening::run_laws))]
     #[inline(always)]
     fn widen_in(&mut self, k: usize, run: Run<'_>)
@@ -110,6 +110,9 @@ impl Ranks {
         ensures { WidensRanks true self.old self.new
             (words_at (Some k) (coordinates_of run.entry)) }
     {
+        if run.count > 0 && is_nan(run.first_word(k)) {
+            return self.widen_word_by_word(k, run.order, run.size, run.count, run.bytes);
+        }
         let mut numbers = *self;
         numbers.widen_by(k, run, false);
         if numbers.are_numbers() {
