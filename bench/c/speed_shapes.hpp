@@ -79,6 +79,14 @@ row line() {
   return out;
 }
 
+inline row line_with_z() {
+  row out;
+  put_header(out, 1000 * WKB_DIM_XYZ + WKB_KIND_LINE_STRING);
+  put(out, 10);
+  put_words(out, 30);
+  return out;
+}
+
 template <std::uint32_t RINGS, std::uint32_t COUNT>
 row polygon() {
   row out;
@@ -86,11 +94,12 @@ row polygon() {
   return out;
 }
 
-inline row multi_polygon() {
+template <std::uint32_t MEMBERS, std::uint32_t COUNT>
+row multi_polygon() {
   row out;
   put_header(out, WKB_KIND_MULTI_POLYGON);
-  put(out, 5);
-  for (int i = 0; i < 5; i++) put_polygon(out, 1, 12);
+  put(out, MEMBERS);
+  for (std::uint32_t i = 0; i < MEMBERS; i++) put_polygon(out, 1, COUNT);
   return out;
 }
 
@@ -115,12 +124,6 @@ inline row collection_of(const std::vector<row> &members) {
 
 inline row small_collection() { return collection_of({point(), line<10>(), polygon<1, 5>(), point()}); }
 
-inline row nested() {
-  row out = point();
-  for (int i = 0; i < 10; i++) out = collection_of({out});
-  return out;
-}
-
 // Makes a word of a line string a NaN.
 inline void put_nan(row &line_string, std::size_t word) {
   const double nan = std::numeric_limits<double>::quiet_NaN();
@@ -130,13 +133,6 @@ inline void put_nan(row &line_string, std::size_t word) {
 inline row line_with_nan() {
   row out = line<100>();
   put_nan(out, random_numbers() % 200);
-  return out;
-}
-
-inline row line_with_nans() {
-  row out = line<100>();
-  for (std::size_t word = 0; word < 200; word++)
-    if (random_numbers() % 10 == 0) put_nan(out, word);
   return out;
 }
 
@@ -159,16 +155,16 @@ constexpr shape SHAPES[] = {
     {"point", point},
     {"point with z", point_with_z},
     {"line of 10", line<10>},
+    {"line of 10 with z", line_with_z},
     {"line of 100", line<100>},
     {"polygon of 5", polygon<1, 5>},
     {"polygon of 20", polygon<1, 20>},
     {"polygon of 2 x 12", polygon<2, 12>},
-    {"multi polygon of 5 x 12", multi_polygon},
+    {"multi polygon of 5 x 12", multi_polygon<5, 12>},
+    {"multi polygon of 1 x 5", multi_polygon<1, 5>},
     {"multi point of 50", multi_point},
     {"collection of 4", small_collection, false},
-    {"10 nested collections", nested, false},
     {"line of 100, one NaN", line_with_nan},
-    {"line of 100, 10 % NaN", line_with_nans},
     {"line of 10, z and m NaN", line_without_z_and_m},
 };
 
