@@ -22,8 +22,7 @@ some_entry input parts h = omega (arith, h.many)
 
 one_entry : (s : Spelling) (t : Value) → length (geometry_entries 0 0 s t) ≡ 1
     → geometry_entries 0 0 s t ≡ entry_at 0 0 (whole s t) ∷ []
-one_entry (node h words ss) t is =
-    ap (λ z. entry_at 0 0 (whole (node h words ss) t) ∷ z) (nil_from_length _ (omega (arith, is)))
+one_entry (node h words ss) t is = grind (arith, node, nil_from_length)
 
 -- the table of what was found
 module _ {input : List ℕ} {f : Summary} (d : DescribesFront input f) where
@@ -59,8 +58,7 @@ module _ {input : List ℕ} {f : Summary} (d : DescribesFront input f) where
       }
 
   pub lacks_table : {parts : List Part} → length parts < f.parts → FindsNoRoom (HasTable input) parts f.parts
-  lacks_table short =
-      record { items = entries; is = table; lacks = record { count_is = long; short = omega (arith, short, long) } }
+  lacks_table short = grind (arith, table, long)
 
   pub table_laid : {parts new : List Part} → f.parts ≤ length parts → new ≡ sets parts 0 entries
       → IsWritten (HasTable input) parts new f.parts

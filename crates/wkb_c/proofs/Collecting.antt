@@ -1,8 +1,7 @@
 -- One geometry whose members are the geometries that rows begin with.
-use Rattle.wkb_abi.proofs.Common.{◌≡◌, ℕ, suc, ◌+◌, ◌<◌, ◌≤◌, List, [], ◌∷◌, ◌++◌, None, refl, sym, ap, subst, ◌∙◌}
-use Rattle.wkb_abi.proofs.Common.{arith, append-nil, Value, Values, member, no_members, kind, dimension, members, point}
-use Rattle.wkb_abi.proofs.Common.{line_string, polygon, multi_point, multi_line_string, multi_polygon, collection}
-use Rattle.wkb_abi.proofs.Common.{Dimension, false, Wanted}
+use Rattle.wkb_abi.proofs.Common.{◌≡◌, ℕ, suc, ◌+◌, ◌<◌, ◌≤◌, List, [], ◌∷◌, ◌++◌, refl, sym, arith, append-nil, Value}
+use Rattle.wkb_abi.proofs.Common.{Values, member, no_members, kind, dimension, members, point, line_string, polygon}
+use Rattle.wkb_abi.proofs.Common.{multi_point, multi_line_string, multi_polygon, collection, Dimension, false, Wanted}
 use Rattle.wkb_laws.specs.Prelude.{encodings, inner, geometries_of, type_of, IsPart, member_part, count, each, nest}
 use Rattle.wkb_laws.specs.Prelude.{nest_each}
 use Rattle.wkb_abi.specs.declared.{column.Column.Column, options.Options.Options}
@@ -13,7 +12,6 @@ use Rattle.wkb_rewrite.proofs.Encodings.{encoded_apart}
 use Rattle.wkb_rewrite.specs.Targets.{encoding_for}
 use Rattle.wkb_sink.specs.Options.{counted_header}
 use Rattle.wkb_sink.specs.declared.options.WriteOptions.{WriteOptions}
-use Rattle.wkb_abi.specs.Requests.{options_for}
 use Rattle.wkb_c.specs.Collections.{AreRowMembers, IsCollected, IsAsked, IsWhole}
 use Rattle.wkb_c.specs.declared.collect.CollectTarget.{CollectTarget}
 use Rattle.wkb_c.proofs.RowItems.{written_as, no_room_as}
@@ -47,10 +45,7 @@ module _ (c : Column) {k : ℕ} {d : Dimension} (low : 3 < k) (high : k ≤ 7) w
   made i no_members are =
       by_list_kind (λ k. HasMembers k d no_members) (has (multi_point d []) refl) (has (multi_line_string d []) refl)
       (has (multi_polygon d []) refl) (has (collection d no_members) refl) k low high
-  made i (member t ts) are =
-      let v = made (suc i) ts are.1 in
-      subst (λ T. T) (λ j. HasMembers (v.kind_is j) (v.dimension_is j) (member t (v.members_are j)))
-      (one_more v.value t (omega (arith, low, v.kind_is)) (rw (v.kind_is, v.dimension_is) are.0.has.wanted))
+  made i (member t ts) are = grind (arith, member, one_more, made (suc i) ts are.1)
 
 shallow_each : (c : Column) (w : Wanted) (i : ℕ) (ts : Values) → AreRowMembers c w i ts → nest_each ts ≤ member_room
 shallow_each c w i no_members are = omega arith
@@ -64,36 +59,16 @@ whole_encoded : (options : WriteOptions) (t : Value) → 3 < kind t
     ≡ counted_header options (type_of (kind t) (dimension t)) (count (members t))
     ++ encodings options.endianness (inner options.form) (geometries_of (members t))
 unfolding words_encoding
-whole_encoded options (collection d ts) low =
-    encoded_apart options.endianness options.form (collection d ts) ∙ simp append-nil
-whole_encoded options t low =
-    first_of (simp (encoded_apart options.endianness options.form t, append-nil, count-each), grind arith)
+whole_encoded options t low = grind (arith, encoded_apart, collection, append-nil, count-each)
 
 nest_of : (t : Value) → nest t ≤ 1 + nest_each (members t)
-nest_of (collection d ts) = omega arith
-nest_of _ = omega arith
+nest_of t = grind arith
 
 -- ---- the whole
 
 pub whole_collected : {c : Column} {rows k n : ℕ} {o : Options} {target : CollectTarget}
     → IsAsked k n o target → (encoding : List ℕ) → IsWhole c target rows encoding
     → IsCollected c rows k n o encoding
-whole_collected {c} a encoding w =
-    let h = w.have in
-    let v = made c (omega (arith, a.low, a.kind_is)) (omega (arith, a.high, a.kind_is)) 0 h.values h.are in
-    record {
-      value = v.value;
-      kind_is = v.kind_is ∙ a.kind_is;
-      dimension_is = rw v.dimension_is a.named;
-      many = rw v.members_are h.many;
-      are = rw (v.dimension_is, v.members_are, ← a.kind_is) h.are;
-      shallow = omega (arith, nest_of v.value, ap nest_each v.members_are, shallow_each c _ 0 h.values h.are);
-      request = a.request;
-      asked = a.asked;
-      written =
-          w.encoding_is
-          ∙ sym (whole_encoded (options_for a.request None) v.value (omega (arith, a.low, a.kind_is, v.kind_is))
-          ∙ rw (v.kind_is, v.dimension_is, v.members_are, h.many, a.options_are) refl);
-    }
+whole_collected a encoding w = grind (arith, made, nest_of, shallow_each, whole_encoded)
 
 pub ruleset collected_laws = (whole_collected, written_as, no_room_as)

@@ -2,7 +2,7 @@
 use Rattle.wkb_abi.proofs.Common.{◌≡◌, ℕ, ◌+◌, ◌≤◌, ◌<◌, inl, inr, List, length, Some, refl, ap, sym, ◌∙◌, arith}
 use Rattle.wkb_abi.proofs.Common.{header, length-sets, Endianness, encoding, geometry_of, DescribesFront, Summary, here}
 use Rattle.wkb_abi.proofs.Common.{IsRow, IsRowStep, RowHas, RowFails}
-use Rattle.wkb_laws.specs.Prelude.{Form, Ewkb, header_encoding, point_encoding, line_string_encoding, polygon_encoding}
+use Rattle.wkb_laws.specs.Prelude.{Form, header_encoding, point_encoding, line_string_encoding, polygon_encoding}
 use Rattle.wkb_laws.specs.Prelude.{members_encoding, Geometry, AreBytes}
 use Rattle.wkb_geom.specs.Geometries.{point}
 use Rattle.wkb_rewrite.proofs.Measured.{at_most}
@@ -13,10 +13,8 @@ use Rattle.wkb_abi.specs.RowItems.{nothing, fails}
 use Rattle.wkb_abi.specs.Writings.{WritesRequested, WritesAsked, HasEncoding, FailsToWrite, WritesAny, accepted}
 use Rattle.wkb_abi.specs.Writings.{rejected, unknown, refused}
 use Rattle.wkb_abi.specs.declared.{column.Column.Column, options.Options.Options, options.Request.Request}
-use Rattle.wkb_abi.specs.declared.{options.Request.TheVariants.Encoding, options.Request.TheVariants.OwnSrid}
 use Rattle.wkb_abi.specs.declared.{status.TheConstants.NO_ROOM, status.TheConstants.OK}
-use Rattle.wkb_abi.proofs.OneRow.{is_asked}
-use Rattle.wkb_c.proofs.RowItems.{IsLent, first_held, row_step, unchanged, written_as, no_room_as}
+use Rattle.wkb_c.proofs.RowItems.{IsLent, first_held, row_step, unchanged}
 
 -- an encoding has a first byte
 pub some_encoding : (order : Endianness) (form : Form) (g : Geometry) → 0 < length (encoding order form g)
@@ -25,10 +23,7 @@ some_encoding order form (point d c) = omega arith
 some_encoding order form _ = omega arith
 
 some_requested : (request : Request) (input out : List ℕ) → IsRequested request input out → 0 < length out
-some_requested (Encoding o) input out h =
-    omega (arith, ap length h.written, some_encoding o.endianness o.form (geometry_of h.t))
-some_requested (OwnSrid order) input out h =
-    omega (arith, ap length h.written, some_encoding order (Ewkb (header h.s).srid) (geometry_of h.t))
+some_requested request input out h = grind (arith, some_encoding, geometry_of, header)
 
 -- the encoding under the options of a request is what is asked for
 module _ (request : Request) {input : List ℕ} {found : Summary} (d : DescribesFront input found)
@@ -37,13 +32,7 @@ module _ (request : Request) {input : List ℕ} {found : Summary} (d : Describes
   bytes = encoding_for options d.value
 
   requested_of : (request : Request) → options ≡ options_for request found.srid → IsRequested request input bytes
-  requested_of (Encoding own) is =
-      let written = ap (λ o. encoding_for o d.value) is in
-      record { s = d.spelled; t = d.value; rest = d.rest; front = d.front; written = written }
-  requested_of (OwnSrid order) is =
-      let written = ap (λ o. encoding_for o d.value) is
-      ∙ ap (λ srid. encoding order (Ewkb srid) (geometry_of d.value)) d.described.srid in
-      record { s = d.spelled; t = d.value; rest = d.rest; front = d.front; written = written }
+  requested_of request is = grind arith
 
   bound : {size : ℕ} → AreBytes input → size ≡ length bytes → size ≤ length input + 4
   bound are size_is = omega (arith, size_is, at_most options.endianness options.form input (here d) are)
@@ -87,19 +76,7 @@ has_encoding asked _ requested = record { request = _; asked = sym asked; is_req
 pub meant : {o : Options} {request : Request} {input before after : List ℕ} {status size size' : ℕ}
     → Some request ≡ request_of o → WritesRequested request input before after status size'
     → WritesAsked o input before after status size size'
-meant {o} {request} asked w = record {
-  written = λ ok. written_as (has_encoding asked) (w.written ok);
-  no_room = λ short. no_room_as (has_encoding asked) (w.no_room short);
-  unknown = (
-    λ unknown. absurd (grind (arith, w.known)),
-    λ none. absurd (is_asked o request (sym asked) none),
-  );
-  bound = λ either. w.bound;
-  known = inl w.known;
-  long = w.long;
-  out_kept = w.out_kept;
-  size_kept = λ not_ok other. absurd (grind (arith, w.known));
-}
+meant asked w = grind arith
 
 -- the step of a row that has these bytes
 pub any_step : {c : Column} {o : Options} {i start status count : ℕ} {before lent sub after row : List ℕ}

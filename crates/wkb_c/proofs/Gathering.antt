@@ -1,7 +1,7 @@
 -- The members that rows begin with, row by row.
 use Rattle.wkb_abi.proofs.Common.{◌≡◌, ℕ, suc, ◌+◌, ◌≤◌, ◌<◌, List, ◌++◌, length, drop, ◌⊎◌, inl, inr, refl, sym, ap}
 use Rattle.wkb_abi.proofs.Common.{subst, ◌∙◌, arith, length-append, Spelling, Value, Values, member, no_members, kind}
-use Rattle.wkb_abi.proofs.Common.{collection, Some, None, srid_size, ◌-◌, sets, sets-eq, Summary, false, IsAccepted}
+use Rattle.wkb_abi.proofs.Common.{Some, None, srid_size, ◌-◌, sets, sets-eq, Summary, false, IsAccepted}
 use Rattle.wkb_abi.proofs.Common.{RowHas, IsRow, Reach, Wanted}
 use Rattle.wkb_laws.specs.Prelude.{inner, IsRewriting, FrontWithin, AreBytes, type_kind, type_dimension, IsPart, any}
 use Rattle.wkb_laws.specs.Prelude.{count, nest}
@@ -46,8 +46,7 @@ there {t = t} b =
 
 -- a geometry that is no collection has room anywhere
 none_nested : (t : Value) → kind t < 7 → nest t ≤ member_room
-none_nested (collection d ts) low = absurd (omega (arith, low))
-none_nested _ low = omega arith
+none_nested t low = grind arith
 
 -- and so is what is described there
 pub described_with : {a b : ℕ} {row : List ℕ} {f : Summary} → (d : DescribesFrontWithin a row f) → nest d.value ≤ b
@@ -173,12 +172,7 @@ pub record WrittenBefore (c : Column) (target : CollectTarget) (i reach at : ℕ
 
 pub none_written : {c : Column} {target : CollectTarget} {reach : ℕ} {out : List ℕ}
     → WrittenBefore c target 0 reach 0 out out
-none_written = record {
-  go_on = λ last are.
-      record { all = last; are = are; many = omega arith; size_is = omega arith; laid = λ room. refl };
-  fits = omega arith;
-  long = refl;
-}
+none_written = grind arith
 
 pub written_more : {c : Column} {target : CollectTarget} {i reach to at n : ℕ} {before out lent sub new : List ℕ}
     → Reach c i reach → Reach c (i + 1) to → WrittenBefore c target i reach at before out

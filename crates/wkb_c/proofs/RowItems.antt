@@ -1,6 +1,6 @@
 -- Rows that write their items one after another.
-use Rattle.wkb_abi.proofs.Common.{◌≡◌, ◌≢◌, ℕ, zero, suc, ◌+◌, ◌≤◌, ◌<◌, ◌^◌, ◌⊎◌, inl, inr, List, [], ◌++◌, length}
-use Rattle.wkb_abi.proofs.Common.{drop, slice_index, refl, ap, sym, subst, ◌∙◌, arith, append-nil, append_assoc}
+use Rattle.wkb_abi.proofs.Common.{◌≡◌, ◌≢◌, ℕ, suc, ◌+◌, ◌≤◌, ◌<◌, ◌^◌, ◌⊎◌, inl, inr, List, [], ◌++◌, length}
+use Rattle.wkb_abi.proofs.Common.{drop, slice_index, refl, ap, sym, ◌∙◌, arith, append-nil, append_assoc}
 use Rattle.wkb_abi.proofs.Common.{length-append, drop-drop, ◌-◌, set, sets, sets-eq, length-sets, IsRow, IsRowStep}
 use Rattle.wkb_abi.proofs.Common.{RowFails, RowHas, Reach}
 use Rattle.std.specs.Prelude.{take, min}
@@ -65,21 +65,14 @@ module _ {A : Type 0} {Has : ℕ → List A → Type 0} {Fails : ℕ → ℕ →
   -- with room up to its end a row doesn't lack room
   never_lacks : {end : ℕ} {out : List A} → IsRowAnswer Has Fails i status start end out → TellsOther Fails
       → length out < 2 ^ 63 → end ≤ length out → status ≡ NO_ROOM → ⊥
-  never_lacks (handed items has ok held) other small room none = omega (arith, ok, none)
-  never_lacks (no_room items has is end_is short) other small room none = omega (arith, end_is, short, small, room)
-  never_lacks (failed why end_is) other small room none = other i (subst (Fails i) none why)
+  never_lacks x other small room none = grind arith
 
 -- ---- all rows
 
 pub set_more : {A : Type 0} {rows : ℕ} {before statuses : List ℕ} {before' others : List A}
     → AreSet rows before statuses before' others → (i status : ℕ) (x : A) → i < rows
     → AreSet rows before (set statuses i status) before' (set others i x)
-set_more {rows = rows} {statuses = statuses} {others = others} are i status x below = record {
-  as_many = length-set statuses i status ∙ are.as_many;
-  as_many_others = length-set others i x ∙ are.as_many_others;
-  statuses_kept = drop-set-lt rows statuses i status below ∙ are.statuses_kept;
-  others_kept = drop-set-lt rows others i x below ∙ are.others_kept;
-}
+set_more are i status x below = grind (arith, length-set, drop-set-lt)
 
 -- the rows below this number show their items, they reach this far, and nothing else has changed
 pub record AreShown {A : Type 0} (Shows : List ℕ → A → Type 0) (none : A) (c : Column) (rows i reach : ℕ)
@@ -113,8 +106,7 @@ pub record RowsDone {A : Type 0} (Has : ℕ → List A → Type 0) (Fails : ℕ 
   pub kept : KeepsAfter i statuses ends before out
 
 start_kept : (ends : List ℕ) (i e j : ℕ) → j ≤ i → start_at 0 (set ends i e) j ≡ start_at 0 ends j
-start_kept ends i e zero h = refl
-start_kept ends i e (suc j) h = get_or-set_other ends i j e 0 (λ same. omega (arith, same, h))
+start_kept ends i e j h = grind (arith, get_or-set_other)
 
 module _ {A : Type 0} {Has : ℕ → List A → Type 0} {Fails : ℕ → ℕ → Type 0} {i at : ℕ} {statuses ends : List ℕ}
     {before out new : List A} {status count end rows : ℕ} {before_statuses before_ends : List ℕ}
@@ -167,10 +159,7 @@ pub last_end_suffices : {A : Type 0} {Has : ℕ → List A → Type 0} {Fails : 
     {statuses' statuses ends' ends : List ℕ} {before out : List A}
     → RowsDone Has Fails end i at statuses' statuses ends' ends before out → TellsOther Fails
     → length before < 2 ^ 63 → i ≡ rows → LastEndSuffices rows statuses ends before
-last_end_suffices {ends = ends} done other small all = λ room j below.
-    let last = ap (start_at 0 ends) all in
-    never_lacks (done.each j (omega (arith, below, all))) other (omega (arith, small, done.long))
-    (omega (arith, done.below j (omega (arith, below, all)), done.at_is, last, room, done.long))
+last_end_suffices done other small all = grind arith
 
 -- ---- a call for one row
 
@@ -186,10 +175,7 @@ no_room_as also w = record { items = w.items; is = also w.items w.is; lacks = w.
 -- what is laid at the start of a list
 pub first_held : {A : Type 0} {items before after : List A} {count : ℕ} → count ≡ length items → count ≤ length before
     → after ≡ sets before 0 items → IsHeld items before after count
-first_held {items = items} {before} many room is = record {
-  count_is = many;
-  whole = is ∙ sets-eq items before 0 (omega (arith, many, room)) ∙ ap (λ n. items ++ drop n before) (omega arith);
-}
+first_held many room is = grind (arith, sets-eq)
 
 -- a call is lent what is at `start` or after it, and makes `sub` of it
 pub record IsLent {A : Type 0} (start : ℕ) (before lent sub after : List A) : Type 0 where
@@ -217,8 +203,7 @@ lent_rest xs sub at at_is long =
 
 module _ {A : Type 0} {start : ℕ} {before lent sub after : List A} (l : IsLent start before lent sub after) where
   pub unchanged : sub ≡ lent → after ≡ before
-  unchanged same =
-      l.after_is ∙ ap (λ z. take l.at before ++ z) (same ∙ l.lent_is) ∙ take-append-drop l.at before
+  unchanged same = grind (arith, take-append-drop)
 
   many_lent : length lent ≡ length before - l.at
   many_lent = ap length l.lent_is ∙ length-drop l.at before
@@ -226,14 +211,7 @@ module _ {A : Type 0} {start : ℕ} {before lent sub after : List A} (l : IsLent
   -- what is laid at the start of what is lent
   pub lent_laid : (items : List A) → start + length items ≤ length before
       → (length items ≤ length lent → sub ≡ items ++ drop (length items) lent) → after ≡ sets before start items
-  lent_laid items room lays =
-      let same : l.at ≡ start = omega (arith, l.at_is, room) in
-      let rest : drop (length items) lent ≡ drop (start + length items) before =
-      ap (drop (length items)) l.lent_is ∙ drop-drop (length items) l.at before
-      ∙ ap (λ n. drop n before) (omega (arith, same)) in
-      l.after_is ∙ (λ i. take (same i) before ++ lays (omega (arith, same, room, many_lent)) i)
-      ∙ ap (λ z. take start before ++ (items ++ z)) rest
-      ∙ sym (sets-eq items before start room ∙ append_assoc (take start before) items _)
+  lent_laid items room lays = grind (arith, drop-drop, many_lent, sets-eq, append_assoc)
 
 module _ {A : Type 0} {Has : ℕ → List A → Type 0} {Fails : ℕ → ℕ → Type 0} {i status count start : ℕ}
     {before lent sub after : List A} (l : IsLent start before lent sub after) where

@@ -1,7 +1,7 @@
 -- Where the parts of a geometry are in its bytes, and what is there.
 use Rattle.wkb_abi.proofs.Common.{◌≡◌, ℕ, suc, ◌+◌, ◌*◌, List, [], ◌∷◌, length, drop, Some, refl, sym, ap, ◌∙◌, arith}
 use Rattle.wkb_abi.proofs.Common.{drop-drop, slice_get, width, number, Spelling, node, Spellings, no_spellings}
-use Rattle.wkb_abi.proofs.Common.{spelling, Spells, Wanted, SpellsEach, Coordinate, Value, Values, polygon, no_members}
+use Rattle.wkb_abi.proofs.Common.{spelling, Spells, Wanted, SpellsEach, Coordinate, Value, Values, no_members}
 use Rattle.wkb_abi.proofs.Common.{member, members, member_count, member_count_each, length-append, dimension, Subject}
 use Rattle.wkb_abi.proofs.Common.{subjects, subjects_of_each, Piece, false}
 use Rattle.wkb_laws.specs.Prelude.{Begins, coordinate, coordinates}
@@ -10,7 +10,7 @@ use Rattle.wkb_laws.proofs.Lengths.{coordinates_length}
 use Rattle.wkb_laws.proofs.Parts.{item_at}
 use Rattle.wkb_check.specs.Pieces.{own_end, piece_at}
 use Rattle.wkb_check.specs.Subjects.{whole, ring, order_in, SpellsSubject, rings_of}
-use Rattle.std.specs.Prelude.{Bool, true, nat_lt, if◌then◌else◌}
+use Rattle.std.specs.Prelude.{Bool, true, if◌then◌else◌}
 use Rattle.wkb_abi.specs.Tables.{entry_of, entry_at, entries_from, geometry_entries}
 use Rattle.wkb_check.proofs.Placing.{spelled_end, rings_many}
 use Rattle.wkb_abi.proofs.Entries.{as_many_entries}
@@ -39,16 +39,7 @@ word_read input p false i n w c this that = absurd (cc)
 piece_holds : {input : List ℕ} {p : Piece} {x : Subject} {bytes rest : List ℕ} (end next : ℕ) → IsPieceOf input p x
     → p.order ≡ order_in x → Stands input p.begin bytes rest → SpellsSubject x bytes → end ≡ p.begin + length bytes
     → HoldsSubject input (entry_of p end next) x
-piece_holds {input} {p} {bytes = bytes} {rest} end next is order_is stands spell end_is = record {
-  bytes = bytes;
-  rest = rest;
-  stand = stands.is;
-  end_is = end_is;
-  spell = spell;
-  words = λ i n w c this that.
-      rw (← order_is)
-      (word_read input p (nat_lt p.kind 3) i n w c (ap (λ z. slice_get z i) is.coordinates_are ∙ this) that);
-}
+piece_holds end next is order_is stands spell end_is = grind (arith, word_read)
 
 placed_holds : {input : List ℕ} {at : ℕ} {bytes rest : List ℕ} (index : ℕ) (x : Subject)
     → Stands input at bytes rest → SpellsSubject x bytes → HoldsSubject input (entry_at index at x) x
@@ -73,8 +64,7 @@ holds {input} s t g = each_holds input 0 0 (subjects s t) (all_placed input 0 s 
 -- ---- how many parts there are
 
 rings_counted : (t : Value) → ring_count t ≡ length (rings_of t)
-rings_counted (polygon d rings) = refl
-rings_counted _ = refl
+rings_counted t = grind arith
 
 mutual
   pub counted : (s : Spelling) (t : Value) (bytes : List ℕ) → Spells s t bytes
@@ -88,8 +78,7 @@ mutual
       → length (subjects_of_each ss ts) ≡ member_count_each ts
   members_counted w no_spellings no_members bytes sp = refl
   members_counted w (spelling s ss) (member t ts) bytes sp =
-      let first = counted s t sp.front sp.first.0 in
-      omega (arith, length-append {A = Subject}, members_counted w ss ts sp.rest sp.second)
+      grind (arith, length-append, counted s t sp.front sp.first.0, members_counted w ss ts sp.rest sp.second)
   members_counted w _ _ bytes sp = absurd sp
 
 pub entries_many : (s : Spelling) (t : Value) (bytes : List ℕ) → Spells s t bytes
