@@ -1,5 +1,5 @@
 -- The failures of the calls.
-use Rattle.std.proofs.Common.{arith, ◌≡◌, ℕ, List, Result, Ok, Err, ◌⊎◌, inl, inr}
+use Rattle.std.proofs.Common.{arith, ◌≡◌, ℕ, List, Result, Ok, Err, ◌⊎◌}
 use Rattle.std.specs.Prelude.{IfErr, IsErrAnd}
 use Rattle.hex.specs.Hex.{decode_of}
 use Rattle.hex.specs.declared.error.FromHexError.{FromHexError}
@@ -23,15 +23,10 @@ decode_failed text e (Err failure) h failed = decode_failure text e failure h fa
 
 pub failure_of : (AreHex : Type 0) (IsRight : WkbError → Type 0) (e : WkbError) (failure : HexFault)
     → IsMemory e ⊎ IsRight e → FailureOfError e failure → IsFailureOf AreHex IsRight failure
-failure_of AreHex IsRight (errors.Memory x) failure h is = rw is tt
-failure_of AreHex IsRight e failure (inl memory) is = absurd memory
-failure_of AreHex IsRight e failure (inr right) is = rw is right
+failure_of AreHex IsRight e failure h is = grind arith
 
 -- a call on the bytes of hex texts failed, and what it says of them is right for the texts
 pub call_failed : {T : Type 0} (AreHex Said : Type 0) (IsRight : WkbError → Type 0) (e : WkbError)
     (r : Result T HexFault)
     → IsMemory e ⊎ Said → IsErrAnd r (FailureOfError e) → (Said → IsRight e) → IfErr r (IsFailureOf AreHex IsRight)
-call_failed AreHex Said IsRight e (Ok x) h failed f = tt
-call_failed AreHex Said IsRight e (Err failure) (inl h) failed f = failure_of AreHex IsRight e failure (inl h) failed
-call_failed AreHex Said IsRight e (Err failure) (inr h) failed f =
-    failure_of AreHex IsRight e failure (inr (f h)) failed
+call_failed AreHex Said IsRight e r h failed f = grind arith

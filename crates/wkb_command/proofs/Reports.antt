@@ -1,6 +1,6 @@
 -- What reports say.
-use Rattle.std.proofs.Common.{◌≡◌, ◌≢◌, ℕ, List, [], ◌∷◌, ◌++◌, append_assoc, refl, ◌∙◌}
-use Rattle.std.proofs.Common.{Bool, true, false, Option, Some, None, Result, ◌⊎◌, inl, inr, IfOk}
+use Rattle.std.proofs.Common.{arith, ◌≡◌, ◌≢◌, ℕ, List, [], ◌∷◌, ◌++◌, append_assoc, refl, ◌∙◌, Bool, true, false}
+use Rattle.std.proofs.Common.{Option, Some, None, Result, ◌⊎◌, inl, inr, IfOk}
 use Rattle.std.specs.Prelude.{codes}
 use Rattle.std.specs.Fmt.{decimal}
 use Rattle.std.specs.declared.alloc.AllocError.{AllocError}
@@ -12,7 +12,6 @@ use Rattle.wkb_geom.specs.declared.error.WkbError.{WkbError}
 use Rattle.wkb_geom.specs.declared.error.WkbError.TheVariants as errors
 use Rattle.wkb.specs.Canonical.{IsPairRefusal, OverflowsWithSrid, IsSize}
 use Rattle.wkb.specs.Reads.{IsRefusal}
-use Rattle.wkb.proofs.Rewritings.{iso_fits}
 use Rattle.wkb_command.specs.declared.calls.Cost.{Cost as HexCost}
 use Rattle.wkb_command.specs.declared.calls.HexFault.{HexFault}
 use Rattle.wkb_command.specs.declared.calls.HexFault.TheVariants.{NotHex, Wkb, Memory}
@@ -30,8 +29,7 @@ use Rattle.wkb_command.proofs.Spelled.{IsHex-from}
 -- the line for an error other than the end of the input
 pub tells_text : (e : WkbError) (text line : List ℕ) → ((x : _) → e ≡ errors.IOError x → ⊥) → IsOneLine text
     → line ≡ codes "refused: " ++ (text ++ codes "\n") → TellsError e line
-tells_text (errors.IOError x) text line other one_line whole = absurd (other x refl)
-tells_text _ text line other one_line whole = record { text = text; one_line = one_line; whole = whole }
+tells_text e text line other one_line whole = grind arith
 
 -- a fixed line
 pub reports_line : (command : Command) (text line : List ℕ) (status : ℕ) (r : Result Report AllocError)
@@ -56,8 +54,7 @@ fails_one command text IsRight Memory ne f h = tt
 -- without an SRID no rewriting is too long
 pub iso_refusal : (order : Endianness) (bytes : List ℕ) (e : WkbError)
     → IsRefusal bytes e ⊎ (OverflowsWithSrid order Iso bytes × IsSize e) → IsRefusal bytes e
-iso_refusal order bytes e (inl h) = h
-iso_refusal order bytes e (inr h) = absurd (iso_fits order bytes h.0)
+iso_refusal order bytes e x = grind arith
 
 says_pair : (a b line : List ℕ) (e : WkbError) → IsPairRefusal a b e → TellsError e line
     → Says Same (a ∷ b ∷ []) line 1

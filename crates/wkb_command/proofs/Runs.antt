@@ -1,6 +1,6 @@
 -- How a run ends.
-use Rattle.std.proofs.Common.{◌≡◌, ℕ, List, [], append-nil, Option, Some, None, IfSome, IfOk, Result, Ok, Err}
-use Rattle.std.proofs.Common.{refl, sym, ◌∙◌}
+use Rattle.std.proofs.Common.{arith, ◌≡◌, ℕ, List, [], append-nil, Option, Some, None, IfSome, IfOk, Result, refl, sym}
+use Rattle.std.proofs.Common.{◌∙◌}
 use Rattle.std.specs.Prelude.{codes}
 use Rattle.std.specs.declared.alloc.AllocError.{AllocError}
 use Rattle.std.specs.Io.{StartsWith}
@@ -29,8 +29,7 @@ ends_whole rest line IsDue status h none due =
 
 pub ends_cut : {old new : Option (List ℕ)} {rest line : List ℕ} (IsDue : List ℕ → ℕ → Type 0) (status : ℕ)
     → WroteUpTo old new rest line → IsDue line status → RunEnds old new IsDue status_failed
-ends_cut IsDue status h due =
-    record { written = h.written; appended = h.appended; ends = cut_short due (begins h) }
+ends_cut IsDue status h due = record { written = h.written; appended = h.appended; ends = cut_short due (begins h) }
 
 pub ends_for_memory : {old new : Option (List ℕ)} {rest : List ℕ} (IsDue : List ℕ → ℕ → Type 0)
     → WroteUpTo old new rest (codes "out of memory\n") → RunEnds old new IsDue status_failed
@@ -42,8 +41,7 @@ ends_for_memory IsDue h = record { written = h.written; appended = h.appended; e
 due_of : (r : Result Report AllocError) (IsDue : List ℕ → ℕ → Type 0)
     → IfOk r (λ report. IsDue (line_of report.output) report.status)
     → (line : List ℕ) (status : ℕ) → IsLineOf r line status → IsDue line status
-due_of (Ok report) IsDue h line status is = rw (is.0, is.1) h
-due_of (Err e) IsDue h line status is = absurd is
+due_of r IsDue h line status is = grind arith
 
 outcome_of : (r : Result Report AllocError) (IsDue : List ℕ → ℕ → Type 0) (status : ℕ) (written : List ℕ)
     → IfOk r (λ report. IsDue (line_of report.output) report.status)
@@ -55,9 +53,4 @@ outcome_of r IsDue status written h (out_of_memory front) = out_of_memory front
 pub ends_of : (old new : Option (List ℕ)) (r : Result Report AllocError) (IsDue : List ℕ → ℕ → Type 0) (status : ℕ)
     → RunEnds old new (IsLineOf r) status → IfOk r (λ report. IsDue (line_of report.output) report.status)
     → RunEnds old new IsDue status
-ends_of old new r IsDue status ends h =
-    record {
-      written = ends.written;
-      appended = ends.appended;
-      ends = outcome_of r IsDue status ends.written h ends.ends;
-    }
+ends_of old new r IsDue status ends h = grind (arith, outcome_of)

@@ -1,6 +1,6 @@
 -- What is written of a line in parts, and of its hex in pieces.
 use Rattle.std.proofs.Common.{◌≡◌, ℕ, ◌<◌, ◌≤◌, ◌*◌, ◌+◌, ◌-◌, List, [], ◌∷◌, ◌++◌, length, take, drop}
-use Rattle.std.proofs.Common.{slice_set, append_assoc, Option, Result, Ok, Err, refl, ap, ◌∙◌, arith}
+use Rattle.std.proofs.Common.{slice_set, append_assoc, Option, Result, Ok, Err, refl, arith}
 use Rattle.std.specs.Result.{result_unwrap_or}
 use Rattle.std.specs.Io.{WritesAtMost}
 use Rattle.std.specs.Io.KnownBytes.{WriteAppends}
@@ -15,14 +15,12 @@ use Rattle.wkb_command.specs.Transfer.{WroteUpTo, WroteBeginning}
 pub wrote_once : {E : Type 0} (old new : Option (List ℕ)) (r : Result ℕ E) (count : ℕ) (text : List ℕ)
     → count ≡ result_unwrap_or r 0 → WriteAppends old new r text
     → WroteUpTo old new (take (length text - count) (drop count text)) text
-wrote_once old new (Ok n) count text is p =
-    record { written = take n text; appended = p; parts = rw is (grind (arith, common_steps)) }
-wrote_once old new (Err e) count text is p =
-    record {
-      written = [];
-      appended = Appends-kept _ _ _ _ (Appends-nil old) p;
-      parts = rw is (grind (arith, common_steps));
-    }
+wrote_once old new (Ok n) count text is p = grind (arith, common_steps)
+wrote_once old new (Err e) count text is p = record {
+  written = [];
+  appended = Appends-kept _ _ _ _ (Appends-nil old) p;
+  parts = rw is (grind (arith, common_steps));
+}
 
 pub taken_fits : {E : Type 0} (r : Result ℕ E) (bytes : List ℕ) → WritesAtMost r bytes
     → result_unwrap_or r 0 ≤ length bytes
@@ -40,11 +38,7 @@ wrote_more g h = record {
 -- more comes behind the text
 wrote_before : {old new : Option (List ℕ)} {rest text : List ℕ} (behind : List ℕ) → WroteUpTo old new rest text
     → WroteUpTo old new (rest ++ behind) (text ++ behind)
-wrote_before behind h = record {
-  written = h.written;
-  appended = h.appended;
-  parts = rw (← append_assoc, h.parts);
-}
+wrote_before behind h = record { written = h.written; appended = h.appended; parts = rw (← append_assoc, h.parts) }
 
 -- ---- hex
 
@@ -70,5 +64,4 @@ piece_written rest piece after bytes left parts hex before wrote is =
 pub digits_and_feed : (digits piece : List ℕ) → take (2 * length piece) digits ≡ encode_lower piece
     → 2 * length piece < length digits
     → take (2 * length piece + 1) (slice_set digits (2 * length piece) line_feed) ≡ hex_line piece
-digits_and_feed digits piece hex fits =
-    take_more_set digits (2 * length piece) line_feed fits ∙ ap (λ l. l ++ line_feed ∷ []) hex
+digits_and_feed digits piece hex fits = grind (arith, take_more_set)

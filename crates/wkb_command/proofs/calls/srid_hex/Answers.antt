@@ -8,12 +8,5 @@ returns-clause-err c =
     failure_of _ _ _ _ (inr (
       c.as_slice.result.now,
       (rw c.as_slice.ensures.value c.in_ok-bytes.ensures.ok),
-      record {
-        cause = _;
-        turns = _;
-        slots = h.slots;
-        refuses = h.refuses;
-        tells = c.from.ensures;
-      },
-    ))
-    c.into.ensures
+      record { cause = _; turns = _; slots = h.slots; refuses = h.refuses; tells = c.from.ensures },
+    )) c.into.ensures

@@ -4,9 +4,8 @@ use Rattle.wkb_command.proofs.program.cost_report.Goals as goal
 
 pub returns-in-Err : goal.returns-in-Err
 returns-in-Err c =
-    c.failure_report.ensures _ _
-    (fails_one Cost c.args.text.now (λ bytes e. ⊥) c.in-Err.failure (λ is. cc) (λ bytes e never. absurd never)
-    c.in-Err.ensures.err)
+    c.failure_report.ensures _ _ (fails_one Cost c.args.text.now (λ bytes e. ⊥) c.in-Err.failure (λ is. cc)
+    (λ bytes e never. absurd never) c.in-Err.ensures.err)
 
 pub returns-then-cost : goal.returns-then-cost
 returns-then-cost c =

@@ -5,6 +5,5 @@ use Rattle.wkb_command.proofs.program.srid_report.Goals as goal
 
 pub returns-in-Err : goal.returns-in-Err
 returns-in-Err c =
-    c.failure_report.ensures _ _
-    (fails_one Srid c.args.text.now IsRefusal c.in-Err.failure (λ is. cc)
+    c.failure_report.ensures _ _ (fails_one Srid c.args.text.now IsRefusal c.in-Err.failure (λ is. cc)
     (λ bytes e h. ((λ is. cc), h)) c.in-Err.ensures.err)

@@ -6,8 +6,7 @@ use Rattle.wkb_command.proofs.transfer.write_hex_line.Goals as goal
 pub returns-in_err-write_whole : goal.returns-in_err-write_whole
 returns-in_err-write_whole g c = record {
   rest = _;
-  beginning =
-      piece_written _ _ _ _ _ c.split_at.ensures.by_index.0 c.encode_piece.ensures.hex c.loop-rest.invariant
+  beginning = piece_written _ _ _ _ _ c.split_at.ensures.by_index.0 c.encode_piece.ensures.hex c.loop-rest.invariant
       c.write_whole.ensures refl;
   whole = IfOk-from_err _ _ c.from_residual.ensures.0;
 }
