@@ -4,7 +4,7 @@ use Rattle.std.proofs.Common.{inl, inr, refl, sym, ap, subst, arith, append-nil}
 use Rattle.std.specs.List.{AllByRecursion}
 use Rattle.std.specs.Prelude.{slice_index_or}
 use Rattle.std.proofs.lemmas.List.{length-map}
-use Rattle.wkb.specs.Prelude.{Dimension, Dimensions, Xy, as_dimensions, written_dimension, WkbError}
+use Rattle.wkb.specs.Prelude.{Dimension, Dimensions, as_dimensions, written_dimension, WkbError}
 use Rattle.wkb.specs.Values.{Coordinate, Value, multi_point, dimension}
 use Rattle.wkb.specs.Geometries.{AreCoordinates, IsPoint, normal, normal_point}
 use Rattle.wkb.specs.Encodings.{encoding_of, fault_of, IsForm}
@@ -30,8 +30,7 @@ pub record HaveOnlyBefore (d : Dimension) (ms : List Item) (i : ℕ) : Type 0 wh
 -- ---- the multi point
 
 dimension_again : (d : Dimension) → written_dimension (as_dimensions d) ≡ d
-dimension_again Xy = refl
-dimension_again _ = refl
+dimension_again d = grind arith
 
 points_lawful : (dims : Dimensions) (cs : List Coordinate) → AreCoordinates dims cs
     → AllByRecursion (IsPoint dims) (map (λ c. Some c) cs)

@@ -3,13 +3,12 @@ use Rattle.std.proofs.Common.{◌≡◌, ℕ, zero, suc, ◌+◌, ◌*◌, ◌/�
 use Rattle.std.proofs.Common.{false, if◌then◌else◌, ◌&&◌, length, drop, length-drop, append_assoc, refl, sym, ap, subst}
 use Rattle.std.proofs.Common.{◌∙◌, arith}
 use Rattle.std.specs.Prelude.{◌==◌, nat_le}
-use Rattle.std.proofs.lemmas.Bool.{le-leb}
 use Rattle.wkb.specs.Bridges.{number_is_read}
-use Rattle.wkb.specs.Checks.{Range, Bounds, AreBounds, rank, range_of, words_on, x_axis, y_axis}
+use Rattle.wkb.specs.Checks.{Range, Bounds, AreBounds, range_of, words_on, x_axis, y_axis}
 use Rattle.wkb.specs.Known.{never_both}
 use Rattle.wkb.specs.Refusals.{no_order_byte}
 use Rattle.wkb.specs.Order.{HasNumbers, range_has_numbers}
-use Rattle.wkb.specs.Prelude.{Endianness, BigEndian, LittleEndian, order_byte, number_bytes, is_nan}
+use Rattle.wkb.specs.Prelude.{Endianness, order_byte, number_bytes, is_nan}
 use Rattle.wkb.specs.Values.{Value}
 use Rattle.wkb.specs.Reads.{IsFront}
 use Rattle.wkb_clients.specs.Common.{Item}
@@ -20,8 +19,7 @@ use Rattle.wkb_clients.specs.Geopackage.{envelope_bytes}
 use Rattle.wkb_clients.proofs.Packages.{holds}
 
 order_again : (order : Endianness) → (order_byte order ≤ 1) × (order_said (order_byte order) ≡ order)
-order_again BigEndian = (omega arith, refl)
-order_again LittleEndian = (omega arith, refl)
+order_again order = grind arith
 
 -- what the byte of the flags says
 record Says (flags order kind : ℕ) (empty : Bool) : Type 0 where
@@ -32,12 +30,7 @@ record Says (flags order kind : ℕ) (empty : Bool) : Type 0 where
 
 says : (order kind : ℕ) (empty : Bool) → order ≤ 1 → kind ≤ 1
     → Says (order + 2 * kind + (if empty then 16 else 0)) order kind empty
-says order kind empty low few = record {
-  clear = grind arith;
-  order_is = grind arith;
-  kind_is = grind arith;
-  empty_is = grind arith;
-}
+says order kind empty low few = grind arith
 
 header_is : (h : BlobHeader) (rest : List ℕ) → h.envelope ≤ 1 → h.srs < 2 ^ 32
     → start_behind h.envelope ≤ length (header_bytes h ++ rest) → IsBlobHeader (header_bytes h ++ rest) h
@@ -64,14 +57,11 @@ pub record IsOfWords (r : Range) : Type 0 where
   pub high : r.greatest < 2 ^ 64
 
 fits : (none : Bool) (w : ℕ) → w < 2 ^ 64 → word_or_nan none w < 2 ^ 64
-fits true w h = omega arith
-fits false w h = h
+fits none w h = grind arith
 
 around_own : (none : Bool) (v w : ℕ) → is_nan v ≡ false → is_nan w ≡ false
     → is_around none (word_or_nan none v) (word_or_nan none w) v w ≡ true
-around_own true v w p q = refl
-around_own false v w p q =
-    rw (p, q, le-leb (rank v) (rank v) (omega arith), le-leb (rank w) (rank w) (omega arith)) refl
+around_own none v w p q = grind arith
 
 module _ (order : Endianness) (blob : List ℕ) where
   -- the words that are written of an axis are around it

@@ -1,5 +1,5 @@
 -- What the box of coordinates holds.
-use Rattle.std.proofs.Common.{◌≡◌, List, [], ◌∷◌, Some, slice_get, refl, sym, subst}
+use Rattle.std.proofs.Common.{arith, ◌≡◌, List, Some, slice_get, refl, sym, subst}
 use Rattle.wkb.specs.Prelude.{Dimension}
 use Rattle.wkb.specs.Checks.{x_axis, y_axis, words_in}
 use Rattle.wkb.specs.Ranges.{IsWithin, ordinate_within, within_range_of}
@@ -19,5 +19,4 @@ holds d cs box h =
 -- the ring that is there is the exterior
 pub exterior_is : (rings : List (List Coordinate)) (ring : List Coordinate) → Some ring ≡ slice_get rings 0
     → exterior_of rings ≡ ring
-exterior_is [] ring is = absurd (cc)
-exterior_is (first ∷ rings) ring is = cc
+exterior_is rings ring is = grind arith

@@ -1,10 +1,9 @@
 -- What is found in a GeoPackage blob, and what isn't.
-use Rattle.std.proofs.Common.{◌≡◌, List, ℕ, true, false, sym, ap, subst, ◌∙◌, ◌⊎◌, inl, inr, drop, Result, Ok, Err}
+use Rattle.std.proofs.Common.{arith, ◌≡◌, List, ℕ, true, false, sym, ap, subst, ◌∙◌, ◌⊎◌, inl, inr, Result, Ok, Err}
 use Rattle.std.specs.Prelude.{IfOk, IfErr}
 use Rattle.wkb.specs.Checks.{Bounds, AreBounds}
 use Rattle.wkb.specs.Known.{has_one_front}
 use Rattle.wkb.specs.OwnBytes.{no_refusal, one_geometry}
-use Rattle.wkb.specs.Prelude.{number}
 use Rattle.wkb.specs.Ranges.{same_bounds}
 use Rattle.wkb.specs.Reads.{IsFront}
 use Rattle.wkb_clients.specs.Common.{Item}
@@ -17,18 +16,12 @@ use Rattle.wkb_clients.specs.Geopackage.{is_ewkb, IsWhy, IsWantOfMemory, GivesBa
 
 -- a blob has one header
 one_header : (blob : List ℕ) (h g : BlobHeader) → IsBlobHeader blob h → IsBlobHeader blob g → h ≡ g
-one_header blob h g a b =
-    let order : h.order ≡ g.order = a.order ∙ sym b.order in
-    let envelope : h.envelope ≡ g.envelope = a.envelope ∙ sym b.envelope in
-    let empty : h.empty ≡ g.empty = a.empty ∙ sym b.empty in
-    let srs : h.srs ≡ g.srs = a.srs ∙ ap (λ o. number o 4 (drop 4 blob)) order ∙ sym b.srs in
-    λ i. record { order = order i; envelope = envelope i; empty = empty i; srs = srs i }
+one_header blob h g a b = grind arith
 
 -- where a reason is true of a blob, an allocation failed or it holds no geometry
 pub none_by : (blob : List ℕ) (e : Unread) → IsWhy blob e → IsWantOfMemory e ⊎ HoldsNoGeometry blob
 none_by blob reasons.Header why = inr (λ h w holds. why h holds.header)
-none_by blob reasons.Ewkb why =
-    inr (λ h w holds. let wrong : true ≡ false = sym why.ewkb ∙ holds.iso in absurd (cc))
+none_by blob reasons.Ewkb why = grind arith
 none_by blob reasons.Envelope why =
     inr (λ h w holds.
     let f = why.front in
@@ -40,22 +33,18 @@ none_by blob reasons.Envelope why =
     ∙ holds.around why.bounds (subst (AreBounds why.bounds) one.2 f.bounded) in
     absurd (cc))
 none_by blob (reasons.Geometry e) why =
-    elim why.why [
-      | inl memory ↦ inl memory
-      | inr refusal ↦ inr (λ h w holds. no_refusal holds.front refusal)
-    ]
+    elim why.why [ inl memory ↦ inl memory | inr refusal ↦ inr (λ h w holds. no_refusal holds.front refusal) ]
 
 -- a geometry is there, and the envelope is around its bounds
 pub holds : (blob body : List ℕ) (h : BlobHeader) (b : Bounds) (w : Item) → IsBlobHeader blob h → body ≡ body_of blob
     → false ≡ is_ewkb body → AreBounds b w.value → true ≡ envelope_around h.order h.envelope blob b → IsFront body w
     → HoldsGeometry blob h w
-holds blob body h b w head same iso bounded around front =
-    record {
-      header = head;
-      iso = sym (iso ∙ ap is_ewkb same);
-      front = subst (λ l. IsFront l w) same front;
-      around = λ c is. ap (envelope_around h.order h.envelope blob) (same_bounds c b w.value is bounded) ∙ sym around;
-    }
+holds blob body h b w head same iso bounded around front = record {
+  header = head;
+  iso = sym (iso ∙ ap is_ewkb same);
+  front = subst (λ l. IsFront l w) same front;
+  around = λ c is. ap (envelope_around h.order h.envelope blob) (same_bounds c b w.value is bounded) ∙ sym around;
+}
 
 -- what a blob holds is what is read of it
 pub given_back : (blob : List ℕ) (r : Result Package Unread) → IfOk r (λ p. HoldsGeometry blob p.header p.geometry)

@@ -38,17 +38,16 @@ same_rings w k j ring s d rings is h =
 pub ring_or_none : (w : Item) (ms : List Item) (k j : ℕ) (p : Listed (List (List Coordinate))) (r : Option LinearRing)
     → IsCollectionOf w ms → slice_get ms k ≡ Some (whole_of polygon p) → option_map ring_seen r ≡ slice_get p.parts j
     → MatchOption r (HasNoRing w k j) (λ r. IsRingOf w k j (ring_seen r))
-ring_or_none w ms k j p (Some r) c is found =
-    record {
-      dimension = c.whole.dimension;
-      members = c.whole.parts;
-      spelled = p.spelled;
-      of_polygon = p.dimension;
-      rings = p.parts;
-      value_is = ap (λ (i : Item). i.value) (sym c.is);
-      is_member = member_of w ms k (whole_of polygon p) c is;
-      is = sym found;
-    }
+ring_or_none w ms k j p (Some r) c is found = record {
+  dimension = c.whole.dimension;
+  members = c.whole.parts;
+  spelled = p.spelled;
+  of_polygon = p.dimension;
+  rings = p.parts;
+  value_is = ap (λ (i : Item). i.value) (sym c.is);
+  is_member = member_of w ms k (whole_of polygon p) c is;
+  is = sym found;
+}
 ring_or_none w ms k j p None c is found = λ ring h.
     let member = member_of w ms k (whole_of polygon p) c is in
     let none : None ≡ Some ring = found ∙ same_rings w k j ring p.spelled p.dimension p.parts member h in

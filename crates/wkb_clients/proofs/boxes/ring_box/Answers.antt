@@ -8,10 +8,8 @@ loop-i-preserved c =
     let r = c.args.ring.now in
     let at = c.coord_at-coord.ensures.value in
     record {
-      on_x =
-          widens_x (ring_dimension r) l.x _ (ring_seen r) l.i _ c.coord_at-coord.result l.invariant.on_x at c.x.ensures
-          c.with_word-x.ensures;
-      on_y =
-          widens_y (ring_dimension r) l.y _ (ring_seen r) l.i _ c.coord_at-coord.result l.invariant.on_y at c.y.ensures
-          c.with_word-y.ensures;
+      on_x = widens_x (ring_dimension r) l.x _ (ring_seen r) l.i _ c.coord_at-coord.result l.invariant.on_x at
+          c.x.ensures c.with_word-x.ensures;
+      on_y = widens_y (ring_dimension r) l.y _ (ring_seen r) l.i _ c.coord_at-coord.result l.invariant.on_y at
+          c.y.ensures c.with_word-y.ensures;
     }

@@ -8,6 +8,5 @@ returns-in-Some-Some c =
     let o = rw c.in-Some-Some.is-0 at c.polygon.ensures in
     let p = rw c.in-Some-Some.is-1 at c.polygon-2.ensures in
     let same = c.requires in
-    ap Some
-    (one_listed polygon c.buf-in-Some-Some.ensures.read c.buf.ensures.read (cc (o.spelled, p.spelled, same))
+    ap Some (one_listed polygon c.buf-in-Some-Some.ensures.read c.buf.ensures.read (cc (o.spelled, p.spelled, same))
     (cc (o.dimension, p.dimension, same)) (cc (o.part, p.part, same)))

@@ -21,8 +21,7 @@ fit c =
 
 -- the words are those of all coordinates
 words_are : (c : After-as_slice) → c.as_slice.result.now ≡ words_of (coordinates_of c.args.geometry.now.value)
-words_are c =
-    c.as_slice.ensures.value ∙ c.in_ok-visit_coordinates.ensures.visited [] c.new.ensures.items
+words_are c = c.as_slice.ensures.value ∙ c.in_ok-visit_coordinates.ensures.visited [] c.new.ensures.items
 
 -- the multi point that is written is that of the value
 meant : (c : After-to_vec) → Fit c.args.geometry.now.value

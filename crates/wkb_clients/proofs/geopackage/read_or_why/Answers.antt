@@ -7,14 +7,13 @@ use Rattle.wkb_clients.proofs.Packages.{holds}
 use Rattle.wkb_clients.proofs.geopackage.read_or_why.Goals as goal
 
 pub returns-then-not-envelope_around-clause-why : goal.returns-then-not-envelope_around-clause-why
-returns-then-not-envelope_around-clause-why c =
-    record {
-      header = c.in-Some.header;
-      is_header = c.in-Some.ensures;
-      bounds = c.in-Ok.found;
-      front = subst (λ l. BoundsFront l c.in-Ok.found) c.body_of-body.ensures c.in-Ok.ensures.front;
-      wrong = grind arith;
-    }
+returns-then-not-envelope_around-clause-why c = record {
+  header = c.in-Some.header;
+  is_header = c.in-Some.ensures;
+  bounds = c.in-Ok.found;
+  front = subst (λ l. BoundsFront l c.in-Ok.found) c.body_of-body.ensures c.in-Ok.ensures.front;
+  wrong = grind arith;
+}
 
 pub returns-in-Ok-read_wkb-clause-ok : goal.returns-in-Ok-read_wkb-clause-ok
 returns-in-Ok-read_wkb-clause-ok c =

@@ -8,5 +8,4 @@ unreachable-requires c =
     c.in-Err.ensures.err c.in-Err.ensures.no_memory
 
 pub returns : goal.returns
-returns c =
-    values_compared c.in-Ok.equal c.buf.ensures.front c.buf-2.ensures.front c.in-Ok.ensures.ok
+returns c = values_compared c.in-Ok.equal c.buf.ensures.front c.buf-2.ensures.front c.in-Ok.ensures.ok

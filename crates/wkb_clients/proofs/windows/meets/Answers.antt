@@ -20,5 +20,4 @@ returns-in-Ok c =
     c.in-Ok.ensures.one_front c.bounds_meet.ensures
 
 pub returns-in-Err : goal.returns-in-Err
-returns-in-Err c =
-    λ m. c.in-Err.ensures.refused.no_front m.front.spelled m.front.value m.front.rest m.front.front
+returns-in-Err c = λ m. c.in-Err.ensures.refused.no_front m.front.spelled m.front.value m.front.rest m.front.front

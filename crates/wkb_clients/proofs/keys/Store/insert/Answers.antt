@@ -22,8 +22,7 @@ returns-then-contains-clause-ok c =
 pub invariant_of-self-2 : goal.invariant_of-self-2
 invariant_of-self-2 c =
     let P = λ (y : Vec ℕ Global). bytes_of y ≡ key_of (value_in (bytes_of y)) in
-    subst (All P) (sym c.in_ok-push.ensures.items)
-    (All-push P c.self.inside.keys.items c.in-Ok.key c.self.invariant
+    subst (All P) (sym c.in_ok-push.ensures.items) (All-push P c.self.inside.keys.items c.in-Ok.key c.self.invariant
     (is_its_own c.args.bytes.now c.in-Ok.key.items c.are_bytes.ensures c.in-Ok.ensures.ok))
 
 pub returns-clause-ok : goal.returns-clause-ok
