@@ -9,7 +9,7 @@ import shutil
 import signal
 import subprocess
 import tempfile
-from ctypes import c_char_p, c_int, c_size_t, c_uint32, c_void_p
+from ctypes import c_char_p, c_size_t, c_uint32, c_void_p
 
 HERE = pathlib.Path(__file__).resolve().parent
 ROOT = HERE.parent.parent

@@ -7,7 +7,7 @@ use Rattle.std.proofs.lemmas.List.{drop_all}
 use Rattle.std.proofs.lemmas.List.Edits.{sets, sets-eq}
 use Rattle.wkb_geom.specs.declared.common.Endianness.{Endianness}
 use Rattle.wkb_geom.specs.declared.common.Form.{Form}
-use Rattle.wkb_geom.specs.declared.common.Form.TheVariants.{Iso, Ewkb}
+use Rattle.wkb_geom.specs.declared.common.Form.TheVariants.{Ewkb}
 use Rattle.wkb_geom.specs.declared.error.WkbError.{WkbError}
 use Rattle.wkb_geom.specs.Encodings.{encoding, form_srid, IsRewriting, IsRewritingWithSrid}
 use Rattle.wkb_geom.specs.Errors.{Tells}
@@ -22,7 +22,7 @@ use Rattle.wkb_check.specs.declared.answer.Summary.{Summary}
 use Rattle.wkb_read.specs.Reads.{IsRefusal}
 use Rattle.wkb_check.proofs.Ahead.{here}
 use Rattle.wkb_rewrite.proofs.Measured.{long_of, measured}
-use Rattle.wkb.specs.Canonical.{IsAccepted, HaveOneValue, HaveTwoValues, OverflowsWithSrid}
+use Rattle.wkb.specs.Canonical.{IsAccepted, HaveOneValue, HaveTwoValues}
 
 -- what was laid at the start of a list is followed by what was there
 laid_over : (x old new items : List ℕ) (len : ℕ) → length old ≡ len → length x ≤ len → new ≡ sets old 0 x
@@ -85,10 +85,6 @@ pub refusal : {buf : List ℕ} {e : WkbError} (refused : Refused) → IsRefusedF
     → IsRefusal buf e
 refusal refused r tells =
     record { cause = refused.cause; turns = refused.part; slots = r.slots; refuses = r.refuses; tells = tells }
-
--- under ISO no SRID is written that could make the encoding too long
-pub iso_fits : (order : Endianness) (buf : List ℕ) → OverflowsWithSrid order Iso buf → ⊥
-iso_fits order buf h = let low = h.plain in let high = h.with_srid in omega (arith, low, high)
 
 -- ---- comparisons
 
