@@ -89,7 +89,7 @@ CALLS = {
 }
 ALL = {name: (lambda make=make: ready(make()), take) for name, (make, take) in GIVEN.items()}
 ALL.update((name, (tuple, lambda _, call=call: call())) for name, call in CALLS.items())
-FEW, MANY, TRIES = 10, 40, 8
+FEW, MANY, TRIES = 50, 200, 8
 DOCUMENTED = TypeError, ValueError, IndexError, OSError
 
 
