@@ -11,7 +11,7 @@ use Rattle.std.proofs.lemmas.Option.{slice_get-get_or}
 use Rattle.wkb_geom.specs.Items.{length-items}
 use Rattle.wkb_geom.specs.Reading.{coordinate, coordinates}
 use Rattle.wkb_laws.proofs.Parts.{item_at}
-use Rattle.wkb_check.specs.Pieces.{piece_at, pieces_from, own_end, all_pieces, IsAhead, IsTaken, IsPieceAt}
+use Rattle.wkb_check.specs.Pieces.{piece_at, subject_pieces, own_end, all_pieces, IsAhead, IsTaken, IsPieceAt}
 use Rattle.wkb_check.specs.declared.pieces.Pieces.{Pieces}
 use Rattle.wkb_check.proofs.Placing.{sets_after, itself_first}
 use Rattle.wkb_abi.specs.Coordinates.{words_asked, asked_subject_words, ring_counts, single_counts, ends, totals_after}
@@ -92,7 +92,7 @@ totals_behind at (p ∷ ps) = totals_behind (totals_with at p) ps
 
 -- those after the pieces of subjects
 pub totals_reached : (begin : ℕ) (xs : List Subject) (at : Totals) → AreSmall at
-    → totals_behind at (pieces_from begin xs) ≡ totals_after at xs
+    → totals_behind at (subject_pieces begin xs) ≡ totals_after at xs
 totals_reached begin [] at small = same_totals (omega arith) (omega arith) (omega arith)
 totals_reached begin (x ∷ xs) at small =
     let own = own_sizes begin x in
@@ -203,7 +203,7 @@ module _ (asked : Dimension) (input : List ℕ) (all : LevelLists) where
       → ItemsLeft out.words (width asked * at.coordinates) (flat_map (asked_subject_words asked) xs) all.words
       → ItemsLeft out.ring_ends at.rings (ends at.coordinates (flat_map ring_counts xs)) all.ring_ends
       → ItemsLeft out.single_ends at.singles (single_ends at.rings xs) all.single_ends
-      → Fill asked input all at out (pieces_from begin xs)
+      → Fill asked input all at out (subject_pieces begin xs)
   fill begin [] at out placed w r s = grind arith
   fill begin (x ∷ xs) at out placed w r s =
       let p = piece_at begin x in

@@ -12,7 +12,7 @@ pub record Exceeds {A : Type 0} (items before : List A) (count : ℕ) : Type 0 w
   pub short : length before < length items
 
 -- items that are this were written
-pub record IsWritten {A : Type 0} (Is : List A → Type 0) (before after : List A) (count : ℕ) : Type 0 where
+pub record AreWritten {A : Type 0} (Is : List A → Type 0) (before after : List A) (count : ℕ) : Type 0 where
   pub items : List A
   pub is : Is items
   pub held : IsHeld items before after count

@@ -1,6 +1,6 @@
 -- The bytes that an encoding is written into.
 use Rattle.std.specs.Prelude.{◌≡◌, ◌≢◌, ◌⊎◌, ◌↔◌, ℕ, ◌+◌, ◌≤◌, List, length, Some, None}
-use Rattle.wkb_abi.specs.Room.{IsWritten, FindsNoRoom}
+use Rattle.wkb_abi.specs.Room.{AreWritten, FindsNoRoom}
 use Rattle.wkb_abi.specs.declared.options.Options.{Options}
 use Rattle.wkb_abi.specs.declared.options.Request.{Request}
 use Rattle.wkb_abi.specs.declared.fault.WkbFault.{WkbFault}
@@ -13,7 +13,7 @@ use Rattle.wkb_abi.specs.Statuses.{IsFault, IsStatusOfWriting}
 -- The encoding that is asked for was written, or doesn't fit its room. Its length is told, which is at most four bytes
 -- more than the input's.
 pub record WritesRequested (request : Request) (input before after : List ℕ) (status size : ℕ) : Type 0 where
-  pub written : status ≡ OK → IsWritten (IsRequested request input) before after size
+  pub written : status ≡ OK → AreWritten (IsRequested request input) before after size
   pub no_room : status ≡ NO_ROOM → FindsNoRoom (IsRequested request input) before size
   pub bound : size ≤ length input + 4
   pub known : (status ≡ OK) ⊎ (status ≡ NO_ROOM)
@@ -29,7 +29,7 @@ pub record HasEncoding (o : Options) (input encoding : List ℕ) : Type 0 where
 -- The effect of options, after a check has found the geometry: the encoding that they request is written, or doesn't
 -- fit the capacity; or they mean nothing.
 pub record WritesAsked (o : Options) (input before after : List ℕ) (status size size' : ℕ) : Type 0 where
-  pub written : status ≡ OK → IsWritten (HasEncoding o input) before after size'
+  pub written : status ≡ OK → AreWritten (HasEncoding o input) before after size'
   pub no_room : status ≡ NO_ROOM → FindsNoRoom (HasEncoding o input) before size'
   pub unknown : (status ≡ UNKNOWN_OPTION) ↔ (request_of o ≡ None)
   pub bound : (status ≡ OK) ⊎ (status ≡ NO_ROOM) → size' ≤ length input + 4
@@ -47,7 +47,7 @@ pub data WritesAny (o : Options) (input before after : List ℕ) (status size si
 -- what a call does that writes the encoding that the options ask for
 pub record Encodes (o : Options) (input before after : List ℕ) (size size' : ℕ) (fault fault' : WkbFault)
     (status : ℕ) : Type 0 where
-  pub written : status ≡ OK → IsWritten (HasEncoding o input) before after size'
+  pub written : status ≡ OK → AreWritten (HasEncoding o input) before after size'
   pub no_room : status ≡ NO_ROOM → FindsNoRoom (HasEncoding o input) before size'
   pub unknown : (status ≡ UNKNOWN_OPTION) ↔ (request_of o ≡ None)
   pub bound : (status ≡ OK) ⊎ (status ≡ NO_ROOM) → size' ≤ length input + 4

@@ -19,7 +19,7 @@ use Rattle.wkb_bounds.specs.Ranges.{with_word, widened, AreNumbers, AreRight, Wi
 use Rattle.wkb_bounds.specs.Ordinates.{Axis, axis_place, word_at, words_of_each}
 use Rattle.wkb_bounds.specs.Ordinates.{words_at, words_in, place_words}
 use Rattle.wkb_bounds.specs.Bounded.{on, Widens, WidensBounds, WidensPlane, bounds_by}
-use Rattle.wkb_bounds.specs.Runs.{coordinates_of, rows, first_word, IsRun, IsBehindFirst}
+use Rattle.wkb_bounds.specs.Runs.{run_coordinates, rows, first_word, IsRun, IsBehindFirst}
 
 -- ---- words
 
@@ -59,7 +59,7 @@ item_there f (suc w) (suc k) bytes lt =
     rw (start, ← drop-drop (8 * k) 8 bytes) (item_there f w k (drop 8 bytes) (omega arith))
 
 first_words : (r : Run) (k n : ℕ) → r.count ≡ suc n → k < r.size / 8
-    → words_at (Some k) (coordinates_of r)
+    → words_at (Some k) (run_coordinates r)
     ≡ first_word k r ∷ words_at (Some k) (rows r.order r.size n (drop r.size r.bytes.now))
 first_words r k n count there = grind (arith, item_there)
 
@@ -72,8 +72,8 @@ one_word_at order d k bytes there = grind (arith, item_there)
 pub record RunLeft (tested : Bool) (k : ℕ) (now : Ranks) (left : Run) (first : Ranks) (run : Run) : Type 0 where
   pub there : k < left.size / 8
   pub room : now.count + left.count < 2 ^ 64
-  pub goes : (new : Ranks) → WidensRanks tested now new (words_at (Some k) (coordinates_of left))
-      → WidensRanks tested first new (words_at (Some k) (coordinates_of run))
+  pub goes : (new : Ranks) → WidensRanks tested now new (words_at (Some k) (run_coordinates left))
+      → WidensRanks tested first new (words_at (Some k) (run_coordinates run))
 
 pub run_first : (tested : Bool) (k : ℕ) (first : Ranks) (run : Run) → k < run.size / 8
     → first.count + run.count < 2 ^ 64 → RunLeft tested k first run first run
@@ -84,7 +84,7 @@ pub run_next : {tested : Bool} {k : ℕ} {now first : Ranks} {left run : Run} �
     → IsBehindFirst left rest
     → RunLeft tested k new rest first run
 run_next {tested} {k} {now} {left = left} l {w} {rest = rest} w-is widens behind =
-    let words : (w ∷ words_at (Some k) (coordinates_of rest)) ≡ words_at (Some k) (coordinates_of left) =
+    let words : (w ∷ words_at (Some k) (run_coordinates rest)) ≡ words_at (Some k) (run_coordinates left) =
     (λ i. w-is i
     ∷ words_at (Some k) (rows (behind.order_is i) (behind.size_is i) rest.count (behind.bytes_are i)))
     ∙ sym (first_words left k rest.count (omega arith) l.there) in
@@ -96,7 +96,7 @@ run_next {tested} {k} {now} {left = left} l {w} {rest = rest} w-is widens behind
     }
 
 pub run_done : {tested : Bool} {k : ℕ} {now first : Ranks} {left run : Run} → RunLeft tested k now left first run
-    → left.count ≡ 0 → WidensRanks tested first now (words_at (Some k) (coordinates_of run))
+    → left.count ≡ 0 → WidensRanks tested first now (words_at (Some k) (run_coordinates run))
 run_done {tested} {k} {now} {left = left} l none =
     l.goes now
     (subst (λ n. WidensRanks tested now now (words_at (Some k) (rows left.order left.size n left.bytes.now)))
@@ -127,15 +127,15 @@ words_few : (p : Option ℕ) (cs : List Coordinate) → length (words_of_each (w
 words_few p [] = omega arith
 words_few p (c ∷ cs) = grind (arith, length-append, one_word, words_few p cs)
 
-pub run_long : (r : Run) → length (coordinates_of r) ≡ r.count
+pub run_long : (r : Run) → length (run_coordinates r) ≡ r.count
 run_long r = length-items r.size (items 8 (number r.order 8) (r.size / 8)) r.count r.bytes.now
 
 -- a run adds at most its coordinates to a count
 pub counts_more : (d : Dimension) (r : Run) (old new : Bounds) (a : Axis)
-    → Widens old new (λ a. words_in a d (coordinates_of r))
+    → Widens old new (λ a. words_in a d (run_coordinates r))
     → (on a new).count ≤ (on a old).count + r.count
 counts_more d r old new a widens =
-    let cs = coordinates_of r in
+    let cs = run_coordinates r in
     omega (
       arith,
       ap (λ (r : Range). r.count) (widens a),
@@ -150,7 +150,7 @@ rows_are : (order : Endianness) (d : Dimension) (size n : ℕ) (bytes : List ℕ
 rows_are order d size n bytes is = grind arith
 
 pub run_widens : {order : Endianness} (d : Dimension) {size n : ℕ} {bytes : List ℕ} {r : Run} (old new : Bounds)
-    → IsRun order size n bytes r → size ≡ 8 * width d → Widens old new (λ a. words_in a d (coordinates_of r))
+    → IsRun order size n bytes r → size ≡ 8 * width d → Widens old new (λ a. words_in a d (run_coordinates r))
     → Widens old new (λ a. words_in a d (coordinates order d n bytes))
 run_widens {order} d {size} {n} {bytes} old new is sized widens a = grind arith
 

@@ -10,12 +10,12 @@ use Rattle.wkb_bounds.specs.declared.run.Run.{Run}
 abbrev pub rows : Endianness → ℕ → ℕ → List ℕ → List Coordinate
 rows order size n bytes = items size (items 8 (number order 8) (size / 8)) n bytes
 
-abbrev pub coordinates_of : Run → List Coordinate
-coordinates_of r = rows r.order r.size r.count r.bytes.now
+abbrev pub run_coordinates : Run → List Coordinate
+run_coordinates r = rows r.order r.size r.count r.bytes.now
 
 -- it is a run of n coordinates of this size at the start of the bytes
 pub record IsRun (order : Endianness) (size n : ℕ) (bytes : List ℕ) (r : Run) : Type 0 where
-  pub coordinates_are : coordinates_of r ≡ rows order size n bytes
+  pub coordinates_are : run_coordinates r ≡ rows order size n bytes
   pub size_is : r.size ≡ size
   pub count_is : r.count ≡ n
 

@@ -5,7 +5,7 @@ ghost use Rattle.wkb_geom.specs.Dimensions.{width};
 ghost use Rattle.wkb_bounds.specs.Ordinates.{axis_place, z_axis, m_axis};
 ghost use Rattle.wkb_bounds.specs.Bounded.{WidensBounds, WidensPlane, ArePlaneNumbers, HasRoom, bounds_by};
 ghost use Rattle.wkb_bounds.specs.Bounded.{nothing as no_bounds};
-ghost use Rattle.wkb_bounds.specs.Runs.{coordinates_of, rows};
+ghost use Rattle.wkb_bounds.specs.Runs.{run_coordinates, rows};
 
 use crate::range::{Bounds, Range};
 use crate::ranks::Ranks;
@@ -81,7 +81,7 @@ impl AxisRanks {
     pub(crate) fn widen_plane_by(&mut self, run: Run<'_>, tested: bool)
         requires plane { 16 ≤ run.size }
         requires room { HasRoom (bounds_by self.old) run.count }
-        ensures { WidensPlane tested self.old self.new (coordinates_of run.entry) }
+        ensures { WidensPlane tested self.old self.new (run_coordinates run.entry) }
     {
         let mut x = self.x;
         let mut y = self.y;
@@ -101,7 +101,7 @@ impl AxisRanks {
     pub(crate) fn widen_plane_in(&mut self, run: Run<'_>)
         requires plane { 16 ≤ run.size }
         requires room { HasRoom (bounds_by self.old) run.count }
-        ensures { WidensPlane true self.old self.new (coordinates_of run.entry) }
+        ensures { WidensPlane true self.old self.new (run_coordinates run.entry) }
     {
         let mut numbers = *self;
         numbers.widen_plane_by(run, false);
@@ -169,7 +169,7 @@ impl AxisRanks {
     pub(crate) fn widen(&mut self, dimension: Dimension, run: Run<'_>)
         requires sized { run.size ≡ 8 * width dimension }
         requires room { HasRoom (bounds_by self.old) run.count }
-        ensures { WidensBounds self.old self.new dimension (coordinates_of run.entry) }
+        ensures { WidensBounds self.old self.new dimension (run_coordinates run.entry) }
     {
         self.widen_plane(run.order, run.size, run.count, run.bytes);
         self.z.widen_at(place_of_z(dimension), run);

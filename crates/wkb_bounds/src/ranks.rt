@@ -3,7 +3,7 @@
 ghost use Rattle.std.specs.Prelude.{◌≡◌, ◌+◌, ◌*◌, ◌/◌, ◌<◌, ◌≤◌, ◌^◌, [], ◌∷◌, length, IfSome, Some, false, true};
 ghost use Rattle.wkb_bounds.specs.Ranges.{word_of as word_by, range_by, widened, AreNumbers, WidensRanks};
 ghost use Rattle.wkb_bounds.specs.Ordinates.{words_at};
-ghost use Rattle.wkb_bounds.specs.Runs.{coordinates_of, rows};
+ghost use Rattle.wkb_bounds.specs.Runs.{run_coordinates, rows};
 
 use crate::range::Range;
 use crate::run::Run;
@@ -90,7 +90,7 @@ impl Ranks {
         requires there { k < run.size / 8 }
         requires room { self.old.count + run.count < 2 ^ 64 }
         ensures { WidensRanks tested self.old self.new
-            (words_at (Some k) (coordinates_of run.entry)) }
+            (words_at (Some k) (run_coordinates run.entry)) }
     {
         let mut ranks = *self;
         let mut left = run;
@@ -108,7 +108,7 @@ impl Ranks {
         requires there { k < run.size / 8 }
         requires room { self.old.count + run.count < 2 ^ 64 }
         ensures { WidensRanks true self.old self.new
-            (words_at (Some k) (coordinates_of run.entry)) }
+            (words_at (Some k) (run_coordinates run.entry)) }
     {
         if run.count > 0 && is_nan(run.first_word(k)) {
             return self.widen_word_by_word(k, run.order, run.size, run.count, run.bytes);
@@ -162,7 +162,7 @@ impl Range {
     pub(crate) fn widen_at(&mut self, place: Option<usize>, run: Run<'_>)
         requires place { IfSome place (λ k. k < run.size / 8) }
         requires room { self.old.count + run.count < 2 ^ 64 }
-        ensures { self.new ≡ widened self.old (words_at place (coordinates_of run.entry)) }
+        ensures { self.new ≡ widened self.old (words_at place (run_coordinates run.entry)) }
     {
         if let Some(k) = place {
             let mut ranks = Ranks::of(*self);

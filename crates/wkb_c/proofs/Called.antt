@@ -10,7 +10,7 @@ use Rattle.wkb_abi.specs.Tables.{geometry_entries, FitGeometries, entry_at, entr
 use Rattle.wkb_abi.specs.declared.parts.Part.{Part}
 use Rattle.wkb_check.proofs.Placing.{spelled_end, alone}
 use Rattle.wkb_check.proofs.Joining.{geometry_of_front}
-use Rattle.wkb_abi.specs.Room.{IsWritten, FindsNoRoom}
+use Rattle.wkb_abi.specs.Room.{AreWritten, FindsNoRoom}
 use Rattle.wkb_abi.specs.Subjects.{HasTable}
 use Rattle.wkb_abi.proofs.Telling.{begins}
 use Rattle.wkb_c.proofs.RowItems.{first_held}
@@ -61,11 +61,11 @@ module _ {input : List ℕ} {f : Summary} (d : DescribesFront input f) where
   lacks_table short = grind (arith, table, long)
 
   pub table_laid : {parts new : List Part} → f.parts ≤ length parts → new ≡ sets parts 0 entries
-      → IsWritten (HasTable input) parts new f.parts
+      → AreWritten (HasTable input) parts new f.parts
   table_laid fit laid = record { items = entries; is = table; held = first_held long fit laid }
 
   pub whole_laid : {parts new : List Part} (p : Piece) → IsPieceAt input 0 p → f.parts ≡ 1 → f.parts ≤ length parts
-      → new ≡ set parts 0 (entry_of p f.bytes 1) → IsWritten (HasTable input) parts new f.parts
+      → new ≡ set parts 0 (entry_of p f.bytes 1) → AreWritten (HasTable input) parts new f.parts
   whole_laid {parts} {new} p is one fit laid =
       let front = d.front in
       let far = spelled_end 0 d.spelled d.value front.front front.spelled in

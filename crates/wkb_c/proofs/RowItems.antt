@@ -9,7 +9,7 @@ use Rattle.wkb_abi.specs.declared.{column.Column.Column, status.TheConstants.NO_
 use Rattle.std.proofs.lemmas.List.{take-append-drop, drop-set-lt, drop_all, take_rest}
 use lib.ListN.{length-set}
 use lib.Seq.{get_or-set_same, get_or-set_other}
-use Rattle.wkb_abi.specs.Room.{IsHeld, Exceeds, IsWritten, FindsNoRoom}
+use Rattle.wkb_abi.specs.Room.{IsHeld, Exceeds, AreWritten, FindsNoRoom}
 use Rattle.wkb_levels.specs.Cuts.{start_at}
 use Rattle.wkb_abi.specs.RowItems.{rows_of, end_of, IsRowAnswer, handed, no_room, failed, AreRowAnswers, KeepsAfter}
 use Rattle.wkb_abi.specs.RowItems.{AreSet, laid, lacks, nothing, LastEndSuffices}
@@ -165,7 +165,7 @@ last_end_suffices done other small all = grind arith
 
 -- what is written as one thing is written as another that it also is
 pub written_as : {A : Type 0} {Is Other : List A → Type 0} {before after : List A} {count : ℕ}
-    → ((items : List A) → Is items → Other items) → IsWritten Is before after count → IsWritten Other before after count
+    → ((items : List A) → Is items → Other items) → AreWritten Is before after count → AreWritten Other before after count
 written_as also w = record { items = w.items; is = also w.items w.is; held = w.held }
 
 pub no_room_as : {A : Type 0} {Is Other : List A → Type 0} {before : List A} {count : ℕ}
@@ -235,7 +235,7 @@ module _ {A : Type 0} {Has : ℕ → List A → Type 0} {Fails : ℕ → ℕ →
 pub row_step : {A : Type 0} {Has : List ℕ → List A → Type 0} {Fails : List ℕ → ℕ → Type 0} {c : Column}
     {i status count start : ℕ} {before lent sub after : List A} {row : List ℕ} → IsRow c i row
     → ((row : List ℕ) (items : List A) → Has row items → 0 < length items) → IsLent start before lent sub after
-    → (status ≡ OK → IsWritten (Has row) lent sub count) → (status ≡ NO_ROOM → FindsNoRoom (Has row) lent count)
+    → (status ≡ OK → AreWritten (Has row) lent sub count) → (status ≡ NO_ROOM → FindsNoRoom (Has row) lent count)
     → (status ≢ OK → sub ≡ lent) → (status ≡ OK) ⊎ (status ≡ NO_ROOM)
     → IsRowStep (RowHas Has c) (RowFails Fails c) i status count start before after
 row_step {row = row} is some l lays short kept (inl ok) =

@@ -9,7 +9,7 @@ ghost use Rattle.wkb_c.specs.Collections.{collect_asked, IsAsked, part_of, Takes
 ghost use Rattle.wkb_c.specs.Collections.{IsFirstUnfit, IsFirstUnfitFor, WritesMember, WritesMembers, AreMeasured};
 ghost use Rattle.wkb_c.specs.Collections.{IsWhole, IsCollected, IsStatusOfCollecting};
 ghost use Rattle.wkb_abi.specs.Columns.{Reach, IsRow, LacksRow};
-ghost use Rattle.wkb_abi.specs.Room.{IsWritten, FindsNoRoom};
+ghost use Rattle.wkb_abi.specs.Room.{AreWritten, FindsNoRoom};
 ghost use Rattle.wkb_abi.specs.RowItems.{RowHas};
 ghost use Rattle.wkb_abi.specs.Statuses.{IsFaultWithin};
 
@@ -236,7 +236,7 @@ fn write_collected(
 ) -> u32
     requires few { rows < 2 ^ 32 }
     requires measured { AreMeasured column.now target.now rows inside }
-    ensures written { result ≡ OK → IsWritten (IsWhole column.now target.now rows)
+    ensures written { result ≡ OK → AreWritten (IsWhole column.now target.now rows)
         out.old out.new size.new }
     ensures no_room { result ≡ NO_ROOM → FindsNoRoom (IsWhole column.now target.now rows)
         out.old size.new }
@@ -285,7 +285,7 @@ pub extern "C" fn wkb_raw_collect(
     fault: &mut WkbFault,
     row: &mut u64,
 ) -> u32
-    ensures written { result ≡ OK → IsWritten
+    ensures written { result ≡ OK → AreWritten
         (IsCollected column.now rows kind dimension options.now) out.old out.new size.new }
     ensures no_room { result ≡ NO_ROOM → FindsNoRoom
         (IsCollected column.now rows kind dimension options.now) out.old size.new }

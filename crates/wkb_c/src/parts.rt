@@ -4,7 +4,7 @@ ghost use Rattle.std.specs.Prelude.{◌≡◌, ◌≢◌, ◌⊎◌, length};
 ghost use Rattle.wkb_check.specs.Public.{DescribesFront};
 ghost use Rattle.wkb_abi.specs.Classes.{IsRefusalStatus, IsNoRefusal};
 ghost use Rattle.wkb_abi.specs.Statuses.{IsFault, IsStatusOfListing};
-ghost use Rattle.wkb_abi.specs.Room.{IsWritten, FindsNoRoom};
+ghost use Rattle.wkb_abi.specs.Room.{AreWritten, FindsNoRoom};
 ghost use Rattle.wkb_abi.specs.Subjects.{HasTable};
 
 use crate::check::check_input;
@@ -23,7 +23,7 @@ pub extern "C" fn wkb_raw_parts(
     count: &mut u64,
     fault: &mut WkbFault,
 ) -> u32
-    ensures listed { result ≡ OK → IsWritten (HasTable buf.now) parts.old parts.new count.new }
+    ensures listed { result ≡ OK → AreWritten (HasTable buf.now) parts.old parts.new count.new }
     ensures no_room { result ≡ NO_ROOM → FindsNoRoom (HasTable buf.now) parts.old count.new }
     ensures refused { IsRefusalStatus result → IsFault buf.now result fault.new }
     ensures known { IsStatusOfListing result }
@@ -46,7 +46,7 @@ pub extern "C" fn wkb_raw_parts(
 #[inline(always)]
 pub fn list_parts(buf: &[u8], found: &Summary, parts: &mut [Part], count: &mut u64) -> u32
     requires accepted { DescribesFront buf.now found.now }
-    ensures listed { result ≡ OK → IsWritten (HasTable buf.now) parts.old parts.new count.new }
+    ensures listed { result ≡ OK → AreWritten (HasTable buf.now) parts.old parts.new count.new }
     ensures no_room { result ≡ NO_ROOM → FindsNoRoom (HasTable buf.now) parts.old count.new }
     ensures known { (result ≡ OK) ⊎ (result ≡ NO_ROOM) }
     ensures long { length parts.new ≡ length parts.old }

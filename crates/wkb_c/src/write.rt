@@ -8,7 +8,7 @@ ghost use Rattle.wkb_abi.specs.Classes.{IsRefusalStatus, IsNoRefusal};
 ghost use Rattle.wkb_abi.specs.Requests.{request_of, options_for};
 ghost use Rattle.wkb_abi.specs.Statuses.{IsFault, IsStatusOfWriting};
 ghost use Rattle.wkb_abi.specs.Writings.{HasEncoding, Encodes, WritesRequested, WritesAsked};
-ghost use Rattle.wkb_abi.specs.Room.{IsWritten, FindsNoRoom};
+ghost use Rattle.wkb_abi.specs.Room.{AreWritten, FindsNoRoom};
 
 use crate::check::check_input;
 use wkb_abi::fault::WkbFault;
@@ -33,7 +33,7 @@ pub extern "C" fn wkb_raw_write(
     size: &mut u64,
     fault: &mut WkbFault,
 ) -> u32
-    ensures written { result ≡ OK → IsWritten (HasEncoding options.now buf.now)
+    ensures written { result ≡ OK → AreWritten (HasEncoding options.now buf.now)
         out.old out.new size.new }
     ensures no_room { result ≡ NO_ROOM → FindsNoRoom (HasEncoding options.now buf.now)
         out.old size.new }

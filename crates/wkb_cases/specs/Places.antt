@@ -2,5 +2,5 @@
 use Rattle.std.specs.Prelude.{ℕ, List, [], ◌∷◌}
 use Rattle.wkb_cases.specs.declared.places.Place.{Place}
 
-abbrev pub place_words : Place → List ℕ
-place_words place = place.longitude ∷ place.latitude ∷ []
+abbrev pub words_of_place : Place → List ℕ
+words_of_place place = place.longitude ∷ place.latitude ∷ []

@@ -28,10 +28,10 @@ impl Dimensioned for Place {
 }
 
 impl CoordTrait for Place {
-    ghost use Rattle.wkb_cases.specs.Places.{place_words};
+    ghost use Rattle.wkb_cases.specs.Places.{words_of_place};
     ghost use Rattle.wkb_cases.specs.LawfulPlaces.{place_lawful};
 
-    ghost words = { place_words };
+    ghost words = { words_of_place };
 
     ghost lawful = { place_lawful };
 
@@ -65,12 +65,12 @@ impl CoordTrait for Place {
 }
 
 impl PointTrait for Place {
-    ghost use Rattle.wkb_cases.specs.Places.{place_words};
+    ghost use Rattle.wkb_cases.specs.Places.{words_of_place};
     ghost use Rattle.wkb_cases.specs.LawfulPlaces.{place_lawful};
 
     type CoordType = Place;
 
-    ghost coordinate = { λ place. Some (place_words place) };
+    ghost coordinate = { λ place. Some (words_of_place place) };
 
     ghost lawful = { place_lawful };
 

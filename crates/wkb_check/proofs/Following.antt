@@ -6,12 +6,12 @@ use Rattle.std.specs.Iterator.{MakesProgress, Yields, at_most}
 use Rattle.wkb_laws.specs.Prelude.{Endianness, Dimension, number, any}
 use Rattle.wkb_check.specs.Known.{HasGeometry, decoded_rings}
 use Rattle.wkb_check.specs.Subjects.{subjects, subjects_of_rings, subjects_of_each}
-use Rattle.wkb_check.specs.Pieces.{Ahead, own_end, ring_piece, last_end, pieces_from, pieces_of, first_rings, IsPieceAt}
+use Rattle.wkb_check.specs.Pieces.{Ahead, own_end, ring_piece, last_end, subject_pieces, pieces_of, first_rings, IsPieceAt}
 use Rattle.wkb_check.specs.Pieces.{IsInside, IsAhead, HasAhead, Takes, Steps, bytes_left, AreRings, IsRing}
 use Rattle.wkb_check.specs.declared.pieces.Piece.{Piece}
 use Rattle.wkb_check.specs.declared.pieces.Pieces.{Pieces}
 use Rattle.wkb_check.proofs.Placing.{First, alone, first_one, Inside, leaf_inside, rings_inside}
-use Rattle.wkb_check.proofs.Placing.{members_inside, inner, itself_first, geometry_inside, begun_at}
+use Rattle.wkb_check.proofs.Placing.{members_inside, inner, itself_first, own_inside, begun_at}
 use Rattle.wkb_check.proofs.Rings.{NextRing, next_ring}
 use Rattle.wkb_check.proofs.Joining.{few_geometries, joined}
 
@@ -21,7 +21,7 @@ ahead_first buf order d g = record {
   more = g.rest;
   whole = tt;
   all = alone g;
-  are = ap (pieces_from 0) (sym (append-nil (subjects g.spelled g.value)));
+  are = ap (subject_pieces 0) (sym (append-nil (subjects g.spelled g.value)));
 }
 
 -- ---- a ring
@@ -46,11 +46,11 @@ module _ (w : Pieces) (ahead : HasAhead w) (some : 0 < w.rings) (p : Piece)
         let ends_same = (λ i. last_end (r.next_is i) (subjects_of_rings w.order w.dimension rings))
         ∙ ap (λ rs. last_end w.at (subjects_of_rings w.order w.dimension rs)) (sym r.are) in
         record {
-          rest = pieces_from next behind;
+          rest = subject_pieces next behind;
           first =
-              a.are ∙ ap (λ rs. pieces_from w.at (subjects_of_rings w.order w.dimension rs ++ others)) r.are
+              a.are ∙ ap (λ rs. subject_pieces w.at (subjects_of_rings w.order w.dimension rs ++ others)) r.are
               ∙ (λ i. (ap (ring_piece w.order w.dimension w.at) r.many ∙ sym is) i
-              ∷ pieces_from (sym r.next_is i) behind);
+              ∷ subject_pieces (sym r.next_is i) behind);
           ahead = record {
             more = a.more;
             whole = r.whole;
@@ -91,7 +91,7 @@ module _ (w : Pieces) (ahead : HasAhead w) (none : w.rings ≡ 0) (some : 0 < w.
   there = geometry_there w ahead.are none some
 
   pub piece_inside : (next : ℕ) → next ≡ own_end p → IsInside w.bytes.now w.at next p
-  piece_inside next ends = geometry_inside w.bytes.now w.at next there p (is there) ends
+  piece_inside next ends = own_inside w.bytes.now w.at next there p (is there) ends
 
   takes : {o : Endianness} {e : Dimension} {r m next : ℕ} → next ≡ own_end p
       → ((g : HasGeometry (drop w.at w.bytes.now)) → Inside w.bytes.now g.spelled g.value g.rest o e r m next)
@@ -113,11 +113,11 @@ module _ (w : Pieces) (ahead : HasAhead w) (none : w.rings ≡ 0) (some : 0 < w.
         ap (λ l. l ++ others) i.are ∙ append_assoc own (subjects_of_each x.spelled x.values) others
         ∙ ap (λ l. own ++ l) (sym j.are) in
         record {
-          rest = pieces_from next behind;
+          rest = subject_pieces next behind;
           first =
-              c.are ∙ ap (pieces_from w.at) f.are
-              ∙ ap (λ l. pieces_from w.at (l ++ others)) (itself_first g.spelled g.value)
-              ∙ (λ k. sym (is g) k ∷ pieces_from (sym (ends ∙ ap own_end (is g)) k) (joins k));
+              c.are ∙ ap (subject_pieces w.at) f.are
+              ∙ ap (λ l. subject_pieces w.at (l ++ others)) (itself_first g.spelled g.value)
+              ∙ (λ k. sym (is g) k ∷ subject_pieces (sym (ends ∙ ap own_end (is g)) k) (joins k));
           ahead = record { more = c.more; whole = i.whole; all = begun_at x.begins.whole j.all; are = refl };
         };
     inside = piece_inside next ends;

@@ -11,7 +11,7 @@ use Rattle.wkb_geom.specs.declared.header.Layout.{Layout}
 use Rattle.wkb_geom.specs.Fronts.{max_nesting}
 use Rattle.wkb_geom.specs.Reading.{Item, values, list_item, collection_with, layout_of, body_start, parts_start}
 use Rattle.wkb_geom.specs.Reading.{count_in, HasNoCount, list_at, type_kind, Reading, done, point_item_of, costs}
-use Rattle.wkb_geom.specs.Reading.{slots_of, and_then, polygon_item, consumed, body_at, then_body}
+use Rattle.wkb_geom.specs.Reading.{slots_of, and_then, polygon_item, consumed, body_at, then_body, geometry_inside}
 unfoldable use Rattle.wkb_geom.specs.Reading.{geometry_at, by_type, point_at, line_string_at, polygon_at, head_at}
 use Rattle.std.proofs.Common.{Bor, Result, Ok, Err, refl, sym, ◌∙◌, arith, length-take, slice_index_or, replicate, Bool}
 unfoldable use Rattle.wkb_geom.specs.Reading.{collection_at}
@@ -20,7 +20,7 @@ use Rattle.wkb_check.specs.declared.nested.OpenCounts.{OpenCounts}
 use Rattle.wkb_check.specs.declared.walk.Walk.{Walk}
 use Rattle.wkb_check.specs.Passes.{open_counts, IsFollowed, Passes, PassesOrOpens}
 use Rattle.wkb_check.specs.Walked.{type_walked, body_walked, inside_walked, Tally, Walked, walked, onward}
-use Rattle.wkb_check.specs.Walked.{item_coordinates, coordinates_by, geometry_inside, body_within, ahead_of}
+use Rattle.wkb_check.specs.Walked.{item_coordinates, coordinates_by, body_within, ahead_of}
 use Rattle.wkb_check.proofs.Counting.{no_count, list_walked}
 use Rattle.wkb_check.proofs.Closing.{top_set, top_is, none_left}
 

@@ -339,10 +339,10 @@ has_members buf at (node h words ss) t rest b e order f =
     }
 
 -- the piece of a geometry begins and ends inside the bytes
-pub geometry_inside : (buf : List ℕ) (at to : ℕ) (g : HasGeometry (drop at buf)) (p : Piece)
+pub own_inside : (buf : List ℕ) (at to : ℕ) (g : HasGeometry (drop at buf)) (p : Piece)
     → p ≡ piece_of at g.spelled g.value → to ≡ own_end p
     → IsInside buf at to p
-geometry_inside buf at to g p is ends = record {
+own_inside buf at to g p is ends = record {
   begins = omega (arith, ap (λ (q : Piece). q.offset) is, begins_onward at (whole g.spelled g.value));
   ends = ends;
   inside = omega (

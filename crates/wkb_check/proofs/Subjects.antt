@@ -13,7 +13,7 @@ use Rattle.wkb_laws.proofs.Parts.{items_read, each_len, coordinate_read}
 use Rattle.wkb_check.specs.declared.pieces.Piece.{Piece}
 use Rattle.wkb_check.specs.Subjects.{Subject, whole, ring, dimension_in, subject_coordinates, SpellsSubject, rings_of}
 use Rattle.wkb_check.specs.Subjects.{subjects, subjects_of_rings, subjects_of_each}
-use Rattle.wkb_check.specs.Pieces.{leading, count_of, own_end, piece_of, ring_piece, piece_at, last_end, pieces_from}
+use Rattle.wkb_check.specs.Pieces.{leading, count_of, own_end, piece_of, ring_piece, piece_at, last_end, subject_pieces}
 use Rattle.wkb_check.specs.Pieces.{pieces_of}
 use Rattle.wkb_check.proofs.Placing.{spelled_end, geometry_stands, body_at, counted_at, body_stands, front_stands}
 use Rattle.wkb_check.proofs.Placing.{rest_stands}
@@ -179,7 +179,7 @@ ArePiecesOf input (p ∷ ps) (x ∷ xs) = IsPieceOf input p x × ArePiecesOf inp
 ArePiecesOf input _ _ = ⊥
 
 each_says : (input : List ℕ) (at : ℕ) (xs : List Subject) → ArePlaced input at xs
-    → ArePiecesOf input (pieces_from at xs) xs
+    → ArePiecesOf input (subject_pieces at xs) xs
 each_says input at [] f = tt
 each_says input at (x ∷ xs) f = (says x f.0.stands f.0.spell, each_says input (own_end (piece_at at x)) xs f.1)
 

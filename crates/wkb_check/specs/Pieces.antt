@@ -84,13 +84,13 @@ last_end at [] = at
 last_end at (x ∷ xs) = last_end (own_end (piece_at at x)) xs
 
 -- their pieces
-abbrev pub pieces_from : ℕ → List Subject → List Piece
-pieces_from at [] = []
-pieces_from at (x ∷ xs) = piece_at at x ∷ pieces_from (own_end (piece_at at x)) xs
+abbrev pub subject_pieces : ℕ → List Subject → List Piece
+subject_pieces at [] = []
+subject_pieces at (x ∷ xs) = piece_at at x ∷ subject_pieces (own_end (piece_at at x)) xs
 
 -- the pieces of a geometry that begins at this byte
 abbrev pub pieces_of : ℕ → Spelling → Value → List Piece
-pieces_of at s t = pieces_from at (subjects s t)
+pieces_of at s t = subject_pieces at (subjects s t)
 
 -- all pieces of a geometry at the start of some bytes
 abbrev pub all_pieces : {bytes : List ℕ} → HasGeometry bytes → List Piece
@@ -108,7 +108,7 @@ pub record Ahead (buf : List ℕ) (order : Endianness) (d : Dimension) (rings ge
   pub whole : AreWhole order d rings (drop at buf)
   pub all : HasGeometries geometries (drop (last_end at (first_rings order d rings (drop at buf))) buf) more
   pub are : xs
-      ≡ pieces_from at (first_rings order d rings (drop at buf) ++ subjects_of_each all.spelled all.values)
+      ≡ subject_pieces at (first_rings order d rings (drop at buf) ++ subjects_of_each all.spelled all.values)
 
 abbrev pub IsAhead : Pieces → List Piece → Type 0
 IsAhead w xs = Ahead w.bytes.now w.order w.dimension w.rings w.geometries w.at xs

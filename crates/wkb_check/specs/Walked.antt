@@ -10,8 +10,8 @@ use Rattle.wkb_check.specs.declared.skip.MemberKind.TheVariants as members
 use Rattle.wkb_geom.specs.Fronts.{max_nesting}
 use Rattle.wkb_geom.specs.Reading.{Reading, Item, ring_in, line_string_of, polygon_of, list_item, list_at}
 use Rattle.wkb_geom.specs.Reading.{multi_point_with, member_at, multi_line_string_at, multi_polygon_at, body_at}
-use Rattle.wkb_geom.specs.Reading.{collection_within, at_no_cost, ring_part, type_kind, layout_of}
-unfoldable use Rattle.wkb_geom.specs.Reading.{repeated, geometry_at, point_at, line_string_at, polygon_at}
+use Rattle.wkb_geom.specs.Reading.{collection_within, geometry_inside, at_no_cost, ring_part, type_kind, layout_of}
+unfoldable use Rattle.wkb_geom.specs.Reading.{repeated, point_at, line_string_at, polygon_at}
 unfoldable use Rattle.wkb_geom.specs.Reading.{multi_point_at}
 use Rattle.wkb_geom.specs.Counted.{coordinate_count}
 
@@ -95,10 +95,6 @@ abbrev pub multi_walked : MemberKind → Layout → List ℕ → Tally → Walke
 multi_walked kind l bytes = walked item_coordinates (multi_at kind l bytes)
 
 -- ---- collections
-
--- a geometry inside this many open collections
-abbrev pub geometry_inside : ℕ → List ℕ → Reading Item
-geometry_inside around bytes = geometry_at (max_nesting - around) bytes
 
 -- a geometry of this type, with room for this many open collections
 abbrev pub body_within : ℕ → WkbType → Layout → List ℕ → Reading Item

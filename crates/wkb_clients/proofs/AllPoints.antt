@@ -14,7 +14,7 @@ use Rattle.wkb.specs.ReadBack.{encoding_is_read}
 use Rattle.wkb.specs.Reads.{Item, values}
 use Rattle.wkb.specs.Writes.{WriteOptions, IsVecError}
 use Rattle.wkb.specs.Coordinates.{coordinates_of, HasOnly, HaveOnly}
-use Rattle.wkb_clients.specs.Coordinates.{points_meant, ArePoints, IsWantOfRoom}
+use Rattle.wkb_clients.specs.Coordinates.{points_meant, IsMultiPointOf, IsWantOfRoom}
 
 -- if all members have one dimension, each has it
 pub each_has : (d : Dimension) (ms : List Item) (i : ℕ) (m : Item) → m ≡ slice_index_or ms i m → i < length ms
@@ -49,7 +49,7 @@ Fit t = AreCoordinates (as_dimensions (dimension t)) (coordinates_of t)
 module _ (options : WriteOptions) (t : Value) (form : IsForm options.form) (fit : Fit t) where
   -- what was written is the encoding of that multi point, and is read as it
   pub are_points : (bytes : List ℕ) → bytes ≡ encoding_of options (points_meant t)
-      → fault_of options (points_meant t) ≡ None → ArePoints options t bytes
+      → fault_of options (points_meant t) ≡ None → IsMultiPointOf options t bytes
   are_points bytes is fine =
       let read = encoding_is_read [] options (points_meant t) bytes bytes form
       (points_lawful (as_dimensions (dimension t)) (coordinates_of t) fit) is fine (sym (append-nil bytes))

@@ -21,7 +21,7 @@ points_meant t = points_of (as_dimensions (dimension t)) (map (λ c. Some c) (co
 
 -- The bytes are that multi point's encoding under the options, and are read as it, with nothing behind: bit for bit,
 -- but for a coordinate of NaNs, which is read as an empty point.
-pub record ArePoints (options : WriteOptions) (t : Value) (bytes : List ℕ) : Type 0 where
+pub record IsMultiPointOf (options : WriteOptions) (t : Value) (bytes : List ℕ) : Type 0 where
   pub encoding_is : bytes ≡ encoding_of options (points_meant t)
   pub spelling : Spelling
   pub read : Front bytes spelling
@@ -29,7 +29,7 @@ pub record ArePoints (options : WriteOptions) (t : Value) (bytes : List ℕ) : T
 
 -- what is found is that encoding, or nothing if a member has another dimension
 abbrev pub FindsPoints : WriteOptions → Value → Option (Vec ℕ Global) → Type 0
-FindsPoints options t found = MatchOption found (HasOther t) (λ bytes. ArePoints options t bytes.items)
+FindsPoints options t found = MatchOption found (HasOther t) (λ bytes. IsMultiPointOf options t bytes.items)
 
 -- there are more points than a count of four bytes can say, and the error is the one of the writer
 pub record HasTooMany (options : WriteOptions) (t : Value) (e : WkbError) : Type 0 where

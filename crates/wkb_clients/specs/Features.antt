@@ -2,7 +2,7 @@
 use Rattle.std.specs.Prelude.{List, map, Some}
 use Rattle.wkb.specs.Prelude.traits.{Xy}
 use Rattle.wkb.specs.Geometries.{Geometry, point, collection, geometries}
-use Rattle.wkb_cases.specs.Places.{place_words}
+use Rattle.wkb_cases.specs.Places.{words_of_place}
 use Rattle.wkb_clients.specs.Shapes.{path_meant, spots_meant, area_meant, network_meant, region_meant}
 use Rattle.wkb_clients.specs.Shapes.{leg_meant, sheet_meant, facet_meant}
 use Rattle.wkb_clients.specs.declared.features.Feature.{Feature}
@@ -13,7 +13,7 @@ use Rattle.wkb_clients.specs.declared.features.Layer.{Layer}
 
 -- one level, with what each member means in its place
 abbrev pub level_meant : Feature-F Geometry → Geometry
-level_meant (Place p) = point Xy (Some (place_words p))
+level_meant (Place p) = point Xy (Some (words_of_place p))
 level_meant (Path p) = path_meant p
 level_meant (Area a) = area_meant a
 level_meant (Spots s) = spots_meant s

@@ -4,7 +4,7 @@ use Rattle.std.specs.List.{AllByRecursion}
 use Rattle.wkb.specs.Prelude.traits.{Xy}
 use Rattle.wkb.specs.Geometries.{IsCoordinate, IsPoint, AreCoordinates}
 use Rattle.wkb_cases.specs.declared.places.Place.{Place}
-use Rattle.wkb_cases.specs.Places.{place_words}
+use Rattle.wkb_cases.specs.Places.{words_of_place}
 use Rattle.wkb_cases.specs.LawfulPlaces.{place_lawful}
 use Rattle.wkb_clients.specs.Shapes.{path_words, spots_words, area_rings, network_words, region_rings}
 use Rattle.wkb_clients.specs.declared.shapes.Path.{Path}
@@ -24,10 +24,10 @@ all_lawful read P law [] = tt
 all_lawful read P law (a ∷ items) = (law a, all_lawful read P law items)
 
 pub path_lawful : (path : Path) → AreCoordinates Xy (path_words path)
-path_lawful path = all_lawful place_words (IsCoordinate Xy) place_lawful path.places.now
+path_lawful path = all_lawful words_of_place (IsCoordinate Xy) place_lawful path.places.now
 
 pub spots_lawful : (spots : Spots) → AllByRecursion (IsPoint Xy) (spots_words spots)
-spots_lawful spots = all_lawful (λ (place : Place). Some (place_words place)) (IsPoint Xy) place_lawful spots.places.now
+spots_lawful spots = all_lawful (λ (place : Place). Some (words_of_place place)) (IsPoint Xy) place_lawful spots.places.now
 
 pub area_lawful : (area : Area) → AllByRecursion (AreCoordinates Xy) (area_rings area)
 area_lawful areas.Nothing = tt
@@ -40,15 +40,15 @@ network_lawful network = all_lawful path_words (AreCoordinates Xy) path_lawful n
 pub region_lawful : (region : Region) → AllByRecursion (AllByRecursion (AreCoordinates Xy)) (region_rings region)
 region_lawful region = all_lawful area_rings (AllByRecursion (AreCoordinates Xy)) area_lawful region.areas.now
 
-pub leg_lawful : (leg : Leg) → IsCoordinate Xy (place_words leg.from) × IsCoordinate Xy (place_words leg.to)
+pub leg_lawful : (leg : Leg) → IsCoordinate Xy (words_of_place leg.from) × IsCoordinate Xy (words_of_place leg.to)
 leg_lawful leg = (place_lawful leg.from, place_lawful leg.to)
 
 pub sheet_lawful : (sheet : Sheet)
-    → IsCoordinate Xy (place_words sheet.south_west) × IsCoordinate Xy (place_words sheet.north_east)
+    → IsCoordinate Xy (words_of_place sheet.south_west) × IsCoordinate Xy (words_of_place sheet.north_east)
 sheet_lawful sheet = (place_lawful sheet.south_west, place_lawful sheet.north_east)
 
 pub facet_lawful : (facet : Facet)
-    → IsCoordinate Xy (place_words facet.first)
-    × IsCoordinate Xy (place_words facet.second)
-    × IsCoordinate Xy (place_words facet.third)
+    → IsCoordinate Xy (words_of_place facet.first)
+    × IsCoordinate Xy (words_of_place facet.second)
+    × IsCoordinate Xy (words_of_place facet.third)
 facet_lawful facet = (place_lawful facet.first, place_lawful facet.second, place_lawful facet.third)

@@ -4,7 +4,7 @@ use Rattle.wkb.specs.Prelude.traits.{Xy}
 use Rattle.wkb.specs.Geometries.{Geometry, line_string, polygon, multi_point, multi_line_string, multi_polygon}
 use Rattle.wkb.specs.Geometries.{line, rectangle, triangle}
 use Rattle.wkb_cases.specs.declared.places.Place.{Place}
-use Rattle.wkb_cases.specs.Places.{place_words}
+use Rattle.wkb_cases.specs.Places.{words_of_place}
 use Rattle.wkb_clients.specs.declared.shapes.Path.{Path}
 use Rattle.wkb_clients.specs.declared.shapes.Spots.{Spots}
 use Rattle.wkb_clients.specs.declared.shapes.Area.{Area}
@@ -17,7 +17,7 @@ use Rattle.wkb_clients.specs.declared.shapes.Facet.{Facet}
 
 -- the words of a path's places
 abbrev pub path_words : Path → List (List ℕ)
-path_words path = map place_words path.places.now
+path_words path = map words_of_place path.places.now
 
 -- a path is a line string
 abbrev pub path_meant : Path → Geometry
@@ -25,7 +25,7 @@ path_meant path = line_string Xy (path_words path)
 
 -- single places, none of which is empty
 abbrev pub spots_words : Spots → List (Option (List ℕ))
-spots_words spots = map (λ (place : Place). Some (place_words place)) spots.places.now
+spots_words spots = map (λ (place : Place). Some (words_of_place place)) spots.places.now
 
 -- single places are a multi point
 abbrev pub spots_meant : Spots → Geometry
@@ -58,12 +58,12 @@ region_meant region = multi_polygon Xy (region_rings region)
 
 -- a leg is a line
 abbrev pub leg_meant : Leg → Geometry
-leg_meant leg = line Xy (place_words leg.from) (place_words leg.to)
+leg_meant leg = line Xy (words_of_place leg.from) (words_of_place leg.to)
 
 -- a sheet is a rectangle
 abbrev pub sheet_meant : Sheet → Geometry
-sheet_meant sheet = rectangle Xy (place_words sheet.south_west) (place_words sheet.north_east)
+sheet_meant sheet = rectangle Xy (words_of_place sheet.south_west) (words_of_place sheet.north_east)
 
 -- a facet is a triangle
 abbrev pub facet_meant : Facet → Geometry
-facet_meant facet = triangle Xy (place_words facet.first) (place_words facet.second) (place_words facet.third)
+facet_meant facet = triangle Xy (words_of_place facet.first) (words_of_place facet.second) (words_of_place facet.third)

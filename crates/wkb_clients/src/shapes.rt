@@ -4,7 +4,7 @@
 ghost use Rattle.std.specs.Prelude.{map};
 ghost use Rattle.wkb.specs.Geometries.{IsItemAt};
 ghost use Rattle.wkb.specs.Prelude.traits.{Xy};
-ghost use Rattle.wkb_cases.specs.Places.{place_words};
+ghost use Rattle.wkb_cases.specs.Places.{words_of_place};
 ghost use Rattle.wkb_clients.specs.Shapes.{path_words, spots_words, area_rings, network_words, region_rings};
 ghost use Rattle.wkb_clients.specs.LawfulShapes.{path_lawful, spots_lawful, area_lawful, network_lawful};
 ghost use Rattle.wkb_clients.specs.LawfulShapes.{region_lawful, leg_lawful, sheet_lawful, facet_lawful};
@@ -238,9 +238,9 @@ impl Dimensioned for Leg {
 impl LineTrait for Leg {
     type CoordType = Place;
 
-    ghost start_words = { λ leg. place_words leg.from };
+    ghost start_words = { λ leg. words_of_place leg.from };
 
-    ghost end_words = { λ leg. place_words leg.to };
+    ghost end_words = { λ leg. words_of_place leg.to };
 
     ghost lawful = { leg_lawful };
 
@@ -264,9 +264,9 @@ impl Dimensioned for Sheet {
 impl RectTrait for Sheet {
     type CoordType = Place;
 
-    ghost min_words = { λ sheet. place_words sheet.south_west };
+    ghost min_words = { λ sheet. words_of_place sheet.south_west };
 
-    ghost max_words = { λ sheet. place_words sheet.north_east };
+    ghost max_words = { λ sheet. words_of_place sheet.north_east };
 
     ghost lawful = { sheet_lawful };
 
@@ -290,11 +290,11 @@ impl Dimensioned for Facet {
 impl TriangleTrait for Facet {
     type CoordType = Place;
 
-    ghost first_words = { λ facet. place_words facet.first };
+    ghost first_words = { λ facet. words_of_place facet.first };
 
-    ghost second_words = { λ facet. place_words facet.second };
+    ghost second_words = { λ facet. words_of_place facet.second };
 
-    ghost third_words = { λ facet. place_words facet.third };
+    ghost third_words = { λ facet. words_of_place facet.third };
 
     ghost lawful = { facet_lawful };
 

@@ -35,5 +35,6 @@ pub use Rattle.wkb_read.specs.Reads.{IsFront, IsOnlyFront, IsRefusal, TellsEach,
 pub use Rattle.wkb_read.specs.Reads.{CountsRefusal, CountsAtMost, AsksForNone, BeginsNone, KindTakesNone, TakesNoMemory}
 pub use Rattle.wkb_read.specs.Meanings.{geometry_seen, members_seen}
 pub use Rattle.wkb_read.specs.Lawful.{seen_as_it_is}
-pub use Rattle.wkb_read.specs.Stack.{geometry_inside, after_member, in_collection, outward, first_member}
+pub use Rattle.wkb_geom.specs.Reading.{geometry_inside}
+pub use Rattle.wkb_read.specs.Stack.{after_member, in_collection, outward, first_member}
 pub use Rattle.wkb_read.specs.Stack.{around, IsOpen, AreOpen, IsFinished, collection_inside, BeginsAs, ReadsAs}

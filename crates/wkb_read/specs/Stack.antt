@@ -5,7 +5,8 @@ use Rattle.std.specs.Global.{Global}
 use Rattle.std.specs.List.{AllByRecursion}
 use Rattle.wkb_read.specs.Prelude.{ReadError, Layout, max_nesting, number, Item, Reading, costs, one_turn, done}
 use Rattle.wkb_read.specs.Prelude.{cost_of, and_then, repeated, collection_within, body_start, parts_start}
-use Rattle.wkb_read.specs.Prelude.{geometry_at, Counts, HasHead, Spent, Stops, BytesSpell, nest, nest_each, values}
+use Rattle.wkb_read.specs.Prelude.{Counts, HasHead, Spent, Stops, BytesSpell, nest, nest_each, values}
+use Rattle.wkb_geom.specs.Reading.{geometry_inside}
 use Rattle.wkb_view.specs.Entries.{entries, capacity}
 use Rattle.wkb_geom.specs.declared.code.WkbType.TheVariants as kinds
 use Rattle.wkb_read.specs.declared.geometry.Wkb.{Wkb}
@@ -13,10 +14,6 @@ use Rattle.wkb_read.specs.declared.read.stack.Open.{Open}
 use Rattle.wkb_read.specs.declared.read.stack.Begun.{Begun}
 use Rattle.wkb_read.specs.declared.read.stack.Begun.TheVariants.{Whole, Opened}
 use Rattle.wkb_read.specs.Places.{joined_encodings, closing}
-
--- the reading of a geometry inside this number of open collections
-abbrev pub geometry_inside : ℕ → List ℕ → Reading Item
-geometry_inside depth = geometry_at (max_nesting - depth)
 
 -- the reading of a collection's count and members, inside this number of open collections
 abbrev pub collection_inside : Layout → ℕ → List ℕ → Reading Item

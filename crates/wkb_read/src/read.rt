@@ -4,7 +4,8 @@ ghost use Rattle.std.specs.Prelude.{IfErr};
 ghost use Rattle.wkb_read.specs.Prelude.{max_nesting, geometry_at, CanCount, IsCause};
 ghost use Rattle.wkb_read.specs.Memory.{NeedsNone, ReadsWithoutMemory};
 ghost use Rattle.wkb_read.specs.Reads.{Reads, Costs};
-ghost use Rattle.wkb_read.specs.Stack.{geometry_inside, BeginsAs, ReadsAs};
+ghost use Rattle.wkb_geom.specs.Reading.{geometry_inside};
+ghost use Rattle.wkb_read.specs.Stack.{BeginsAs, ReadsAs};
 
 use crate::geometry::{View, Wkb};
 use crate::read::stack::{Begun, begin_collection, read_collection};

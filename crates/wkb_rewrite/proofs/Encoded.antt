@@ -7,11 +7,11 @@ use Rattle.wkb_check.specs.declared.pieces.Piece.{Piece}
 use Rattle.wkb_check.specs.declared.pieces.Pieces.{Pieces}
 use Rattle.wkb_check.specs.Known.{HasGeometry}
 use Rattle.wkb_check.specs.Pieces.{own_end, IsPieceAt, IsTaken, pieces_of}
-use Rattle.wkb_check.proofs.Placing.{sets_after, only_piece, geometry_inside}
+use Rattle.wkb_check.proofs.Placing.{sets_after, only_piece, own_inside}
 use Rattle.wkb_check.specs.declared.answer.Summary.{Summary}
 use Rattle.wkb_check.specs.Public.{DescribesFront}
 use Rattle.wkb_sink.specs.declared.options.WriteOptions.{WriteOptions}
-use Rattle.wkb_rewrite.specs.Shares.{Share, share_in, share_encoding, piece_encoding, HasRoomAt, IsLaid}
+use Rattle.wkb_rewrite.specs.Shares.{Share, share_in, share_encoding, piece_encoding, HasRoomAt, IsLaidAt}
 use Rattle.wkb_rewrite.specs.Targets.{FrontFits, LaysFront, IsFrontSize, IsFrontEncoding}
 use Rattle.wkb_rewrite.proofs.Comparing.{encoded}
 use Rattle.wkb_check.proofs.Ahead.{here}
@@ -47,7 +47,7 @@ module _ {buf : List ℕ} {order : Endianness} {form : Form} {w : Pieces} {at : 
     pub left_room : length whole ≤ length before → at + length own ≤ length out
     left_room room = omega (arith, ap length all, length-append own others)
 
-    pub left_next : {to : ℕ} {with : List ℕ} → IsLaid out with at to own
+    pub left_next : {to : ℕ} {with : List ℕ} → IsLaidAt out with at to own
         → Left buf order (inner form) new to with before whole
     left_next {to = to} p = record {
       shares = n.others;
@@ -78,7 +78,7 @@ module _ {buf : List ℕ} (order : Endianness) (form : Form) (g : HasGeometry bu
   first_room out fits = omega (arith, ap length first_all, length-append first_own first_others)
 
   pub first_left : {to : ℕ} {out with : List ℕ} → w.bytes.now ≡ buf
-      → IsLaid out with 0 to (share_encoding order form (share_in buf p))
+      → IsLaidAt out with 0 to (share_encoding order form (share_in buf p))
       → Left buf order (inner form) w to with out (encoding order form (geometry_of g.value))
   first_left {to = to} {out = out} same laid = record {
     shares = map (share_in buf) taken.rest;
@@ -106,10 +106,10 @@ module _ {buf : List ℕ} {found : Summary} (d : DescribesFront buf found) {p : 
   pub alone_fits : (out : List ℕ) → FrontFits buf options out
       → record { inside : own_end p ≤ length buf; room : HasRoomAt out 0 own_encoding }
   alone_fits out fits = record {
-    inside = (geometry_inside buf 0 _ (here d) p (first (here d)) refl).inside;
+    inside = (own_inside buf 0 _ (here d) p (first (here d)) refl).inside;
     room = omega (arith, fits (here d), ap length (alone (here d)));
   }
 
-  pub alone_laid : {out new : List ℕ} {end : ℕ} → IsLaid out new 0 end own_encoding
+  pub alone_laid : {out new : List ℕ} {end : ℕ} → IsLaidAt out new 0 end own_encoding
       → record { size : IsFrontSize buf options.endianness options.form end; laid : LaysFront buf options out new }
   alone_laid p = grind (arith, alone)

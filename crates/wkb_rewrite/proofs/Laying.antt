@@ -14,29 +14,29 @@ use Rattle.wkb_check.proofs.Placing.{sets_after}
 use Rattle.wkb_sink.proofs.Lengths.{length-number, length-header}
 use Rattle.wkb_geom.specs.Refusals.{srid_size}
 use Rattle.wkb_geom.specs.declared.code.WkbType.{WkbType}
-use Rattle.wkb_rewrite.specs.Shares.{IsLaid, type_header, header_part}
+use Rattle.wkb_rewrite.specs.Shares.{IsLaidAt, type_header, header_part}
 
 -- a part of a slice that was borrowed
 pub part_laid : (all part bytes : List ℕ) (at k end : ℕ) → at + length bytes ≤ length all → length bytes ≡ k
-    → end ≡ at + k → part ≡ bytes → IsLaid all (put_mid at k all part) at end bytes
+    → end ≡ at + k → part ≡ bytes → IsLaidAt all (put_mid at k all part) at end bytes
 part_laid all part bytes at k end room long ends is = grind (arith, drop-drop, append_assoc, sets-eq)
 
-pub laid_on : {a b c : List ℕ} {i j k : ℕ} {xs ys : List ℕ} → IsLaid a b i j xs → IsLaid b c j k ys
-    → IsLaid a c i k (xs ++ ys)
+pub laid_on : {a b c : List ℕ} {i j k : ℕ} {xs ys : List ℕ} → IsLaidAt a b i j xs → IsLaidAt b c j k ys
+    → IsLaidAt a c i k (xs ++ ys)
 laid_on p q = grind (arith, length-append, sets_after)
 
-pub laid_length : {a b : List ℕ} {i j : ℕ} {xs : List ℕ} → IsLaid a b i j xs → length b ≡ length a
+pub laid_length : {a b : List ℕ} {i j : ℕ} {xs : List ℕ} → IsLaidAt a b i j xs → length b ≡ length a
 laid_length {a = a} {i = i} {xs = xs} p = ap length p.laid ∙ length-sets a i xs
 
-pub byte_laid : {a b : List ℕ} {i j byte : ℕ} {xs : List ℕ} → IsLaid (slice_set a i byte) b (i + 1) j xs
-    → IsLaid a b i j (byte ∷ xs)
+pub byte_laid : {a b : List ℕ} {i j byte : ℕ} {xs : List ℕ} → IsLaidAt (slice_set a i byte) b (i + 1) j xs
+    → IsLaidAt a b i j (byte ∷ xs)
 byte_laid p = grind arith
 
-pub nothing_laid : (out : List ℕ) (at : ℕ) → IsLaid out out at at []
+pub nothing_laid : (out : List ℕ) (at : ℕ) → IsLaidAt out out at at []
 nothing_laid out at = record { end_is = omega arith; laid = refl }
 
 -- at the start of a slice
-pub laid_front : {a b : List ℕ} {j : ℕ} {xs : List ℕ} → IsLaid a b 0 j xs → length xs ≤ length a → take j b ≡ xs
+pub laid_front : {a b : List ℕ} {j : ℕ} {xs : List ℕ} → IsLaidAt a b 0 j xs → length xs ≤ length a → take j b ≡ xs
 laid_front p room = grind (arith, sets-eq, take_front)
 
 -- ---- headers

@@ -15,7 +15,7 @@ use Rattle.wkb_check.specs.declared.answer.Summary.{Summary}
 use Rattle.wkb_check.specs.Known.{HasGeometry}
 use Rattle.wkb_check.specs.Public.{DescribesFront}
 use Rattle.wkb_check.specs.Subjects.{Subject, rings_of, subjects, subjects_of_rings, subjects_of_each}
-use Rattle.wkb_check.specs.Pieces.{own_end, piece_of, ring_piece, piece_at, last_end, pieces_from, pieces_of}
+use Rattle.wkb_check.specs.Pieces.{own_end, piece_of, ring_piece, piece_at, last_end, subject_pieces, pieces_of}
 use Rattle.wkb_check.proofs.Ahead.{here, type_kind_is}
 use Rattle.wkb_rewrite.proofs.Comparing.{same_spelling, value_good}
 use Rattle.wkb_rewrite.proofs.Laying.{most_srid}
@@ -30,13 +30,13 @@ sizes_append [] qs = omega arith
 sizes_append (p ∷ ps) qs = omega (arith, sizes_append ps qs)
 
 srids_append : (at : ℕ) (xs ys : List Subject)
-    → srid_sizes (pieces_from at (xs ++ ys))
-    ≡ srid_sizes (pieces_from at xs) + srid_sizes (pieces_from (last_end at xs) ys)
+    → srid_sizes (subject_pieces at (xs ++ ys))
+    ≡ srid_sizes (subject_pieces at xs) + srid_sizes (subject_pieces (last_end at xs) ys)
 srids_append at [] ys = omega arith
 srids_append at (x ∷ xs) ys = omega (arith, srids_append (own_end (piece_at at x)) xs ys)
 
 rings_have_none : (order : Endianness) (d : Dimension) (at : ℕ) (rings : List (List Coordinate))
-    → srid_sizes (pieces_from at (subjects_of_rings order d rings)) ≡ 0
+    → srid_sizes (subject_pieces at (subjects_of_rings order d rings)) ≡ 0
 rings_have_none order d at [] = refl
 rings_have_none order d at (cs ∷ rings) =
     omega (arith, rings_have_none order d (own_end (ring_piece order d at (length cs))) rings)
@@ -56,7 +56,7 @@ mutual
       )
 
   each_counted : (at : ℕ) (w : Wanted) (ss : Spellings) (ts : Values) (x : List ℕ) → SpellsEach w ss ts x
-      → srid_sizes (pieces_from at (subjects_of_each ss ts)) ≡ 4 * srid_count_each ss
+      → srid_sizes (subject_pieces at (subjects_of_each ss ts)) ≡ 4 * srid_count_each ss
   each_counted at w no_spellings no_members x a = refl
   each_counted at w (spelling s ss) (member t ts) x a =
       omega (

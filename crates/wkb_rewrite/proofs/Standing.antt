@@ -12,7 +12,7 @@ use Rattle.wkb_geom.specs.Items.{length-items}
 use Rattle.wkb_check.specs.declared.pieces.Piece.{Piece}
 use Rattle.wkb_check.specs.Known.{HasGeometry}
 use Rattle.wkb_check.specs.Subjects.{subjects_of_each}
-use Rattle.wkb_check.specs.Pieces.{own_end, count_of, piece_of, pieces_from, ring_piece, Ahead}
+use Rattle.wkb_check.specs.Pieces.{own_end, count_of, piece_of, subject_pieces, ring_piece, Ahead}
 use Rattle.wkb_check.proofs.Ahead.{says, begins_inside}
 use Rattle.wkb_check.proofs.Placing.{itself_first, inner, first_one}
 use Rattle.wkb_check.proofs.Following.{none_ahead}
@@ -135,8 +135,8 @@ module _ {buf : List ℕ} (b : AreBytes buf) where
       let others = subjects_of_each f.others.spelled f.others.values in
       let first : p ∷ ps
       ≡ piece_of at g.spelled g.value
-      ∷ pieces_from (own_end (piece_of at g.spelled g.value)) (inner g.spelled g.value ++ others) =
-      a.are ∙ ap (pieces_from at) (f.are ∙ ap (λ xs. xs ++ others) (itself_first g.spelled g.value)) in
+      ∷ subject_pieces (own_end (piece_of at g.spelled g.value)) (inner g.spelled g.value ++ others) =
+      a.are ∙ ap (subject_pieces at) (f.are ∙ ap (λ xs. xs ++ others) (itself_first g.spelled g.value)) in
       let is : p ≡ piece_of at g.spelled g.value = cc in
       geometry (rw is (geometry_there at g))
   next_there {order = order} {d = d} {r = suc m} {at = at} {p = p} {ps = ps} a =

@@ -85,6 +85,6 @@ abbrev pub HasRoomAt : List ℕ → ℕ → List ℕ → Type 0
 HasRoomAt slice at bytes = at + length bytes ≤ length slice
 
 -- the bytes were laid at the index `at`, and end at `end`
-pub record IsLaid (old new : List ℕ) (at end : ℕ) (bytes : List ℕ) : Type 0 where
+pub record IsLaidAt (old new : List ℕ) (at end : ℕ) (bytes : List ℕ) : Type 0 where
   pub end_is : end ≡ at + length bytes
   pub laid : new ≡ sets old at bytes

@@ -6,7 +6,7 @@ ghost use Rattle.wkb_geom.specs.declared.header.TheConstants.{MEMBER_HEADER_SIZE
 ghost use Rattle.wkb_check.specs.Pieces.{own_end, IsAhead, HasAhead};
 ghost use Rattle.wkb_check.specs.Public.{DescribesFront};
 ghost use Rattle.wkb_check.specs.declared.pieces.TheConstants.{RING};
-ghost use Rattle.wkb_rewrite.specs.Shares.{IsLaid, is_empty_point};
+ghost use Rattle.wkb_rewrite.specs.Shares.{IsLaidAt, is_empty_point};
 ghost use Rattle.wkb_rewrite.specs.Rewritings.{CodeStands, StandsAsWritten, HasPassed};
 ghost use Rattle.wkb_rewrite.specs.Copies.{copied_header, copied_encoding, StandsBehindHeader};
 ghost use Rattle.wkb_rewrite.specs.Targets.{IsFrontEncoding};
@@ -151,7 +151,7 @@ impl<'a> Copied<'a> {
     #[tactic(auto, using(crate::proofs::Laying::copy_laws))]
     pub fn lay(&self, out: &mut [u8]) -> usize
         requires { length (copied_encoding self.now) ≤ length out.old }
-        ensures { IsLaid out.old out.new 0 result (copied_encoding self.now) }
+        ensures { IsLaidAt out.old out.new 0 result (copied_encoding self.now) }
     {
         let start = lay_type_header(self.wkb_type, self.options, out, 0);
         let end = start + self.rest.len();

@@ -7,7 +7,7 @@ ghost use Rattle.wkb_geom.specs.Numbers.{number_bytes};
 ghost use Rattle.wkb_check.specs.Pieces.{own_end};
 ghost use Rattle.wkb_sink.specs.Options.{header_of};
 ghost use Rattle.wkb_sink.specs.Runs.{Turns, empty_encoding, other};
-ghost use Rattle.wkb_rewrite.specs.Shares.{HasRoomAt, IsLaid, count_part};
+ghost use Rattle.wkb_rewrite.specs.Shares.{HasRoomAt, IsLaidAt, count_part};
 ghost use Rattle.wkb_rewrite.specs.Shares.{piece_header, words_part, piece_encoding};
 
 use crate::own::{is_empty_point, own_bytes};
@@ -23,7 +23,7 @@ use wkb_sink::{WriteOptions, store_words, u32_bytes};
 #[tactic(auto, using(crate::proofs::Laying::lay_laws))]
 fn lay_number(n: u32, order: Endianness, out: &mut [u8], at: usize) -> usize
     requires { HasRoomAt out.old at (number_bytes order COUNT_SIZE n) }
-    ensures { IsLaid out.old out.new at result (number_bytes order COUNT_SIZE n) }
+    ensures { IsLaidAt out.old out.new at result (number_bytes order COUNT_SIZE n) }
 {
     let end = at + COUNT_SIZE;
     out[at..end].copy_from_slice(&u32_bytes(order, n));
@@ -35,7 +35,7 @@ fn lay_number(n: u32, order: Endianness, out: &mut [u8], at: usize) -> usize
 #[tactic(auto, using(crate::proofs::Laying::lay_laws), unfolding(wkb_geom::specs::Encodings::srid_encoding))]
 fn lay_srid(srid: Option<u32>, order: Endianness, out: &mut [u8], at: usize) -> usize
     requires { HasRoomAt out.old at (srid_encoding order srid) }
-    ensures { IsLaid out.old out.new at result (srid_encoding order srid) }
+    ensures { IsLaidAt out.old out.new at result (srid_encoding order srid) }
 {
     match srid {
         Some(srid) => lay_number(srid, order, out, at),
@@ -48,7 +48,7 @@ fn lay_srid(srid: Option<u32>, order: Endianness, out: &mut [u8], at: usize) -> 
 #[tactic(auto, using(crate::proofs::Laying::lay_laws), unfolding(wkb_geom::specs::Encodings::header_encoding))]
 pub fn lay_type_header(wkb_type: WkbType, options: WriteOptions, out: &mut [u8], at: usize) -> usize
     requires { HasRoomAt out.old at (header_of options wkb_type) }
-    ensures { IsLaid out.old out.new at result (header_of options wkb_type) }
+    ensures { IsLaidAt out.old out.new at result (header_of options wkb_type) }
 {
     let WriteOptions {
         endianness: order,
@@ -64,7 +64,7 @@ pub fn lay_type_header(wkb_type: WkbType, options: WriteOptions, out: &mut [u8],
 #[inline(always)]
 fn lay_piece_header(piece: &Piece, options: WriteOptions, out: &mut [u8], at: usize) -> usize
     requires { HasRoomAt out.old at (piece_header options piece.now) }
-    ensures { IsLaid out.old out.new at result (piece_header options piece.now) }
+    ensures { IsLaidAt out.old out.new at result (piece_header options piece.now) }
 {
     if piece.kind == RING {
         return at;
@@ -77,7 +77,7 @@ fn lay_piece_header(piece: &Piece, options: WriteOptions, out: &mut [u8], at: us
 #[tactic(auto, using(crate::proofs::Laying::lay_laws))]
 fn lay_count_part(piece: &Piece, order: Endianness, out: &mut [u8], at: usize) -> usize
     requires { HasRoomAt out.old at (count_part order piece.now.kind piece.now.count) }
-    ensures { IsLaid out.old out.new at result (count_part order piece.now.kind piece.now.count) }
+    ensures { IsLaidAt out.old out.new at result (count_part order piece.now.kind piece.now.count) }
 {
     if piece.kind == POINT {
         return at;
@@ -136,7 +136,7 @@ fn store_written(buf: &[u8], piece: &Piece, order: Endianness, out: &mut [u8])
 fn lay_words(buf: &[u8], piece: &Piece, order: Endianness, out: &mut [u8], at: usize) -> usize
     requires inside { own_end piece.now ≤ length buf.now }
     requires room { HasRoomAt out.old at (words_part order buf.now piece.now) }
-    ensures { IsLaid out.old out.new at result (words_part order buf.now piece.now) }
+    ensures { IsLaidAt out.old out.new at result (words_part order buf.now piece.now) }
 {
     let end = at + own_bytes(buf, piece).len();
     store_written(buf, piece, order, &mut out[at..end]);
@@ -154,7 +154,7 @@ fn lay_words_by_dimension(
 ) -> usize
     requires inside { own_end piece.now ≤ length buf.now }
     requires room { HasRoomAt out.old at (words_part order buf.now piece.now) }
-    ensures { IsLaid out.old out.new at result (words_part order buf.now piece.now) }
+    ensures { IsLaidAt out.old out.new at result (words_part order buf.now piece.now) }
 {
     // In each arm the dimension is a constant, for which the call is compiled.
     match piece.dimension {
@@ -175,7 +175,7 @@ pub fn lay_piece(
 ) -> usize
     requires inside { own_end piece.now ≤ length buf.now }
     requires room { HasRoomAt out.old start (piece_encoding options buf.now piece.now) }
-    ensures { IsLaid out.old out.new start result (piece_encoding options buf.now piece.now) }
+    ensures { IsLaidAt out.old out.new start result (piece_encoding options buf.now piece.now) }
 {
     let order = options.endianness;
     let count_at = lay_piece_header(piece, options, out, start);
@@ -194,7 +194,7 @@ fn lay_piece_by_dimension(
 ) -> usize
     requires inside { own_end piece.now ≤ length buf.now }
     requires room { HasRoomAt out.old start (piece_encoding options buf.now piece.now) }
-    ensures { IsLaid out.old out.new start result (piece_encoding options buf.now piece.now) }
+    ensures { IsLaidAt out.old out.new start result (piece_encoding options buf.now piece.now) }
 {
     let order = options.endianness;
     let count_at = lay_piece_header(piece, options, out, start);
@@ -214,7 +214,7 @@ pub fn lay_piece_of(
 ) -> usize
     requires inside { own_end piece.now ≤ length buf.now }
     requires room { HasRoomAt out.old start (piece_encoding options buf.now piece.now) }
-    ensures { IsLaid out.old out.new start result (piece_encoding options buf.now piece.now) }
+    ensures { IsLaidAt out.old out.new start result (piece_encoding options buf.now piece.now) }
 {
     match wkb_type {
         WkbType::Point(_) => lay_piece_by_dimension(buf, piece, options, out, start),

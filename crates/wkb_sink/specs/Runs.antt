@@ -24,7 +24,7 @@ abbrev pub empty_encoding : Endianness → ℕ → List ℕ
 empty_encoding order words = words_encoding order (replicate words empty_word)
 
 -- the two indices are a run's, and the dimension can be written
-pub record IsRun (d : Dimensions) (cs : List Coordinate) (from to : ℕ) : Type 0 where
+pub record AreRunEnds (d : Dimensions) (cs : List Coordinate) (from to : ℕ) : Type 0 where
   pub order : from ≤ to
   pub within : to ≤ length cs
   pub least : 2 ≤ size d

@@ -8,7 +8,7 @@ ghost use Rattle.wkb_geom.specs.Reading.{type_kind, type_dimension};
 ghost use Rattle.wkb_geom.specs.declared.words.TheConstants.{COUNT_SIZE};
 ghost use Rattle.wkb_sink.specs.Blocks.{LaysAt};
 ghost use Rattle.wkb_sink.specs.Options.{header_size, header_of};
-ghost use Rattle.wkb_sink.specs.Runs.{FitsCoordinate, IsRun, empty_encoding, run_size, run_encoding};
+ghost use Rattle.wkb_sink.specs.Runs.{FitsCoordinate, AreRunEnds, empty_encoding, run_size, run_encoding};
 ghost use Rattle.wkb_sink.specs.declared.block.TheConstants.{CORNER_SIZE};
 
 use crate::options::WriteOptions;
@@ -117,7 +117,7 @@ pub fn lay_coordinates<L: LineStringTrait>(
     to: usize,
     order: Endianness,
 ) -> usize
-    requires run { IsRun (L.dimensions line.now) (L.coordinates line.now) from to }
+    requires run { AreRunEnds (L.dimensions line.now) (L.coordinates line.now) from to }
     requires room { at + run_size (L.dimensions line.now) from to ≤ length bytes.old }
     ensures end { result ≡ at + run_size (L.dimensions line.now) from to }
     ensures bytes { LaysAt at result bytes.old bytes.new

@@ -4,7 +4,7 @@ ghost use Rattle.std.specs.Prelude.{◌≡◌, ◌-◌, ◌*◌, ◌≤◌, ◌+
 ghost use Rattle.wkb_geom.specs.Dimensions.{size};
 ghost use Rattle.wkb_geom.specs.Numbers.{number_bytes};
 ghost use Rattle.wkb_geom.specs.Encodings.{words_encoding};
-ghost use Rattle.wkb_sink.specs.Runs.{IsRun, Turns, x_y_encoding, run_size, run_encoding, other as the_other};
+ghost use Rattle.wkb_sink.specs.Runs.{AreRunEnds, Turns, x_y_encoding, run_size, run_encoding, other as the_other};
 
 use crate::block::CORNER_SIZE;
 use byteorder::{BigEndian, ByteOrder, LittleEndian};
@@ -84,7 +84,7 @@ fn store_run<L: LineStringTrait>(
     order: Endianness,
     width: usize,
 ) -> usize
-    requires run { IsRun (L.dimensions line.now) (L.coordinates line.now) from to }
+    requires run { AreRunEnds (L.dimensions line.now) (L.coordinates line.now) from to }
     requires width { width ≡ size (L.dimensions line.now) }
     requires room { 8 * width * (to - from) ≤ length bytes.old }
     ensures len { result ≡ 8 * width * (to - from) }
@@ -171,7 +171,7 @@ pub fn store_coordinates<L: LineStringTrait>(
     to: usize,
     order: Endianness,
 ) -> usize
-    requires run { IsRun (L.dimensions line.now) (L.coordinates line.now) from to }
+    requires run { AreRunEnds (L.dimensions line.now) (L.coordinates line.now) from to }
     requires room { run_size (L.dimensions line.now) from to ≤ length bytes.old }
     ensures len { result ≡ run_size (L.dimensions line.now) from to }
     ensures bytes { take result bytes.new

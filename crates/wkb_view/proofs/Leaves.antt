@@ -6,7 +6,7 @@ use Rattle.wkb_view.specs.Prelude.{Endianness, Dimension, Layout, number, number
 use Rattle.wkb_view.specs.Prelude.{head_at, consumed, member_layout}
 use Rattle.wkb_view.specs.Prelude.{member_body, member_at, then_body}
 use Rattle.wkb_view.specs.Members.{item_of, IsEncoding, IsMemberOfKind, layout_said, member_item}
-use Rattle.wkb_view.specs.Pieces.{Passed, IsRing}
+use Rattle.wkb_view.specs.Pieces.{Passed, IsRingPart}
 use Rattle.wkb_view.proofs.Pieces.{drop-of-take}
 
 -- a number within the encoding that was taken
@@ -40,7 +40,7 @@ passed_by least bytes rest end enough le rest-is form = grind (arith, length-dro
 
 pub ring_passed : (order : Endianness) (d : Dimension) (bytes rest : List ℕ) (n end : ℕ) → n ≡ number order 4 bytes
     → end ≡ ring_end d n → end ≤ length bytes
-    → rest ≡ drop end bytes → Passed 4 (IsRing order d) bytes rest
+    → rest ≡ drop end bytes → Passed 4 (IsRingPart order d) bytes rest
 ring_passed order d bytes rest n end n-is end-is le rest-is =
     let same : number order 4 (take end bytes) ≡ number order 4 bytes = number-take order 4 end bytes (omega arith) in
     passed_by 4 bytes rest end (omega arith) le rest-is

@@ -12,7 +12,7 @@ use Rattle.wkb_view.specs.Entries.{entries}
 use Rattle.wkb_view.specs.Members.{parts_behind, pieces_behind, IsMemberOfKind, member_item}
 use Rattle.wkb_view.specs.Outcome.{CountsOutcome, CountsOrStops}
 use Rattle.wkb_view.specs.Passes.{passed_as}
-use Rattle.wkb_view.specs.Pieces.{ArePieces, IsRing}
+use Rattle.wkb_view.specs.Pieces.{ArePieces, IsRingPart}
 
 -- Parts of at least `least` bytes: the kind of the whole, how a part is read, what is seen in its bytes and their form,
 -- and the whole by its parts and its bytes. The whole asks for as many entries as the remaining bytes can hold.
@@ -34,7 +34,7 @@ ring_parts l =
       Read = List ℕ;
       reading = ring_part l;
       seen = λ ring. ring;
-      IsPart = IsRing l.order l.dimension;
+      IsPart = IsRingPart l.order l.dimension;
       whole = polygon_item l;
       counted = omega arith;
       slots = λ n remaining. refl;

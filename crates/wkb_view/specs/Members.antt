@@ -10,7 +10,7 @@ use Rattle.wkb_view.specs.Prelude.{Spellings, no_spellings, Listed, whole_of, Re
 use Rattle.wkb_view.specs.Prelude.{body_start, count_in, parts_start, spelled_in, point_item, line_string_item, ring_in}
 use Rattle.wkb_view.specs.Prelude.{list_item, line_string_of, polygon_of, multi_point_with, member_layout, member_at}
 use Rattle.wkb_view.specs.Prelude.{BytesSpell}
-use Rattle.wkb_view.specs.Pieces.{pieces, ArePieces, IsRing, Passed}
+use Rattle.wkb_view.specs.Pieces.{pieces, ArePieces, IsRingPart, Passed}
 
 -- the point (k = 1) or the line string (k = 2) of an encoding of this layout
 abbrev pub item_of : ℕ → Layout → List ℕ → Item
@@ -65,8 +65,8 @@ abbrev pub pieces_behind : Layout → List ℕ → List ℕ → List (List ℕ)
 pieces_behind l ends encoding = pieces (body_start l.has_srid + 4) ends encoding
 
 -- each is a ring
-abbrev pub AreRings : Layout → List ℕ → List ℕ → Type 0
-AreRings l ends encoding = ArePieces (IsRing l.order l.dimension) (body_start l.has_srid + 4) ends encoding
+abbrev pub AreRingParts : Layout → List ℕ → List ℕ → Type 0
+AreRingParts l ends encoding = ArePieces (IsRingPart l.order l.dimension) (body_start l.has_srid + 4) ends encoding
 
 -- each is a member of this kind
 abbrev pub AreMembersOfKind : ℕ → Layout → List ℕ → List ℕ → Type 0

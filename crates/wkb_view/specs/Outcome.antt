@@ -42,9 +42,9 @@ abbrev pub seen_with_rest : {X Y : Type 0} → (X → Y) → X × Bor (List ℕ)
 seen_with_rest seen x = (seen x.0, x.1.now)
 
 -- the view and the bytes after it are the outcome, or these bytes are rejected
-abbrev pub IsRead : {X Y : Type 0} → (X → Y) → List ℕ → Result (X × Bor (List ℕ)) Cause → Outcome Y → Type 0
-IsRead seen bytes (Ok x) outcome = outcome ≡ Ok (seen_with_rest seen x)
-IsRead seen bytes (Err cause) outcome = outcome ≡ Err (rejection bytes cause)
+abbrev pub IsReadAs : {X Y : Type 0} → (X → Y) → List ℕ → Result (X × Bor (List ℕ)) Cause → Outcome Y → Type 0
+IsReadAs seen bytes (Ok x) outcome = outcome ≡ Ok (seen_with_rest seen x)
+IsReadAs seen bytes (Err cause) outcome = outcome ≡ Err (rejection bytes cause)
 
 -- the view and the bytes after it are those of a reading, whose cost was counted
 abbrev pub IsReadCounted : {X Y : Type 0} → (X → Y) → Result (X × Bor (List ℕ)) Cause → Reading Y → Counts → Counts

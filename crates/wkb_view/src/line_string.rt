@@ -43,7 +43,7 @@ impl<'a> LineString<'a> {
     ghost use Rattle.wkb_view.specs.Views.{line_string_order, line_string_ring_bytes};
     ghost use Rattle.wkb_view.specs.Views.{line_string_coords_bytes, line_string_dimension};
     ghost use Rattle.wkb_view.specs.Headers.{HasHead};
-    ghost use Rattle.wkb_view.specs.Outcome.{IsRead, IsTakenAs, TakesAtLeast};
+    ghost use Rattle.wkb_view.specs.Outcome.{IsReadAs, IsTakenAs, TakesAtLeast};
     ghost use Rattle.wkb_view.specs.Members.{IsEncoding, PassedEncoding};
     ghost use Rattle.wkb_view.specs.Lends.{Lends};
 
@@ -117,7 +117,7 @@ impl<'a> LineString<'a> {
     #[inline]
     pub fn read(layout: Layout, bytes: &'a [u8]) -> Result<(LineString<'a>, &'a [u8]), Cause>
         requires head { HasHead (λ d. kinds.LineString d) layout bytes.now }
-        ensures answer { IsRead line_string_seen bytes.now result
+        ensures answer { IsReadAs line_string_seen bytes.now result
             (line_string_at layout bytes.now).1 }
         ensures item { IfOk result
             (IsTakenAs line_string_seen (line_string_item layout) bytes.now) }

@@ -30,7 +30,7 @@ impl<'a> LinearRing<'a> {
     ghost use Rattle.wkb_view.specs.Coords.{ring_encoding, ring_order, ring_dimension, ring_seen};
     ghost use Rattle.wkb_view.specs.Coords.{ring_offset, RingBytesSpell};
     ghost use Rattle.wkb_view.specs.Prelude.{AreBytes, ring_end, ring_in};
-    ghost use Rattle.wkb_view.specs.Pieces.{IsRing};
+    ghost use Rattle.wkb_view.specs.Pieces.{IsRingPart};
 
     /// The ring of these bytes.
     #[inline]
@@ -39,7 +39,7 @@ impl<'a> LinearRing<'a> {
         dimension: Dimension,
         bytes: &'a [u8],
     ) -> LinearRing<'a>
-        requires { IsRing order dimension bytes.now }
+        requires { IsRingPart order dimension bytes.now }
         ensures seen { ring_seen result ≡ ring_in order dimension bytes.now }
         ensures order { ring_order result ≡ order }
         ensures dimension { ring_dimension result ≡ dimension }

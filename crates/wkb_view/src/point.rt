@@ -40,7 +40,7 @@ impl<'a> Point<'a> {
     ghost use Rattle.wkb_view.specs.Views.{point_dimension};
     ghost use Rattle.wkb_view.specs.Headers.{HasHead};
     ghost use Rattle.wkb_view.specs.Members.{IsEncoding, PassedEncoding};
-    ghost use Rattle.wkb_view.specs.Outcome.{IsRead, IsTakenAs, TakesAtLeast};
+    ghost use Rattle.wkb_view.specs.Outcome.{IsReadAs, IsTakenAs, TakesAtLeast};
     ghost use Rattle.wkb_view.specs.Lends.{Lends};
 
     /// The number of its bytes.
@@ -117,7 +117,7 @@ impl<'a> Point<'a> {
     #[inline]
     pub fn read(layout: Layout, bytes: &'a [u8]) -> Result<(Point<'a>, &'a [u8]), Cause>
         requires head { HasHead (λ d. kinds.Point d) layout bytes.now }
-        ensures answer { IsRead point_seen bytes.now result (point_at layout bytes.now) }
+        ensures answer { IsReadAs point_seen bytes.now result (point_at layout bytes.now) }
         ensures item { IfOk result (IsTakenAs point_seen (point_item layout) bytes.now) }
         ensures passed { IfOk result (λ x. PassedEncoding POINT layout bytes.now x.1.now) }
         ensures shorter { IfOk result (TakesAtLeast MIN_MEMBER_SIZE bytes.now) }

@@ -34,7 +34,7 @@ impl<'a> Model for Polygon<'a> {
     ghost use Rattle.std.specs.Prelude.{◌+◌, ◌≤◌, length, List};
     ghost use Rattle.wkb_geom.specs.Stored.{listed_code, rings_code};
     ghost use Rattle.wkb_view.specs.Prelude.{body_start, Listed, Coordinate, BytesSpell};
-    ghost use Rattle.wkb_view.specs.Members.{AreRings, polygon_laid, polygon_seen};
+    ghost use Rattle.wkb_view.specs.Members.{AreRingParts, polygon_laid, polygon_seen};
 
     ghost Value = { Listed (List (List Coordinate)) };
 
@@ -43,7 +43,7 @@ impl<'a> Model for Polygon<'a> {
     ghost view = { λ a. polygon_laid a.layout a.ends.items a.buf.now };
 
     ghost invariant = { λ a. (body_start a.layout.has_srid + 4 ≤ length a.buf.now)
-        × AreRings a.layout a.ends.items a.buf.now
+        × AreRingParts a.layout a.ends.items a.buf.now
         × BytesSpell (polygon_seen (polygon_laid a.layout a.ends.items a.buf.now)) };
 }
 

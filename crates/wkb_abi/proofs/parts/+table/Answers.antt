@@ -1,7 +1,7 @@
 use Rattle.std.proofs.Common.{length, length-set, set, refl, sym, ◌∙◌, arith}
 use Rattle.wkb_geom.specs.declared.common.Dimension.TheVariants.{Xy}
 use Rattle.wkb_geom.specs.declared.common.Endianness.TheVariants.{BigEndian}
-use Rattle.wkb_check.proofs.Placing.{geometry_inside, onward, leaf_inside, rings_inside, members_inside, rings_alone}
+use Rattle.wkb_check.proofs.Placing.{own_inside, onward, leaf_inside, rings_inside, members_inside, rings_alone}
 use Rattle.wkb_check.proofs.Placing.{none_of, inside_many, inner}
 use Rattle.wkb_check.specs.Subjects.{subjects}
 use Rattle.wkb_abi.proofs.Entries.{LaysInside, item_laid, left_first, left_next, here}
@@ -27,7 +27,7 @@ end-requires t c =
     let h = here (c.loop.invariant _ c.requires.fit.all) (omega (arith, c.loop-test.true)) c.requires.fit.fit in
     omega (
       arith,
-      (geometry_inside c.args.buf.now c.loop.at.byte _ h.geometry c.of_geometry-piece.result
+      (own_inside c.args.buf.now c.loop.at.byte _ h.geometry c.of_geometry-piece.result
           (c.of_geometry-piece.ensures h.geometry) refl).inside,
     )
 
@@ -53,7 +53,7 @@ lay_geometries-requires t c =
     let l = c.loop.invariant _ c.requires.fit.all in
     let h = here l (omega (arith, c.loop-test.true)) c.requires.fit.fit in
     let is = c.of_geometry-piece.ensures h.geometry in
-    let inside = geometry_inside c.args.buf.now c.loop.at.byte c.end.result h.geometry c.of_geometry-piece.result is
+    let inside = own_inside c.args.buf.now c.loop.at.byte c.end.result h.geometry c.of_geometry-piece.result is
     c.end.ensures in
     let m = members_inside c.args.buf.now c.loop.at.byte h.geometry c.of_geometry-piece.result is
     c.end.result c.end.ensures (sym c.has_coordinates.ensures ∙ c.if-has_coordinates.false)

@@ -3,7 +3,7 @@ use Rattle.wkb_geom.specs.Dimensions.{width}
 use Rattle.wkb_geom.specs.Reading.{coordinates}
 use Rattle.wkb_bounds.specs.Ordinates.{words_in, words_on}
 use Rattle.wkb_bounds.specs.Ranges.{no_numbers, widened, range_of}
-use Rattle.wkb_check.proofs.Placing.{geometry_inside}
+use Rattle.wkb_check.proofs.Placing.{own_inside}
 use Rattle.wkb_bounds.proofs.Words.{one_words, on_nothing, leaf_end}
 use Rattle.wkb_bounds.proofs.scan.piece_bounds_into.Goals as goal
 use Rattle.wkb_bounds.proofs.scan.piece_bounds_into.Goals.{After-rest_from-bytes}
@@ -11,7 +11,7 @@ use Rattle.wkb_bounds.proofs.scan.piece_bounds_into.Goals.{After-rest_from-bytes
 pub rest_from-bytes-requires : goal.rest_from-bytes-requires
 rest_from-bytes-requires c =
     let p = c.args.only.now in
-    let i = geometry_inside c.args.buf.now 0 _ c.requires.here p (c.requires.only c.requires.here) refl in
+    let i = own_inside c.args.buf.now 0 _ c.requires.here p (c.requires.only c.requires.here) refl in
     omega (arith, leaf_end p c.requires.low)
 
 -- the coordinates are there
@@ -20,7 +20,7 @@ whole : (c : After-rest_from-bytes)
 whole c =
     let p = c.args.only.now in
     let buf = c.args.buf.now in
-    let i = geometry_inside buf 0 _ c.requires.here p (c.requires.only c.requires.here) refl in
+    let i = own_inside buf 0 _ c.requires.here p (c.requires.only c.requires.here) refl in
     omega (arith, leaf_end p c.requires.low, ap length c.rest_from-bytes.ensures, length-drop p.offset buf)
 
 pub of_coordinate-requires : goal.of_coordinate-requires

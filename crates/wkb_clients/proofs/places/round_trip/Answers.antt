@@ -3,13 +3,13 @@ use Rattle.wkb.specs.Geometries.{normal_point}
 use Rattle.wkb.specs.Handed.{not_point}
 use Rattle.wkb.specs.ReadBack.{value_is_read, empty_point_read, point_read}
 use Rattle.wkb_clients.specs.Common.{Xy, kind, point, words_seen, point_seen}
-use Rattle.wkb_cases.specs.Places.{place_words}
+use Rattle.wkb_cases.specs.Places.{words_of_place}
 use Rattle.wkb_clients.proofs.places.round_trip.Goals as goal
 use Rattle.wkb_clients.proofs.places.round_trip.Goals.{After-as_type}
 
 -- what was read is the point that was written
 value : (c : After-as_type)
-    → point Xy (normal_point (Some (place_words c.args.place.now))) ≡ c.in-Ok-read_wkb.geometry.value
+    → point Xy (normal_point (Some (words_of_place c.args.place.now))) ≡ c.in-Ok-read_wkb.geometry.value
 value c =
     value_is_read c.new-sink.ensures.bytes c.write_point.ensures c.in-Ok.is (omega arith)
     (c.as_slice.ensures.value ∙ c.into_vec-bytes.ensures) c.in-Ok-read_wkb.ensures.one_front
@@ -22,7 +22,7 @@ returns-in_default c =
 pub returns-in-Some : goal.returns-in-Some
 returns-in-Some c =
     let words =
-    point_read Xy (place_words c.args.place.now) (words_seen c.in-Some.coord) (point_seen c.in-Point.point.now).value
+    point_read Xy (words_of_place c.args.place.now) (words_seen c.in-Some.coord) (point_seen c.in-Point.point.now).value
     (value (goal.at.returns-in-Some c).After-as_type ∙ ap (λ v. v.value) (sym c.in-Point.ensures.view))
     c.in-Some.ensures.value in
     let x : c.x_y.result.0 ≡ c.args.place.now.longitude = c.x_y.ensures.x ∙ ap (λ l. slice_index l 0) words in
@@ -31,5 +31,5 @@ returns-in-Some c =
 
 pub returns : goal.returns
 returns c =
-    empty_point_read Xy (place_words c.args.place.now) (point_seen c.in-Point.point.now).value
+    empty_point_read Xy (words_of_place c.args.place.now) (point_seen c.in-Point.point.now).value
     (value (goal.at.returns c).After-as_type ∙ ap (λ v. v.value) (sym c.in-Point.ensures.view)) c.in-None.ensures.value
