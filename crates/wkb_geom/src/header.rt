@@ -171,7 +171,7 @@ impl Layout {
     /// The layout of the member of this type at the start of the bytes, whose order and flag are its own.
     ///
     /// A member that is a point has no SRID. `IncorrectType` if another is there.
-    #[inline]
+    #[inline(always)]
     pub fn of_member(wanted: WkbType, bytes: &[u8]) -> Result<Layout, Cause>
         ensures { member_layout (type_kind wanted) (type_dimension wanted) bytes.now ≡ result }
     {

@@ -298,6 +298,7 @@ impl<'a> Wkb<'a> {
     }
 
     /// The SRID of this geometry's own code, where there is one.
+    #[inline]
     pub fn srid(&self) -> Option<u32>
         ensures { result ≡ srid_of self.now.spelled }
     {

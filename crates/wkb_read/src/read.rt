@@ -70,6 +70,7 @@ fn read_and_count<'a>(alloc: Global, buf: &'a [u8], counts: &mut Counts) -> WkbR
 }
 
 /// Reads the geometry at the start of the bytes. Only a collection that has members needs the loop over a stack.
+#[inline(always)]
 fn read_geometry<'a>(
     alloc: Global,
     buf: &'a [u8],

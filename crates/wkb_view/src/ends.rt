@@ -51,6 +51,7 @@ pub(crate) fn read_ends<'a, P: Parts>(
 }
 
 /// Passes `count` parts, and keeps the offsets at which they end.
+#[inline(always)]
 fn pass_parts<'a, P: Parts>(
     layout: Layout,
     bytes: &'a [u8],

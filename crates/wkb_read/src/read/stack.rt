@@ -37,6 +37,7 @@ pub(crate) enum Begun<'a> {
 
 /// Reads the count of the collection with this layout, inside `depth` open collections.
 #[tactic(auto, unfolding(wkb_geom::specs::Reading::collection_at))]
+#[inline(always)]
 pub(crate) fn begin_collection<'a>(
     alloc: Global,
     depth: usize,
@@ -77,6 +78,7 @@ pub(crate) fn begin_collection<'a>(
 }
 
 /// Pushes a collection whose first member is to be read.
+#[inline(always)]
 pub(crate) fn push_collection<'a>(
     stack: &mut Vec<Open<'a>>,
     collection: Open<'a>,
