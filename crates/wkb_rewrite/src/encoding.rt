@@ -12,11 +12,11 @@ ghost use Rattle.wkb_check.specs.Public.{DescribesFront};
 ghost use Rattle.wkb_rewrite.specs.Targets.{IsFrontSize, FrontFits, LaysFront};
 
 use crate::copied::Copied;
-use crate::lay::{lay_piece, lay_piece_of};
+use crate::lay::lay_piece;
 use wkb_check::{Piece, Pieces, Summary, size_of_srid};
-use wkb_geom::code::MULTI_POINT;
+use wkb_geom::code::{MULTI_POINT, WkbType};
 use wkb_geom::header::SRID_SIZE;
-use wkb_geom::{Endianness, Form};
+use wkb_geom::{Endianness, Form, by_order};
 use wkb_sink::WriteOptions;
 
 /// The SRID that is written under a form.
@@ -61,8 +61,23 @@ pub fn encoded_size(buf: &[u8], found: &Summary, form: Form) -> usize
 
 /// Lays the encoding of a geometry that is known to be at the start of these bytes at the start of a slice, which has
 /// room for it, and returns its size. What comes after it in the slice stays as it was.
-#[tactic(auto, using(wkb_check::proofs::Following::fewer_left))]
 pub fn lay_pieces(buf: &[u8], options: WriteOptions, out: &mut [u8]) -> usize
+    requires here { HasGeometry buf.now }
+    requires room { FrontFits buf.now options out.old }
+    ensures size { IsFrontSize buf.now options.endianness options.form result }
+    ensures laid { LaysFront buf.now options out.old out.new }
+{
+    let WriteOptions { endianness, form } = options;
+    by_order!(
+        endianness,
+        lay_each_piece(buf, WriteOptions { endianness, form }, out)
+    )
+}
+
+/// As `lay_pieces`, in an order that is a constant where this is inlined.
+#[tactic(auto, using(wkb_check::proofs::Following::fewer_left))]
+#[inline(always)]
+fn lay_each_piece(buf: &[u8], options: WriteOptions, out: &mut [u8]) -> usize
     requires here { HasGeometry buf.now }
     requires room { FrontFits buf.now options out.old }
     ensures size { IsFrontSize buf.now options.endianness options.form result }
@@ -156,5 +171,9 @@ pub fn lay_one_piece(buf: &[u8], found: &Summary, options: WriteOptions, out: &m
     ensures laid { LaysFront buf.now options out.old out.new }
 {
     let first = Piece::outermost(buf, found);
-    lay_piece_of(found.wkb_type, buf, &first, options, out, 0);
+    // In the first arm the kind is a constant, for which the call is compiled.
+    match found.wkb_type {
+        WkbType::Point(_) => lay_piece(buf, &first, options, out, 0),
+        _ => lay_piece(buf, &first, options, out, 0),
+    };
 }

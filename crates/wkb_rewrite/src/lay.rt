@@ -180,44 +180,8 @@ pub fn lay_piece(
     let order = options.endianness;
     let count_at = lay_piece_header(piece, options, out, start);
     let words_at = lay_count_part(piece, order, out, count_at);
-    lay_words(buf, piece, order, out, words_at)
-}
-
-/// As `lay_piece`, by `lay_words_by_dimension`.
-#[inline(always)]
-fn lay_piece_by_dimension(
-    buf: &[u8],
-    piece: &Piece,
-    options: WriteOptions,
-    out: &mut [u8],
-    start: usize,
-) -> usize
-    requires inside { own_end piece.now ≤ length buf.now }
-    requires room { HasRoomAt out.old start (piece_encoding options buf.now piece.now) }
-    ensures { IsLaidAt out.old out.new start result (piece_encoding options buf.now piece.now) }
-{
-    let order = options.endianness;
-    let count_at = lay_piece_header(piece, options, out, start);
-    let words_at = lay_count_part(piece, order, out, count_at);
-    lay_words_by_dimension(buf, piece, order, out, words_at)
-}
-
-/// As `lay_piece`, for the first piece of a geometry of this type. Points have code of their own.
-#[inline(always)]
-pub fn lay_piece_of(
-    wkb_type: WkbType,
-    buf: &[u8],
-    piece: &Piece,
-    options: WriteOptions,
-    out: &mut [u8],
-    start: usize,
-) -> usize
-    requires inside { own_end piece.now ≤ length buf.now }
-    requires room { HasRoomAt out.old start (piece_encoding options buf.now piece.now) }
-    ensures { IsLaidAt out.old out.new start result (piece_encoding options buf.now piece.now) }
-{
-    match wkb_type {
-        WkbType::Point(_) => lay_piece_by_dimension(buf, piece, options, out, start),
-        _ => lay_piece(buf, piece, options, out, start),
+    if piece.kind != POINT {
+        return lay_words(buf, piece, order, out, words_at);
     }
+    lay_words_by_dimension(buf, piece, order, out, words_at)
 }

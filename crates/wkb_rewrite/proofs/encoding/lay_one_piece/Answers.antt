@@ -10,13 +10,24 @@ low c =
     let g = here c.requires.here in
     lt-ltb _ 3 (omega (arith, kind_of c.requires.here g _ (c.outermost-first.ensures g)))
 
-pub lay_piece_of-requires : goal.lay_piece_of-requires
-lay_piece_of-requires c =
-    alone_fits c.requires.here c.outermost-first.ensures
-    (low (goal.at.lay_piece_of-requires c).After-outermost-first) c.args.options _ c.requires.room
+pub lay_piece-requires : goal.lay_piece-requires
+lay_piece-requires c =
+    alone_fits c.requires.here c.outermost-first.ensures (low (goal.at.lay_piece-requires c).After-outermost-first)
+    c.args.options _ c.requires.room
 
-pub returns : goal.returns
-returns c = record {
-  laid = (alone_laid c.requires.here c.outermost-first.ensures (low (goal.at.returns c).After-outermost-first)
-      c.args.options c.lay_piece_of.ensures).laid;
+pub lay_piece-requires-in_default : goal.lay_piece-requires-in_default
+lay_piece-requires-in_default c =
+    alone_fits c.requires.here c.outermost-first.ensures
+    (low (goal.at.lay_piece-requires-in_default c).After-outermost-first) c.args.options _ c.requires.room
+
+pub returns-in-Point : goal.returns-in-Point
+returns-in-Point c = record {
+  laid = (alone_laid c.requires.here c.outermost-first.ensures (low (goal.at.returns-in-Point c).After-outermost-first)
+      c.args.options c.lay_piece.ensures).laid;
+}
+
+pub returns-in_default : goal.returns-in_default
+returns-in_default c = record {
+  laid = (alone_laid c.requires.here c.outermost-first.ensures (low (goal.at.returns-in_default c).After-outermost-first)
+      c.args.options c.lay_piece-in_default.ensures).laid;
 }

@@ -2,7 +2,7 @@ use Rattle.wkb_laws.specs.Prelude.{geometry_of, encoding}
 use Rattle.wkb_check.specs.Known.{HasGeometry}
 use Rattle.wkb_check.specs.Pieces.{bytes_left}
 use Rattle.wkb_rewrite.proofs.Encoded.{Left}
-use Rattle.wkb_rewrite.proofs.encoding.lay_pieces.Given as goal
+use Rattle.wkb_rewrite.proofs.encoding.lay_each_piece.Given as goal
 
 abbrev pub decreases-loop-piece : goal.decreases-loop-piece
 decreases-loop-piece l = bytes_left l.pieces

@@ -3,7 +3,7 @@ use lib.Seq.{sets}
 use Rattle.wkb_rewrite.proofs.Encodings.{shares_encoded}
 use Rattle.wkb_rewrite.proofs.Walks.{all_to_come, next_taken, none_taken}
 use Rattle.wkb_rewrite.proofs.Encoded.{left_room, left_next, left_none}
-use Rattle.wkb_rewrite.proofs.encoding.lay_pieces.Goals as goal
+use Rattle.wkb_rewrite.proofs.encoding.lay_each_piece.Goals as goal
 
 pub loop-piece-init : goal.loop-piece-init
 loop-piece-init c = λ g.
