@@ -147,13 +147,23 @@ fn read_members<'a>(
     ensures shorter { IfOk result (λ x. IsAfterCount layout bytes.now x.1.now) }
     ensures no_memory { RefusesWithoutSlots (members_behind POLYGON layout count bytes.now) result }
 {
+    // Counted in a local: what is behind a reference is stored before each allocation.
+    let mut own = *counts;
     let mut rest = layout.after_count(bytes);
     for _ in 0..count {
-        counts.turns += 1;
-        let (polygon, after) = read_member(alloc, layout.dimension, rest, counts)?;
-        members.push(polygon);
-        rest = after;
+        own.turns += 1;
+        match read_member(alloc, layout.dimension, rest, &mut own) {
+            Ok((polygon, after)) => {
+                members.push(polygon);
+                rest = after;
+            }
+            Err(error) => {
+                *counts = own;
+                return Err(error);
+            }
+        }
     }
+    *counts = own;
     Ok((members, rest))
 }
 

@@ -72,7 +72,7 @@ pub fn counted_list<T>(
     ensures no_memory { entries_asked least layout bytes.now ≡ 0 → IfErr result IsCause }
 {
     let count = layout.count(bytes)?;
-    let remaining = bytes.len() - (layout.header_length() + COUNT_SIZE);
+    let remaining = layout.after_count(bytes).len();
     // A count may claim anything, and no later push may fail (docs/DECISIONS.md, D4).
     let capacity = bounded_capacity(count, remaining, least);
     counts.slots += capacity as u128;

@@ -1,14 +1,13 @@
 use Rattle.std.proofs.Common.{length, length-append, [], ◌∷◌, sym, ap, subst, arith}
 use Rattle.std.proofs.lemmas.List.{map-append}
-use Rattle.std.proofs.lemmas.Result.{err_from_is_err_and}
 use Rattle.wkb_view.specs.Entries.{entries}
 use Rattle.wkb_view.specs.Members.{AreOfDimension}
 use Rattle.wkb_view.proofs.Lists.{part_costs, next_part, loop_stops, parts_end, parts_length}
 use Rattle.wkb_view.proofs.Members.{all_more}
 use Rattle.wkb_view.proofs.multi_polygon.read_members.Goals as goal
 
-pub overflow_add-counts : goal.overflow_add-counts
-overflow_add-counts c = omega (arith, (part_costs c.loop-test.true c.loop.invariant.left).0)
+pub overflow_add-own : goal.overflow_add-own
+overflow_add-own c = omega (arith, (part_costs c.loop-test.true c.loop.invariant.left).0)
 
 pub read_member-requires : goal.read_member-requires
 read_member-requires c =
@@ -20,23 +19,20 @@ read_member-requires c =
       };
     }
 
-pub returns-in_err-polygon-clause-polygons : goal.returns-in_err-polygon-clause-polygons
-returns-in_err-polygon-clause-polygons c =
-    let p = err_from_is_err_and c.from_residual.result c.from_residual.ensures.1 in
-    rw (p.1, p.2)
-    (loop_stops c.loop-test.true c.loop.invariant.left c.in_err-polygon.field-0.0 _ c.in_err-polygon.ensures.answer)
+pub returns-in-Err-clause-polygons : goal.returns-in-Err-clause-polygons
+returns-in-Err-clause-polygons c =
+    loop_stops c.loop-test.true c.loop.invariant.left c.in-Err.error _ c.in-Err.ensures.answer
 
-pub returns-in_err-polygon-clause-no_memory : goal.returns-in_err-polygon-clause-no_memory
-returns-in_err-polygon-clause-no_memory c =
-    let p = err_from_is_err_and c.from_residual.result c.from_residual.ensures.1 in
+pub returns-in-Err-clause-no_memory : goal.returns-in-Err-clause-no_memory
+returns-in-Err-clause-no_memory c =
     let costs = part_costs c.loop-test.true c.loop.invariant.left in
-    rw (p.1, p.2) (λ none. c.in_err-polygon.ensures.no_memory (omega arith))
+    λ none. c.in-Err.ensures.no_memory (omega arith)
 
 pub loop-preserved : goal.loop-preserved
 loop-preserved c =
-    let answer = c.in_ok-polygon.ensures.answer in
+    let answer = c.in-Ok.ensures.answer in
     let spent = answer.1 in
-    let more = length-append (entries c.loop.members) (c.in_ok-polygon.polygon ∷ []) in
+    let more = length-append (entries c.loop.members) (c.in-Ok.polygon ∷ []) in
     record {
       left =
           rw (c.push.ensures.entries, map-append)
@@ -48,11 +44,11 @@ loop-preserved c =
             ap length c.push.ensures.entries,
             more,
             c.loop.invariant.taken_in_all,
-            c.in_ok-polygon.ensures.shorter,
+            c.in-Ok.ensures.shorter,
           );
       grows = omega arith;
       same = subst (AreOfDimension c.args.layout.dimension) (sym c.push.ensures.entries)
-          (all_more _ _ _ c.loop.invariant.same c.in_ok-polygon.ensures.dimension);
+          (all_more _ _ _ c.loop.invariant.same c.in-Ok.ensures.dimension);
       as_many = omega (arith, ap length c.push.ensures.entries, more);
     }
 
