@@ -11,7 +11,7 @@ use crate::geometry::{View, Wkb};
 use crate::read::stack::{Begun, begin_collection, read_collection};
 use std::alloc::Global;
 use wkb_geom::code::WkbType;
-use wkb_geom::{Head, MAX_NESTING, ReadError, WkbResult};
+use wkb_geom::{Head, Layout, MAX_NESTING, ReadError, WkbResult};
 use wkb_view::counts::Counts;
 use wkb_view::line_string::LineString;
 use wkb_view::multi_line_string::MultiLineString;
@@ -100,8 +100,16 @@ pub(crate) fn read_front<'a>(
     ensures begins { BeginsAs geometry_inside depth bytes.now result counts.old counts.new }
     ensures no_memory { ReadsWithoutMemory bytes.now → NeedsNone result }
 {
-    let header = Head::read(bytes)?;
-    let layout = header.layout();
+    // Taken apart here, and not by `?` and `Head::layout`: else rustc packs both into numbers (docs/COST.md).
+    let header = match Head::read(bytes) {
+        Ok(header) => header,
+        Err(cause) => return Err(ReadError::Cause(cause)),
+    };
+    let layout = Layout {
+        order: header.order,
+        dimension: header.wkb_type.dimension(),
+        has_srid: header.has_srid,
+    };
     let (kind, rest) = match header.wkb_type {
         WkbType::Point(_) => {
             let (point, rest) = Point::read(layout, bytes)?;
