@@ -156,7 +156,7 @@ impl AsWritten for Point<'_> {
 
     ghost seen = { point_seen };
 
-    #[inline]
+    #[inline(always)]
     fn is_as_written(&self, order: Endianness, has_flags: bool) -> bool {
         let wkb_type = WkbType::Point(self.layout.dimension);
         self.layout.begins_as(wkb_type, self.buf, order, has_flags) && !self.words().is_all_nan()
