@@ -63,7 +63,7 @@ impl<T> TryVec<T> for Vec<T> {
         Ok(items)
     }
 
-    #[inline]
+    #[inline(always)]
     fn try_push(&mut self, item: T) -> Result<(), AllocError> {
         self.try_reserve(1).map_err(|_| AllocError)?;
         self.push_reserved(item);
@@ -72,9 +72,8 @@ impl<T> TryVec<T> for Vec<T> {
 
     #[inline(always)]
     fn push_reserved(&mut self, item: T) {
-        if self.len() < self.capacity() {
-            self.push(item);
-        }
+        assert!(self.len() < self.capacity());
+        self.push(item);
     }
 
     #[inline]
