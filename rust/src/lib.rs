@@ -19,7 +19,7 @@ mod rt;
 mod views;
 pub mod writer;
 
-mod wkb;
+mod wkb; // A clone has these modules once tools/erase has made them.
 mod wkb_abi;
 mod wkb_bounds;
 mod wkb_c;
