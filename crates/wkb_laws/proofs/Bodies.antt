@@ -241,10 +241,6 @@ pub list_body : (order : Endianness) (own : List ℕ) (t : Value) (field : List 
 list_body order own (collection d ts) field low = refl
 list_body order own _ field low = first_of (rw count-each, grind arith)
 
-list_nest : (t : Value) (room : ℕ) → 3 < kind t → (kind t ≡ 7 → 0 < room)
-    → nest_each (members t) ≤ room_inside (kind t) room → nest t ≤ room
-list_nest t room low some h = grind arith
-
 pub list_turns : (t : Value) → 3 < kind t → member_count t ≡ member_count_each (members t)
 list_turns t low = grind (arith, member_count-members)
 
@@ -264,16 +260,6 @@ list_slots (multi_polygon d l) remaining low fits =
     omega (arith, listed_each (each (polygon d) l))
 list_slots (collection d ts) remaining low fits = omega (arith, listed_each ts)
 list_slots _ remaining low fits = absurd (omega arith)
-
--- what a wanted member holds is all that it is
-point_of-is : (d : Dimension) (t : Value) → kind t ≡ 1 → dimension t ≡ d → point d (point_of t) ≡ t
-point_of-is d t k same = grind arith
-
-line_string_of-is : (d : Dimension) (t : Value) → kind t ≡ 2 → dimension t ≡ d → line_string d (line_string_of t) ≡ t
-line_string_of-is d t k same = grind arith
-
-polygon_of-is : (d : Dimension) (t : Value) → kind t ≡ 3 → dimension t ≡ d → polygon d (polygon_of t) ≡ t
-polygon_of-is d t k same = grind arith
 
 -- members that a multi geometry wants are a list of parts of its kind
 parts_made : {A : Type 0} (k : ℕ) (d : Dimension) (f : A → Value) (g : Value → A)
@@ -307,7 +293,7 @@ module _ (room : ℕ) (w : Wanted) (input : List ℕ) where
         m.rest,
         item_is room w input (consumed input m.rest) m.rest l [] m.spellings t field b.front (cost_of t) o
             allowed.wanted parts.whole parts.long parts.body body b.first
-            (list_nest t room low allowed.shallow m.shallow) refl refl,
+            (grind arith) refl refl,
       )
 
   module _ (l : Layout) where
@@ -337,11 +323,11 @@ module _ (room : ℕ) (w : Wanted) (input : List ℕ) where
         let of = λ (k : ℕ). These room (part k d) in
         by_list_kind (λ k. Opened input k l → IsAllowed room w k d l.has_srid
         → These (room_inside k room) (member_part k d) ts → HasPart room w input)
-        (λ o a m. let p = parts_made 1 d (point d) _ (point_of-is d) _ ts _ m.begins.first (of 1) m in
+        (λ o a m. let p = parts_made 1 d (point d) point_of (λ t e f. grind arith) _ ts _ m.begins.first (of 1) m in
         list_is (multi_point d p.0) l.order l.has_srid (lit< tt) o a enough p.1)
-        (λ o a m. let p = parts_made 2 d (line_string d) _ (line_string_of-is d) _ ts _ m.begins.first (of 2) m in
+        (λ o a m. let p = parts_made 2 d (line_string d) line_string_of (λ t e f. grind arith) _ ts _ m.begins.first (of 2) m in
         list_is (multi_line_string d p.0) l.order l.has_srid (lit< tt) o a enough p.1)
-        (λ o a m. let p = parts_made 3 d (polygon d) _ (polygon_of-is d) _ ts _ m.begins.first (of 3) m in
+        (λ o a m. let p = parts_made 3 d (polygon d) polygon_of (λ t e f. grind arith) _ ts _ m.begins.first (of 3) m in
         list_is (multi_polygon d p.0) l.order l.has_srid (lit< tt) o a enough p.1)
         (λ o a m. list_is (collection d ts) l.order l.has_srid (lit< tt) o a enough m)
 

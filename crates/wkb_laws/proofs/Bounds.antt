@@ -91,21 +91,10 @@ front_long : {room : ℕ} {input : List ℕ} {s : Spelling} {t : Value} {rest : 
     → 4 * member_count t + 5 + length rest ≤ length input
 front_long {s = s} {t = t} {rest = rest} f = grind (arith, spelled_long, length-append)
 
--- a list of members asks for a ninth of the bytes after its count
-slots_asked-members : (k n remaining : ℕ) → 3 < k → k ≤ 7 → 9 * slots_asked k n remaining ≤ remaining
-slots_asked-members k n remaining low high = grind (arith, nat_tests)
-
 -- nine times the entries for each byte: one for each collection that may be open, and five for the rest
 abbrev share : Wanted → ℕ → ℕ
 share any room = room + 5
 share (part k d) room = 3
-
-share-least : (w : Wanted) (room : ℕ) → 3 ≤ share w room
-share-least w room = grind arith
-
-share_inside : (room k : ℕ) (d : Dimension) → 3 < k → k ≤ 7 → (k ≡ 7 → 0 < room)
-    → share (member_part k d) (room_inside k room) + 1 ≤ room + 5
-share_inside room k d low high some = grind (arith, nat_tests)
 
 -- the share of the members of a list, and its own entries, are within the list's share
 list_share : (inner outer asked slots rest len : ℕ) → inner + 1 ≤ outer → 9 * asked ≤ rest → rest ≤ len
@@ -132,7 +121,7 @@ mutual
       let inside = rings_begun r in
       let long = length-counts c in
       let all =
-      own_share (share w room) (length rest) 0 (length input) (slots_asked 3 n (length rest)) 0 (share-least w room)
+      own_share (share w room) (length rest) 0 (length input) (slots_asked 3 n (length rest)) 0 (grind arith)
       (omega arith) (omega arith) (omega arith) in
       (omega arith, omega arith)
   refused_within {w = part l e} (bad_member c low enough r) good =
@@ -144,8 +133,7 @@ mutual
       let inside = each_refused_within r (wanted_inside any room k d srid good c.allowed low high) in (
         omega arith,
         list_share (share (member_part k d) (room_inside k room)) (room + 5) (slots_asked k n (length rest)) slots
-            (length rest) (length input) (share_inside room k d low high c.allowed.shallow)
-            (slots_asked-members k n (length rest) low high) (omega arith) inside.1,
+            (length rest) (length input) (grind (arith, nat_tests)) (grind (arith, nat_tests)) (omega arith) inside.1,
       )
   refused_within _ good = (omega arith, omega arith)
 
@@ -159,7 +147,7 @@ mutual
       let most = listed_count-most t in (
         omega arith,
         own_share (share w room) (4 * member_count t + 5) (length rest) (length input) (listed_count t) slots
-            (share-least w room) (omega arith) inside.1 (omega arith),
+            (grind arith) (omega arith) inside.1 (omega arith),
       )
 
 pub refusal_is_bounded_lem : RefusalIsBounded

@@ -4,7 +4,7 @@ use Rattle.std.proofs.Common.{nat_lt, refl, sym, ap, ◌∙◌, arith, lt-ltb, l
 use Rattle.std.proofs.Common.{Option, true, false, is_some, ◌==◌, if◌then◌else◌, subst, append_assoc, append-nil, rules}
 use Rattle.std.proofs.Common.{length-append, drop-drop, lit<, lit≤}
 use Rattle.std.proofs.lemmas.Bool.{false_from_ne_true}
-use Rattle.wkb_laws.specs.Prelude.{count_in, Endianness, Dimension, Head, Layout, WkbType}
+use Rattle.wkb_laws.specs.Prelude.{count_in, Endianness, Dimension, Head, Layout}
 use Rattle.wkb_laws.specs.Prelude.{Cause, end_of_input, general, incorrect_type, InvalidByteOrder, IsNumber, order_byte}
 use Rattle.wkb_laws.specs.Prelude.{Code, Begins, Wanted, any, part, IsPart, Opens, Item, type_kind, type_dimension}
 use Rattle.wkb_laws.specs.Prelude.{type_of, layout_of, laid, head_at, head_by_order, head_by_code, meaning, meaning_of}
@@ -37,9 +37,6 @@ unfoldable use Rattle.wkb_geom.specs.Reading.{multi_line_string_at, multi_point_
 use Rattle.wkb_geom.specs.Reading.{Outcome, Reading, rejection, then_body, with_count, line_string_body, ring_part}
 use Rattle.wkb_geom.specs.Reading.{member_body, member_at, body_at, collection_within}
 
-pub type_of-type : (t : WkbType) → type_of (type_kind t) (type_dimension t) ≡ t
-type_of-type t = grind arith
-
 -- an opening, and each fault in front of a body, as they are read
 pub meaning_found : (c k : ℕ) (d : Dimension) (srid : Bool) → Code c k d srid
     → meaning_of c ≡ Some (meaning (type_of k d) srid)
@@ -47,7 +44,7 @@ meaning_found c k d srid code =
     meaning_holds (λ m. m ≡ Some (meaning (type_of k d) srid)) c
     (λ m other. let one = one_meaning other code in
     let type : m.wkb_type ≡ type_of k d =
-    sym (type_of-type m.wkb_type) ∙ (λ i. type_of (one.kind i) (one.dimension i)) in
+    sym (grind arith) ∙ (λ i. type_of (one.kind i) (one.dimension i)) in
     λ i. Some (meaning (type i) (one.srid i)))
     (λ none. absurd (none k d srid code))
 
@@ -103,11 +100,6 @@ faulty : (room : ℕ) (w : Wanted) (input : List ℕ) (cause : Cause) → head_a
     → reader room w input ≡ refused input cause
 faulty room w input cause e = grind (arith, reader_by)
 
-member_body_is : (deeper : Layout → List ℕ → Reading Item) (k : ℕ) (d : Dimension) (l : Layout) (input : List ℕ)
-    → 1 ≤ k → k ≤ 3
-    → member_body k l input ≡ body_at deeper (type_of k d) l input
-member_body_is deeper k d l input low few = grind arith
-
 module _ {input rest : List ℕ} {order : Endianness} {k : ℕ} {d : Dimension} {srid : Bool}
     (o : Opens input order k d srid rest) where
   same_type : (type_kind (type_of k d) ≡ k) × (type_dimension (type_of k d) ≡ d)
@@ -119,9 +111,7 @@ module _ {input rest : List ℕ} {order : Endianness} {k : ℕ} {d : Dimension} 
   opened room any good p = cc (reader_by room any input, head_opened o, same_type.1)
   opened room (part l e) good p =
       let wanted = is_passed l e (head_of order k d srid) (same_type.0 ∙ p.0, same_type.1 ∙ p.1, p.2) in
-      rw (head_opened o, wanted, p.0, p.1)
-      (member_body_is (collection_within room) l e (laid order e srid) input
-      (omega (arith, p.0, o.meaning.kind.low)) good)
+      rw (head_opened o, wanted, p.0, p.1) (grind arith)
 
   unwanted : (room : ℕ) (w : Wanted) → (IsPart w k d srid → ⊥)
       → reader room w input ≡ refused input incorrect_type
@@ -269,9 +259,6 @@ nest_inside (multi_line_string d l) room h =
 nest_inside (multi_polygon d l) room h = omega (arith, each_same (polygon d) nest_each refl 0 (λ a ts. omega arith) l)
 nest_inside _ room h = omega arith
 
-nest_collection : (t : Value) → kind t ≡ 7 → 0 < nest t
-nest_collection t e = grind arith
-
 -- the items of members make the geometry again
 held : {A : Type 0} (f : A → Value) (g : Value → A) → ((a : A) → g (f a) ≡ a) → (found : List Item) (l : List A)
     → values found ≡ each f l
@@ -339,7 +326,7 @@ module _ (h : Header) (own : List ℕ) (ss : Spellings) (t : Value) (x : List �
   module _ (room : ℕ) (w : Wanted) (good : IsWanted w) (rest : List ℕ) (shallow : nest t ≤ room)
       (p : IsPart w (kind t) (dimension t) (is_some h.srid)) where
     is_allowed : IsAllowed room w (kind t) (dimension t) (is_some h.srid)
-    is_allowed = record { wanted = p; shallow = λ e. let deep = nest_collection t e in omega arith }
+    is_allowed = grind arith
 
     front_counts : (n : ℕ) (field behind : List ℕ) → a.second.front ≡ field ++ behind → IsNumber h.order 4 n field
         → OpensCounted room w (x ++ rest) h.order (kind t) (dimension t) (is_some h.srid) n

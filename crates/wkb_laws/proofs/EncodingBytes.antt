@@ -1,9 +1,9 @@
 -- An encoding is bytes, and bytes that spell a value as it is written are its encoding.
-use Rattle.std.proofs.Common.{◌≡◌, ℕ, zero, suc, ◌<◌, List, [], ◌∷◌, ◌++◌, length, Option, lit<}
+use Rattle.std.proofs.Common.{◌≡◌, ℕ, zero, suc, List, [], ◌∷◌, ◌++◌, length, Option, lit<}
 use Rattle.std.proofs.Common.{sym, subst, arith}
-use Rattle.std.specs.Int.{byte_at, bytes_high_first, bytes_low_first}
+use Rattle.std.specs.Int.{bytes_high_first, bytes_low_first}
 use Rattle.std.specs.List.{flat_map}
-use Rattle.wkb_laws.specs.Prelude.{Endianness, Dimension, Form, AreBytes, order_byte}
+use Rattle.wkb_laws.specs.Prelude.{Endianness, Dimension, Form, AreBytes}
 use Rattle.wkb_laws.specs.Prelude.{number_bytes, Coordinate, Value, Spelling, Spells, Geometry, Geometries}
 use Rattle.wkb_laws.specs.Prelude.{no_geometries, geometry, geometry_of, encoding, encodings, inner, IsForm}
 use Rattle.wkb_laws.specs.Prelude.{srid_encoding, header_encoding, words_encoding, coordinates_encoding, point_words}
@@ -14,17 +14,14 @@ use Rattle.wkb_laws.proofs.OneEncoding.{one_encoding_lem}
 use Rattle.wkb_laws.proofs.Rewritings.{value_encoding}
 use Rattle.wkb_laws.proofs.Values.{spelled_good}
 
-byte_small : (k x : ℕ) → byte_at k x < 256
-byte_small k x = grind arith
-
 high_are_bytes : (n x : ℕ) → AreBytes (bytes_high_first n x)
 high_are_bytes zero x i = lit< tt
-high_are_bytes (suc n) x zero = byte_small n x
+high_are_bytes (suc n) x zero = grind arith
 high_are_bytes (suc n) x (suc i) = high_are_bytes n x i
 
 low_are_bytes : (j n x : ℕ) → AreBytes (bytes_low_first j n x)
 low_are_bytes j zero x i = lit< tt
-low_are_bytes j (suc n) x zero = byte_small j x
+low_are_bytes j (suc n) x zero = grind arith
 low_are_bytes j (suc n) x (suc i) = low_are_bytes (suc j) n x i
 
 pub number_is_bytes : (order : Endianness) (n x : ℕ) → AreBytes (number_bytes order n x)
@@ -40,14 +37,7 @@ each_is_bytes : {A : Type 0} (f : A → List ℕ) → ((a : A) → AreBytes (f a
 each_is_bytes f one [] i = lit< tt
 each_is_bytes f one (a ∷ l) i = both_are_bytes (f a) (flat_map f l) (one a) (each_is_bytes f one l) i
 
-order_small : (order : Endianness) → order_byte order < 256
-order_small order = grind arith
-
 module _ (order : Endianness) where
-  srid_is_bytes : (srid : Option ℕ) → AreBytes (srid_encoding order srid)
-  unfolding srid_encoding
-  srid_is_bytes srid i = grind (arith, number_is_bytes)
-
   words_are_bytes : (words : List ℕ) → AreBytes (words_encoding order words)
   unfolding words_encoding
   words_are_bytes = each_is_bytes (number_bytes order 8) (number_is_bytes order 8)
@@ -58,8 +48,8 @@ module _ (order : Endianness) where
 
   module _ (form : Form) (d : Dimension) where
     header_is_bytes : (k : ℕ) → AreBytes (header_encoding order form k d)
-    unfolding header_encoding
-    header_is_bytes k h = grind (arith, order_small, both_are_bytes, number_is_bytes, srid_is_bytes)
+    unfolding header_encoding srid_encoding
+    header_is_bytes k h = grind (arith, both_are_bytes, number_is_bytes)
 
     point_is_bytes : (c : Option Coordinate) → AreBytes (point_encoding order form d c)
     unfolding point_encoding

@@ -1,8 +1,8 @@
 -- The encoding that is written spells the normal value.
 use Rattle.std.proofs.lemmas.Grind.{common_steps}
-use Rattle.std.proofs.Common.{rules, ◌≡◌, ℕ, ◌<◌, ◌≤◌, ◌^◌, [], Bool, true, false, refl, sym, ap, ◌∙◌, arith, is_some}
+use Rattle.std.proofs.Common.{rules, ◌≡◌, ℕ, ◌<◌, ◌≤◌, ◌^◌, [], true, false, refl, sym, ap, ◌∙◌, arith, is_some}
 use Rattle.std.proofs.Common.{append-nil, ◌+◌, List, ◌∷◌, ◌++◌, length, map, replicate, Option, Some, None}
-use Rattle.std.proofs.Common.{lit≤, if◌then◌else◌, flat_map}
+use Rattle.std.proofs.Common.{lit≤, flat_map}
 use Rattle.std.proofs.lemmas.List.{length-map}
 use Rattle.std.specs.List.{AllByRecursion}
 use Rattle.std.proofs.lemmas.Bool.Decides.{nat_tests}
@@ -10,7 +10,7 @@ use Rattle.byteorder.specs.Numbers.{big_number-reads_back, little_number-reads_b
 use Rattle.byteorder.specs.Numbers.{length-bytes_low_first}
 use Rattle.byteorder.specs.Endian.{big_number, little_number}
 use Rattle.wkb_laws.specs.Prelude.{Endianness, BigEndian, LittleEndian, Dimension, Xy, Form, Iso, Ewkb, number}
-use Rattle.wkb_laws.specs.Prelude.{IsNumber, number_bytes, Code, form_srid, code_of, Dimensions}
+use Rattle.wkb_laws.specs.Prelude.{IsNumber, number_bytes, form_srid, code_of, Dimensions}
 use Rattle.wkb_laws.specs.Prelude.{IsWord, all_nan, empty_word, width, written_dimension, IsEach, IsCounted, Coordinate}
 use Rattle.wkb_laws.specs.Prelude.{Value, each, kind, dimension, members, count, Spelling, node, Spellings}
 use Rattle.wkb_laws.specs.Prelude.{no_spellings, IsHeader, IsSrid, SpellsCoordinate, SpellsCoordinates, SpellsBody}
@@ -42,16 +42,6 @@ IsNumber-number_bytes LittleEndian n x h = record {
   len = length-bytes_low_first 0 n x;
   value = ap (little_number n) (sym (append-nil (number_bytes LittleEndian n x))) ∙ little_number-reads_back n x [] h;
 }
-
--- the code that is written stands for the kind and the dimension, and says whether an SRID is written
-pub Code-code_of : (form : Form) (k : ℕ) (d : Dimension) → 1 ≤ k → k ≤ 7
-    → Code (code_of form k d) k d (is_some (form_srid form))
-unfolding code_of
-Code-code_of form k d low high = grind arith
-
-pub code_of-lt : (form : Form) (k : ℕ) (d : Dimension) → k ≤ 7 → code_of form k d < 256 ^ 4
-unfolding code_of
-code_of-lt form k d high = grind arith
 
 count_fits : (n : ℕ) → count_fault n ≡ None → n < 256 ^ 4
 unfolding count_fault
@@ -106,15 +96,11 @@ module _ (order : Endianness) where
       IsCounted-encoding (SpellsCoordinate order d) (words_encoding order) (value.IsValueCoordinate d)
       (SpellsCoordinate-encoding d) order cs good.1 good.0
 
-  some_body : (d : Dimension) (c : Coordinate) (b : Bool) → all_nan c ≡ b → value.IsValueCoordinate d c
-      → SpellsBody order (if b then c else []) (value.point d (if b then None else Some c)) (words_encoding order c)
-  some_body d c given e h = grind (arith, SpellsCoordinate-encoding d c h)
-
   point_body : (d : Dimension) (c : Option Coordinate) → MayHave d c
       → SpellsBody order (empty_words d c) (value.point d (normal_point c)) (words_encoding order (point_words d c))
   unfolding point_words
   point_body d None fits = let empty = empty_coordinate d in (empty.0, SpellsCoordinate-encoding d _ empty.1)
-  point_body d (Some c) fits = some_body d c (all_nan c) refl fits
+  point_body d (Some c) fits = grind (arith, SpellsCoordinate-encoding d c fits)
 
 IsSrid-encoding : (order : Endianness) (form : Form) → IsForm form
     → IsSrid order (form_srid form) (srid_encoding order (form_srid form))
@@ -126,13 +112,13 @@ IsSrid-encoding order (Ewkb (Some srid)) h = IsNumber-number_bytes order 4 srid 
 module _ (order : Endianness) (form : Form) (h : IsForm form) where
   IsHeader-encoding : (k : ℕ) (d : Dimension) → 1 ≤ k → k ≤ 7
       → IsHeader (written_header order form k d) k d (header_encoding order form k d)
-  unfolding header_encoding
+  unfolding header_encoding code_of
   IsHeader-encoding k d low high = record {
     code_field = number_bytes order 4 (code_of form k d);
     srid_field = srid_encoding order (form_srid form);
     whole = refl;
-    code = IsNumber-number_bytes order 4 (code_of form k d) (code_of-lt form k d high);
-    meaning = Code-code_of form k d low high;
+    code = IsNumber-number_bytes order 4 (code_of form k d) (grind arith);
+    meaning = grind arith;
     srid = IsSrid-encoding order form h;
   }
 
@@ -214,20 +200,9 @@ count_normal_each : (gs : Geometries) → count (normal_each gs) ≡ count_geome
 count_normal_each no_geometries = refl
 count_normal_each (geometry g gs) = ap (λ n. 1 + n) (count_normal_each gs)
 
--- the line of a line is short, and so is the ring of a rectangle or a triangle
-line_short : (start end : Coordinate) → coordinates_fault (start ∷ end ∷ []) ≡ None
-unfolding count_fault
-line_short start end = refl
-
-ring_short : (a b c d : Coordinate) → rings_fault ((a ∷ b ∷ c ∷ d ∷ []) ∷ []) ≡ None
-unfolding count_fault first_fault or_else
-ring_short a b c d = refl
-
-corners_short : (l g : Coordinate) → rings_fault (rectangle_ring l g ∷ []) ≡ None
-unfolding count_fault first_fault or_else
-corners_short l g = refl
-
 mutual
+  unfolding count_fault first_fault or_else
+
   pub encoding_spells : (order : Endianness) (form : Form) (g : Geometry) → IsForm form → IsGeometry g → fault g ≡ None
       → Spells (written order form g) (normal g) (encoding order form g)
   encoding_spells order form (point dims c) h good e =
@@ -277,15 +252,15 @@ mutual
   encoding_spells order form (line dims start end) h good e =
       let fits = coordinate_fits dims e in
       line_string_spells order form h (written_dimension dims) (start ∷ end ∷ [])
-      ((fits start good.0, (fits end good.1, tt)), line_short start end)
+      ((fits start good.0, (fits end good.1, tt)), refl)
   encoding_spells order form (rectangle dims least greatest) h good e =
       polygon_spells order form h Xy (rectangle_ring least greatest ∷ [])
-      ((rectangle_fits least greatest (good.0).words (good.1).words, tt), corners_short least greatest)
+      ((rectangle_fits least greatest (good.0).words (good.1).words, tt), refl)
   encoding_spells order form (triangle dims first second third) h good e =
       let fits = coordinate_fits dims e in
       let start = fits first good.0 in
       polygon_spells order form h (written_dimension dims) (triangle_ring first second third ∷ [])
-      (((start, (fits second good.1, (fits third good.2, (start, tt)))), tt), ring_short first second third first)
+      (((start, (fits second good.1, (fits third good.2, (start, tt)))), tt), refl)
 
   pub encodings_spell : (order : Endianness) (form : Form) (gs : Geometries) → IsForm form → AreGeometries gs
       → fault_each gs ≡ None

@@ -1,6 +1,6 @@
 -- How long an encoding is.
 use Rattle.std.proofs.Common.{◌≡◌, ℕ, ◌+◌, ◌*◌, ◌<◌, ◌≤◌, ◌^◌, List, [], ◌∷◌, ◌++◌, length, Some, None, Bool}
-use Rattle.std.proofs.Common.{false, refl, sym, ap, ◌∙◌, arith, length-append, sum_by, is_some, if◌then◌else◌, lt-ltb}
+use Rattle.std.proofs.Common.{rules, false, refl, ap, ◌∙◌, arith, length-append, sum_by, is_some, if◌then◌else◌, lt-ltb}
 use Rattle.std.proofs.lemmas.List.Sums.{sum_by-cons}
 use Rattle.wkb_geom.specs.Sizes.{byte_size, byte_sizes, point_size, ring_size, line_string_size, rings_size}
 use Rattle.wkb_geom.specs.Sizes.{polygon_size}
@@ -149,25 +149,16 @@ form_length order form g h lawful fine =
     omega (arith, spelled_length _ _ _ (encoding_spells order form g h lawful fine))
 
 -- an encoding is as long with any SRID, also with one that doesn't fit
-four_long : (order : Endianness) (n : ℕ) → length (number_bytes order 4 n) ≡ 4
-unfolding number_bytes
-four_long order n = grind arith
-
 header_long : (order : Endianness) (n k : ℕ) (d : Dimension) (rest : List ℕ)
     → length (header_encoding order (Ewkb (Some n)) k d ++ rest) ≡ 9 + length rest
-unfolding header_encoding srid_encoding
-header_long order n k d rest = simp (length-append, four_long) (omega arith)
-
-any_header : (order : Endianness) (n k : ℕ) (d : Dimension) (rest : List ℕ)
-    → length (header_encoding order (Ewkb (Some n)) k d ++ rest)
-    ≡ length (header_encoding order (Ewkb (Some 0)) k d ++ rest)
-any_header order n k d rest = header_long order n k d rest ∙ sym (header_long order 0 k d rest)
+unfolding header_encoding srid_encoding number_bytes
+header_long order n k d rest = grind (arith, length-append)
 
 any_srid : (order : Endianness) (n : ℕ) (g : Geometry)
     → length (encoding order (Ewkb (Some n)) g) ≡ length (encoding order (Ewkb (Some 0)) g)
 unfolding point_encoding line_string_encoding polygon_encoding members_encoding
-any_srid order n (geometries.point dims c) = any_header order n _ _ _
-any_srid order n _ = any_header order n _ _ _
+any_srid order n (geometries.point dims c) = grind (arith, header_long)
+any_srid order n _ = grind (arith, header_long)
 
 pub encoding_length : (order : Endianness) (form : Form) (g : Geometry) → IsGeometry g → fault g ≡ None
     → length (encoding order form g) ≡ value_size (normal g) + 4 * (if is_some (form_srid form) then 1 else 0)
@@ -183,8 +174,7 @@ spelled_written order s t x b h =
     grind (arith, spelled_good, encoding_length, lawful-geometry_of, spelled_length, normal-geometry_of)
 
 pub length_of_front_lem : LengthOfFront
-length_of_front_lem order input s t rest b f =
-    spelled_written order s t f.front (front_bytes input s t rest b f) f.spelled
+length_of_front_lem order input s t rest b f = search (rules, spelled_written, front_bytes)
 
 -- a good value is rejected for its length only
 size_refused : (order : Endianness) (form : Form) (t : Value) → Good t
@@ -208,9 +198,6 @@ fits order form s t x b small h fewer =
     size_refused order form t good
     ∙ rw (lt-ltb (length (encoding order form (geometry_of t))) (2 ^ 64) (omega arith))
 
-outer_counted : (s : Spelling) → ◌≤◌ (if is_some (header s).srid then 1 else 0) (srid_count s)
-outer_counted (node h own ss) = omega arith
-
 pub spelled_is_writable_lem : SpelledIsWritable
 spelled_is_writable_lem s t x b small h =
     let good = spelled_good s t x b h in
@@ -222,7 +209,7 @@ spelled_is_writable_lem s t x b small h =
       size = λ order. spelled_written order s t x b h;
       ewkb = λ order. fits order (Ewkb None) s t x b small h (omega arith);
       own_form = srid;
-      own_srid = λ order. fits order (Ewkb (header s).srid) s t x b small h (outer_counted s);
+      own_srid = λ order. fits order (Ewkb (header s).srid) s t x b small h (grind arith);
     }
 
 -- so is what an input begins with

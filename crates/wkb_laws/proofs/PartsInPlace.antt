@@ -37,10 +37,7 @@ record Among (Others P : List ℕ → Type 0) (bytes : List ℕ) : Type 0 where
   pub is : P item
 
 module _ {P Q Others : List ℕ → Type 0} {bytes : List ℕ} (h : Then P Q bytes) where
-  -- the first item, and one after it
-  first_is : {R : List ℕ → Type 0} → R h.front → Others [] → Among Others R bytes
-  first_is is others = record { before = []; item = h.front; after = h.rest; whole = h.whole; others = others; is = is }
-
+  -- an item after the first one
   later_is : {More R : List ℕ → Type 0} (f : Among Others R h.rest) → More (h.front ++ f.before) → Among More R bytes
   later_is f others = record {
     before = h.front ++ f.before;
@@ -55,7 +52,7 @@ each_at : {A : Type 0} (P : A → List ℕ → Type 0) (l : List A) (j : ℕ) (a
     → slice_get l j ≡ Some a
     → Among (IsEach P (take j l)) (P a) bytes
 each_at P [] j a bytes h is = absurd (cc)
-each_at P (b ∷ l) zero a bytes h is = let same : b ≡ a = cc in first_is h (subst (λ c. P c h.front) same h.first) refl
+each_at P (b ∷ l) zero a bytes h is = grind arith
 each_at P (b ∷ l) (suc j) a bytes h is =
     let f = each_at P l j a h.rest h.second is in
     later_is h f (joined h.front f.before h.first f.others)

@@ -1,5 +1,5 @@
 -- Sums over a list that a loop goes through.
-use Rattle.std.proofs.Common.{◌≡◌, ℕ, zero, suc, ◌+◌, ◌≤◌, List, [], ◌∷◌, length, Some, ap, arith, drop, sum_by}
+use Rattle.std.proofs.Common.{◌≡◌, ℕ, zero, suc, ◌+◌, ◌≤◌, List, [], ◌∷◌, length, Some, arith, drop, sum_by}
 use Rattle.std.specs.Prelude.{slice_get}
 use Rattle.std.proofs.lemmas.List.{drop_all}
 use Rattle.std.proofs.lemmas.List.Sums.{sum_by-cons}
@@ -15,10 +15,7 @@ pub sum_more : {A : Type 0} (f : A → ℕ) (xs : List A) (i count n : ℕ) (x :
     → count + sum_by f (drop i xs) ≡ sum_by f xs → (count + n) + sum_by f (drop (i + 1) xs) ≡ sum_by f xs
 sum_more f xs i count n x at is so_far = grind (arith, next_added)
 
-nothing_left : {A : Type 0} (f : A → ℕ) (xs : List A) (i : ℕ) → length xs ≤ i → sum_by f (drop i xs) ≡ 0
-nothing_left f xs i all = ap (sum_by f) (drop_all i xs all)
-
 -- all are added
 pub sum_all : {A : Type 0} (f : A → ℕ) (xs : List A) (i count : ℕ) → length xs ≤ i
     → count + sum_by f (drop i xs) ≡ sum_by f xs → count ≡ sum_by f xs
-sum_all f xs i count all so_far = omega (arith, nothing_left f xs i all, so_far)
+sum_all f xs i count all so_far = grind (arith, drop_all)
