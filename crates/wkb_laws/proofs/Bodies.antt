@@ -325,7 +325,8 @@ module _ (room : ℕ) (w : Wanted) (input : List ℕ) where
         → These (room_inside k room) (member_part k d) ts → HasPart room w input)
         (λ o a m. let p = parts_made 1 d (point d) point_of (λ t e f. grind arith) _ ts _ m.begins.first (of 1) m in
         list_is (multi_point d p.0) l.order l.has_srid (lit< tt) o a enough p.1)
-        (λ o a m. let p = parts_made 2 d (line_string d) line_string_of (λ t e f. grind arith) _ ts _ m.begins.first (of 2) m in
+        (λ o a m.
+        let p = parts_made 2 d (line_string d) line_string_of (λ t e f. grind arith) _ ts _ m.begins.first (of 2) m in
         list_is (multi_line_string d p.0) l.order l.has_srid (lit< tt) o a enough p.1)
         (λ o a m. let p = parts_made 3 d (polygon d) polygon_of (λ t e f. grind arith) _ ts _ m.begins.first (of 3) m in
         list_is (multi_polygon d p.0) l.order l.has_srid (lit< tt) o a enough p.1)

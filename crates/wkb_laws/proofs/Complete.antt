@@ -26,7 +26,7 @@ use Rattle.wkb_geom.proofs.Codes.{one_meaning}
 use Rattle.wkb_geom.proofs.Meanings.{meaning_holds, type_kind-type_of}
 use Rattle.wkb_laws.specs.Laws.{listed_inside}
 use Rattle.wkb_laws.proofs.Parts.{then_length, then_append, begins_number, number-front, take_front, drop_front}
-use Rattle.wkb_laws.proofs.Parts.{items_read, coordinate_read, length-opens, header_length, srid_length, taken_front}
+use Rattle.wkb_laws.proofs.Parts.{items_read, coordinate_read, length-opens, header_length, taken_front}
 use Rattle.wkb_laws.proofs.Lists.{IsWanted, whole_by, count-each, each_same, list_behind}
 use Rattle.wkb_laws.proofs.Heads.{passes, is_passed}
 use Rattle.wkb_laws.proofs.Lengths.{coordinate_length, coordinates_length, each_size, each_spelled_length, named_width}
@@ -331,7 +331,7 @@ module _ (h : Header) (own : List ℕ) (ss : Spellings) (t : Value) (x : List �
     front_counts : (n : ℕ) (field behind : List ℕ) → a.second.front ≡ field ++ behind → IsNumber h.order 4 n field
         → OpensCounted room w (x ++ rest) h.order (kind t) (dimension t) (is_some h.srid) n
         (behind ++ (a.second.rest ++ rest))
-    front_counts n field behind e number = grind (arith, then_append, append_assoc, opens, is_allowed, srid_length)
+    front_counts n field behind e number = grind (arith, then_append, append_assoc, opens, is_allowed)
 
     list_found : 3 < kind t
         → MembersFound (reader (room_inside (kind t) room) (member_part (kind t) (dimension t))) ss (members t)

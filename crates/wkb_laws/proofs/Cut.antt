@@ -1,9 +1,8 @@
 -- A strict prefix of a geometry is rejected as an input that ends too early.
 use Rattle.std.proofs.Common.{◌⊎◌, ℕ, ◌+◌, List, [], ◌++◌, length, sym, ap, ◌∙◌, append_assoc, arith, inl, inr}
 use Rattle.std.proofs.Common.{length-append, Bool, append-nil}
-use Rattle.wkb_laws.specs.Prelude.{Endianness, Dimension}
-use Rattle.wkb_laws.specs.Prelude.{Begins, Value, listed_count, Spelling, Wanted, Front, FrontWithin, Cause}
-use Rattle.wkb_laws.specs.Prelude.{slots_asked, Opens, OpensCounted, RefusesRings, later_ring}
+use Rattle.wkb_laws.specs.Prelude.{Endianness, Dimension, Begins, Value, listed_count, Spelling, Wanted, Front}
+use Rattle.wkb_laws.specs.Prelude.{FrontWithin, Cause, slots_asked, Opens, OpensCounted, RefusesRings, later_ring}
 use Rattle.wkb_laws.specs.Prelude.{Refuses, bad_order_byte, bad_code, wrong_part, too_deep, bad_ring, bad_member}
 use Rattle.wkb_laws.specs.Prelude.{RefusesEach, this_member, later_member}
 use Rattle.wkb_laws.specs.Laws.{EndsTooEarly, CutIsRefused}

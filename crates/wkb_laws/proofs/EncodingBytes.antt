@@ -1,6 +1,5 @@
 -- An encoding is bytes, and bytes that spell a value as it is written are its encoding.
-use Rattle.std.proofs.Common.{◌≡◌, ℕ, zero, suc, List, [], ◌∷◌, ◌++◌, length, Option, lit<}
-use Rattle.std.proofs.Common.{sym, subst, arith}
+use Rattle.std.proofs.Common.{◌≡◌, ℕ, zero, suc, List, [], ◌∷◌, ◌++◌, length, Option, lit<, sym, subst, arith}
 use Rattle.std.specs.Int.{bytes_high_first, bytes_low_first}
 use Rattle.std.specs.List.{flat_map}
 use Rattle.wkb_laws.specs.Prelude.{Endianness, Dimension, Form, AreBytes}

@@ -4,8 +4,7 @@ use Rattle.std.proofs.lemmas.List.{length-map}
 use Rattle.wkb_laws.specs.Prelude.{size, Geometry, Geometries, line, rectangle, triangle, no_geometries, geometry}
 use Rattle.wkb_laws.specs.Prelude.{normal, normal_each, byte_size, byte_sizes, fault, fault_each}
 use Rattle.wkb_laws.specs.Prelude.{as_dimensions, written_dimension, Dimensions, dimensions_fault}
-use Rattle.wkb_geom.specs.Geometries.{point, multi_point}
-use Rattle.wkb_geom.specs.Geometries.{collection}
+use Rattle.wkb_geom.specs.Geometries.{point, multi_point, collection}
 use Rattle.wkb_laws.specs.Laws.{EncodingHasSize}
 use Rattle.wkb_laws.proofs.Values.{or_else_parts, width-written_dimension}
 use Rattle.wkb_laws.proofs.Lengths.{value_size, each_size, encoding_length, named_width}

@@ -1,12 +1,11 @@
 -- The front of a list, what is read there, and what comes before a body.
 use Rattle.std.proofs.Common.{slice_get, Some, drop-drop, ◌≡◌, ℕ, zero, suc, ◌+◌, ◌*◌, ◌≤◌, List, [], ◌∷◌, ◌++◌}
 use Rattle.std.proofs.Common.{append_assoc, length, take, drop, refl, sym, ap, ◌∙◌, subst, arith, length-drop}
-use Rattle.std.proofs.Common.{length-append, take-append-drop, length-take-le, take-add, Option, Bool, is_some}
-use Rattle.std.proofs.Common.{◌-◌}
+use Rattle.std.proofs.Common.{length-append, take-append-drop, length-take-le, take-add, Bool, is_some, ◌-◌}
 use Rattle.std.proofs.Math.Seq.{take-append_seam, drop-append_seam}
 use Rattle.byteorder.specs.Numbers.{big_from-append, little_from-append}
 use Rattle.wkb_laws.specs.Prelude.{Then, Endianness, BigEndian, LittleEndian, IsNumber, number, IsEach, Begins}
-use Rattle.wkb_laws.specs.Prelude.{Dimension, Header, IsHeader, IsSrid, srid_size, Opens, Coordinate, SpellsCoordinate}
+use Rattle.wkb_laws.specs.Prelude.{Dimension, Header, IsHeader, srid_size, Opens, Coordinate, SpellsCoordinate}
 use Rattle.wkb_laws.specs.Prelude.{coordinate, consumed}
 use Rattle.wkb_geom.specs.Items.{number-take}
 pub use Rattle.wkb_geom.specs.Reading.{items}
@@ -101,10 +100,6 @@ pub length-opens : {input rest : List ℕ} {order : Endianness} {k : ℕ} {d : D
     → length input ≡ 5 + length rest
 length-opens {input} {rest} o = grind (arith, length-append)
 
-pub srid_length : (order : Endianness) (srid : Option ℕ) (field : List ℕ) → IsSrid order srid field
-    → length field ≡ srid_size (is_some srid)
-srid_length order srid field h = grind arith
-
 pub header_length : (h : Header) (k : ℕ) (d : Dimension) (front : List ℕ) → IsHeader h k d front
     → length front ≡ 5 + srid_size (is_some h.srid)
-header_length h k d front is = grind (arith, length-append, srid_length)
+header_length h k d front is = grind (arith, length-append)

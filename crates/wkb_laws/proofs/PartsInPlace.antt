@@ -3,11 +3,10 @@ use Rattle.std.proofs.Common.{◌≡◌, ℕ, zero, suc, ◌+◌, ◌*◌, List,
 use Rattle.std.proofs.Common.{sum_by, subst, ◌∙◌, append_assoc, length-append, arith, slice_get, is_some, drop-drop}
 use Rattle.std.proofs.lemmas.List.Sums.{sum_by_more}
 use Rattle.std.proofs.lemmas.Option.{slice_get_within, get_or_from_slice_get}
-use Rattle.wkb_laws.specs.Prelude.{Then, Endianness, Dimension, number, width, IsEach, Coordinate, Value, Values, point}
-use Rattle.wkb_laws.specs.Prelude.{line_string, polygon, no_members, member, kind, dimension, members, count, Header}
-use Rattle.wkb_laws.specs.Prelude.{Spelling, node, Spellings, no_spellings, spelling, header, IsHeader}
-use Rattle.wkb_laws.specs.Prelude.{SpellsCoordinates, SpellsBody, Wanted, any, member_part, Spells, SpellsEach}
-use Rattle.wkb_laws.specs.Prelude.{srid_size, ring_end, coordinate, AreBytes}
+use Rattle.wkb_laws.specs.Prelude.{Then, Dimension, number, width, IsEach, Coordinate, Value, Values, polygon}
+use Rattle.wkb_laws.specs.Prelude.{no_members, member, kind, dimension, members, count, Header, Spelling, node}
+use Rattle.wkb_laws.specs.Prelude.{Spellings, no_spellings, spelling, header, IsHeader, SpellsCoordinates, Wanted, any}
+use Rattle.wkb_laws.specs.Prelude.{member_part, Spells, SpellsEach, srid_size, ring_end, coordinate, AreBytes}
 use Rattle.wkb_laws.specs.Encodings.{spelled_size}
 use Rattle.wkb_laws.specs.Places.{behind_count, IsOneOf, IsMember, first_spellings, first_values, ring_start, StandsAt}
 use Rattle.wkb_laws.specs.Places.{first_size, FirstStart, NextStart, FirstRingStart, NextRingStart, HoldsMember}
@@ -164,15 +163,6 @@ has_none zero no_spellings s t is = is
 has_none (suc k) no_spellings s t is = is
 has_none _ _ s t is = is
 
--- the body of what has members is a count
-count_len : (order : Endianness) (own : List ℕ) (v : Value) (k : ℕ) (ss : Spellings) (s : Spelling) (t : Value)
-    (bytes : List ℕ)
-    → IsOneOf k ss (members v) s t → SpellsBody order own v bytes → length bytes ≡ 4
-count_len order own (point d c) k ss s t bytes is h = absurd (has_none k ss s t is)
-count_len order own (line_string d cs) k ss s t bytes is h = absurd (has_none k ss s t is)
-count_len order own (polygon d rings) k ss s t bytes is h = absurd (has_none k ss s t is)
-count_len order own _ k ss s t bytes is h = h.1.len
-
 members_by : (encoding : List ℕ) (u : Spelling) (v : Value) (k : ℕ) (s : Spelling) (t : Value) → Spells u v encoding
     → IsMember k u v s t
     → (bytes : List ℕ)
@@ -182,8 +172,7 @@ members_by encoding (node g own ss) v k s t h is =
     let body = h.second in
     let f = member_at (member_part (kind v) (dimension v)) k ss (members v) s t body.rest body.second is in
     let counted =
-    head_len g (kind v) (dimension v) h.front body.front h.first
-    (count_len g.order own v k ss s t body.front is body.first) in (
+    head_len g (kind v) (dimension v) h.front body.front h.first (grind (arith, has_none)) in (
       f.item,
       record {
         start = length (h.front ++ body.front) + length f.before;

@@ -1,5 +1,5 @@
 -- Values and outermost SRIDs are equal exactly where their encodings are.
-use Rattle.std.proofs.Common.{◌≡◌, ℕ, List, [], ◌++◌, refl, sym, ap, ◌∙◌, subst, append-nil, arith}
+use Rattle.std.proofs.Common.{◌≡◌, ℕ, List, [], ◌++◌, refl, sym, ap, ◌∙◌, subst, append-nil, arith, rules}
 use Rattle.wkb_laws.specs.Prelude.{Endianness, Form, Ewkb, AreBytes, Value, Spelling, node, header, Spells, Front}
 use Rattle.wkb_laws.specs.Prelude.{geometry_of, form_srid, encoding, IsForm}
 use Rattle.wkb_laws.specs.Written.{written, HasOptions}
@@ -88,8 +88,7 @@ rewriting_is_read_lem order form input s t rest more h b f =
 
 pub equal_encodings_with_own_srid_lem : EqualEncodingsWithOwnSrid
 equal_encodings_with_own_srid_lem order a b s u t v rest more ab bb f g =
-    equal_encodings_with_srid_lem order (header s).srid (header u).srid a b s u t v rest more
-    (front_srid a s t rest ab f) (front_srid b u v more bb g) ab bb f g
+    search (rules, equal_encodings_with_srid_lem, front_srid)
 
 -- what was rewritten is read as itself
 read_back : (order : Endianness) (form : Form) (input out : List ℕ) (s : Spelling) (t : Value) (rest : List ℕ)
