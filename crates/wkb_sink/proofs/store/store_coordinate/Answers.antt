@@ -3,17 +3,10 @@ use Rattle.wkb_sink.proofs.Stores.{stored_next, two_words, three_words, four_wor
 use Rattle.wkb_sink.proofs.store.store_coordinate.Goals as goal
 
 pub returns-in-2 : goal.returns-in-2
-returns-in-2 g c =
-    let words = g.C.CoordTrait.words c.args.coord.now in
-    let len : length words ≡ 2 = omega (arith, (g.met.C.CoordTrait.lawful c.args.coord.now).len) in
-    rw (c.in-2.is, two_words c.args.order words len) c.store_x_y.ensures
+returns-in-2 g c = grind (arith, two_words)
 
 pub returns-in-3 : goal.returns-in-3
-returns-in-3 g c =
-    let words = g.C.CoordTrait.words c.args.coord.now in
-    let len : length words ≡ 3 = omega (arith, (g.met.C.CoordTrait.lawful c.args.coord.now).len) in
-    rw (c.in-3.is, three_words c.args.order words len, ← c.at.ensures)
-    (stored_next _ _ _ _ 16 8 _ c.store_x_y.ensures (omega arith) c.store_word.ensures (omega arith))
+returns-in-3 g c = grind (arith, three_words, stored_next)
 
 pub returns-in_default : goal.returns-in_default
 returns-in_default g c =

@@ -3,13 +3,10 @@ use Rattle.wkb_sink.proofs.Laid.{exits, no_room, past_laid, past_cut}
 use Rattle.wkb_sink.proofs.buffered.Buffered.put_past.Goals as goal
 
 pub returns-in_err-flush : goal.returns-in_err-flush
-returns-in_err-flush g c =
-    exits _ _ c.from_residual.ensures.1 (no_room _ c.in_err-flush.ensures.ready (omega (arith, c.requires.long)))
+returns-in_err-flush g c = grind (arith, exits, no_room)
 
 pub returns-in-Ok : goal.returns-in-Ok
-returns-in-Ok g c =
-    past_laid c.in_ok-flush.ensures.ready c.in_ok-flush.ensures.empty c.requires.long
-    c.in-Ok.ensures.0 c.in-Ok.ensures.1
+returns-in-Ok g c = grind (arith, past_laid)
 
 pub returns-in-Err : goal.returns-in-Err
 returns-in-Err g c =
