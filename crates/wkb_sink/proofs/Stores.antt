@@ -62,3 +62,7 @@ pub one_more : (w i to : ℕ) → i < to → w * (to - i) ≡ w * (to - (i + 1))
 one_more w i to h =
     let step : to - i ≡ (to - (i + 1)) + 1 = omega arith in
     ap (λ k. w * k) step ∙ omega (arith, mul-add w (to - (i + 1)) 1)
+
+pub ruleset coordinate_laws = (two_words, three_words, stored_next)
+
+pub ruleset run_laws = (one_more, stored_next, run_step)

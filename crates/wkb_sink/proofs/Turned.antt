@@ -101,6 +101,10 @@ pub turned_two_more : (held order : Endianness) (words lent all part : List ℕ)
 turned_two_more held order words lent all part i k first second fit is behind one two stored more fits part_fits =
     grind (arith, two_words_more, word_held)
 
+pub ruleset each_laws = (stored_two_more, stored_last, behind_pairs, slice_get-get_or)
+
+pub ruleset turned_laws = (turned_two_more, words_length, behind_pairs, take_all)
+
 -- a run of items of k bytes each
 run_front : {X : Type 0} (f : X → List ℕ) (k : ℕ) (xs : List X) (to : ℕ) → AllByRecursion (λ x. length (f x) ≡ k) xs
     → to ≤ length xs

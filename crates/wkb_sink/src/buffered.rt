@@ -130,7 +130,7 @@ impl<'a, S: Sink> Buffered<'a, S> {
 
     /// Puts what waits. Then the bytes go into the block, or straight to the sink where they are longer than the block.
     #[inline(never)]
-    #[tactic(auto, using(crate::proofs::Steps::step_laws))]
+    #[tactic(auto, using(crate::proofs::Steps::past_laws))]
     fn put_past(&mut self, bytes: &[u8]) -> Result<(), Stopped>
         requires long { (held self.old).room < length bytes.now }
         requires working { S.has_failed self.old.sink.now ≡ false }
@@ -151,7 +151,7 @@ impl<'a, S: Sink> Buffered<'a, S> {
     }
 
     /// Puts a count.
-    #[tactic(auto, using(crate::proofs::Steps::step_laws))]
+    #[tactic(auto, using(crate::proofs::Steps::count_laws))]
     pub fn put_count(&mut self, order: Endianness, n: u32) -> Result<(), Stopped>
         requires working { S.has_failed self.old.sink.now ≡ false }
         ensures { Lays S.Sink self.old self.new (number_bytes order 4 n) result }
@@ -163,7 +163,7 @@ impl<'a, S: Sink> Buffered<'a, S> {
 
     /// Puts a header of this code, and a count.
     #[inline]
-    #[tactic(auto, using(crate::proofs::Steps::step_laws, crate::proofs::Behind::behind))]
+    #[tactic(auto, using(crate::proofs::Steps::count_laws, crate::proofs::Behind::behind))]
     pub fn put_head(
         &mut self,
         options: &WriteOptions,

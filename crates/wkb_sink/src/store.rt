@@ -59,6 +59,7 @@ fn store_x_y<C: CoordTrait>(bytes: &mut [u8], order: Endianness, coord: &C)
 
 /// Stores the words of a coordinate of two, three or four in the first bytes.
 #[inline(always)]
+#[tactic(auto, using(crate::proofs::Stores::coordinate_laws))]
 pub fn store_coordinate<C: CoordTrait>(bytes: &mut [u8], coord: &C, width: usize, order: Endianness)
     requires width { width ≡ size (C.dimensions coord.now) }
     requires least { 2 ≤ width }
@@ -76,6 +77,7 @@ pub fn store_coordinate<C: CoordTrait>(bytes: &mut [u8], coord: &C, width: usize
 
 /// Stores the coordinates from an index up to another one. Where it is inlined the order and the width are constants.
 #[inline(always)]
+#[tactic(auto, using(crate::proofs::Stores::run_laws))]
 fn store_run<L: LineStringTrait>(
     bytes: &mut [u8],
     line: &L,
@@ -111,7 +113,7 @@ fn items_between<T>(all: &[T], size: usize, from: usize, to: usize) -> &[T]
 
 /// Stores words in one order out of bytes that hold them in another.
 #[inline(always)]
-#[tactic(auto, using(crate::proofs::Turned::turned_two_more, crate::proofs::Turned::words_length))]
+#[tactic(auto, using(crate::proofs::Turned::turned_laws), unfolding(wkb_geom::specs::Encodings::words_encoding))]
 pub fn store_words(bytes: &mut [u8], lent: &[u8], held: Endianness, order: Endianness)
     requires { length lent.now ≤ length bytes.old }
     ensures { Turns held order lent.now (take (length lent.now) bytes.new) }
@@ -133,7 +135,7 @@ pub fn store_words(bytes: &mut [u8], lent: &[u8], held: Endianness, order: Endia
 
 /// Stores words one after another.
 #[inline(always)]
-#[tactic(auto, using(crate::proofs::Turned::stored_two_more))]
+#[tactic(auto, using(crate::proofs::Turned::each_laws), unfolding(wkb_geom::specs::Encodings::words_encoding))]
 fn store_each(bytes: &mut [u8], words: &[u64], order: Endianness)
     requires { 8 * length words.now ≤ length bytes.old }
     ensures { take (8 * length words.now) bytes.new ≡ words_encoding order words.now }

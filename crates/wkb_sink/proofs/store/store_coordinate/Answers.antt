@@ -1,12 +1,6 @@
 use Rattle.wkb_sink.proofs.Prelude.{◌≡◌, arith, length}
-use Rattle.wkb_sink.proofs.Stores.{stored_next, two_words, three_words, four_words}
+use Rattle.wkb_sink.proofs.Stores.{stored_next, four_words}
 use Rattle.wkb_sink.proofs.store.store_coordinate.Goals as goal
-
-pub returns-in-2 : goal.returns-in-2
-returns-in-2 g c = grind (arith, two_words)
-
-pub returns-in-3 : goal.returns-in-3
-returns-in-3 g c = grind (arith, three_words, stored_next)
 
 pub returns-in_default : goal.returns-in_default
 returns-in_default g c =
