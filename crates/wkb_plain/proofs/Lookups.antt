@@ -31,3 +31,5 @@ pub copied_holds : {A : Type 0} (P : A → Type 0) (xs : List A) (i : ℕ) (o : 
 copied_holds P xs i None r h copy all = subst (λ q. IfSome q P) (sym copy) tt
 copied_holds P xs i (Some x) r h copy all =
     subst (λ q. IfSome q P) (sym copy) (subst P (sym h.1) (all i x.now (below i (length xs) (sym h.0))))
+
+pub ruleset lookup_laws = (copied_is, copied_seen, copied_holds)

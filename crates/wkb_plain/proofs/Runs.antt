@@ -65,3 +65,5 @@ coordinate_at d words i width wide h =
     ∙ ap (λ (n : ℕ). Some (take n (drop (i * size d) words))) (omega arith))
 
 pub ruleset runs_laws = (length-runs, slice_get-runs, slice_get-runs_past, run_within, concat-coordinates_in)
+
+pub ruleset line_laws = (runs_laws, coordinate_within, coordinate_at)

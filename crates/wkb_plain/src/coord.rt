@@ -44,6 +44,7 @@ impl Dimensioned for Coord<'_> {
     }
 }
 
+#[tactic(auto, using(crate::proofs::Lookups::lookup_laws))]
 impl CoordTrait for Coord<'_> {
     ghost use Rattle.wkb_plain.specs.Kinds.{coord_words};
     ghost use Rattle.wkb_plain.specs.Lawful.{coord_lawful};

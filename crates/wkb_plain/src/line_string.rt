@@ -51,7 +51,7 @@ impl Dimensioned for LineString<'_> {
     }
 }
 
-#[tactic(auto, using(crate::proofs::Runs::runs_laws))]
+#[tactic(auto, using(crate::proofs::Runs::line_laws))]
 impl<'w> LineStringTrait for LineString<'w> {
     ghost use Rattle.wkb_plain.specs.Kinds.{line_string_coordinates};
     ghost use Rattle.wkb_plain.specs.Lawful.{line_string_lawful};

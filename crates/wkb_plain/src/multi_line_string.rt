@@ -45,6 +45,7 @@ impl Dimensioned for MultiLineString<'_> {
     }
 }
 
+#[tactic(auto, using(crate::proofs::Lookups::lookup_laws))]
 impl<'w> MultiLineStringTrait for MultiLineString<'w> {
     ghost use Rattle.wkb_plain.specs.Kinds.{multi_line_string_line_strings};
     ghost use Rattle.wkb_plain.specs.Lawful.{multi_line_string_lawful};

@@ -43,6 +43,7 @@ impl Dimensioned for MultiPoint<'_> {
     }
 }
 
+#[tactic(auto, using(crate::proofs::Lookups::lookup_laws))]
 impl<'w> MultiPointTrait for MultiPoint<'w> {
     ghost use Rattle.wkb_plain.specs.Kinds.{multi_point_points};
     ghost use Rattle.wkb_plain.specs.Lawful.{multi_point_lawful};
