@@ -6,16 +6,10 @@ use Rattle.wkb_write.proofs.Falls.{member_falls}
 use Rattle.wkb_write.proofs.nested.+put.Goals as goal
 
 pub put_members-put_member-requires : goal.put_members-put_member-requires
-put_members-put_member-requires g t c κs within =
-    let item = c.index-members-i.is in
-    let ready = member_ready g.K.Nested.geometry _ _ _ _ item (omega arith) c.requires.fault in
-    (member_falls _ _ _ _ t item (omega arith) c.decreases, assumption (ready, c.loop-i.invariant.laid.works))
+put_members-put_member-requires g t c κs within = grind (arith, member_ready, member_falls)
 
 pub put_members-put_member-requires-2 : goal.put_members-put_member-requires-2
-put_members-put_member-requires-2 g t c κs within =
-    let item = c.index-members-last.is in
-    let ready = member_ready g.K.Nested.geometry _ _ _ _ item (omega arith) c.requires.fault in
-    (member_falls _ _ _ _ t item (omega arith) c.decreases, assumption (ready, c.loop-i.invariant.laid.works))
+put_members-put_member-requires-2 g t c κs within = grind (arith, member_ready, member_falls)
 
 pub put_members-returns-in_err-put_member : goal.put_members-returns-in_err-put_member
 put_members-returns-in_err-put_member g t c =

@@ -5,8 +5,7 @@ use Rattle.wkb_write.specs.Bodies.{coordinate_words}
 use Rattle.wkb_write.proofs.fixed.AtOnceWritable.put.Goals as goal
 
 pub supported_dimension-dim-requires : goal.supported_dimension-dim-requires
-supported_dimension-dim-requires g c =
-    rw c.dim.ensures (supported_body (g.met.F.Fixed.body c.args.geom.now) c.requires.fault)
+supported_dimension-dim-requires g c = grind (arith, supported_body)
 
 pub returns-in_err-make_room : goal.returns-in_err-make_room
 returns-in_err-make_room g c =

@@ -10,9 +10,7 @@ returns-in_err-put_head g c =
     (head_cut _ _ _ _ (c.wkb_type.ensures c.args.options.now) c.count-count.ensures c.in_err-put_head.ensures)
 
 pub loop-i-preserved : goal.loop-i-preserved
-loop-i-preserved g c =
-    next_laid c.loop-i.invariant (item_at _ c.loop-i.i (omega (arith, c.count-count.ensures))
-    (rw c.inner-inner.ensures at c.in_ok-put_item.ensures))
+loop-i-preserved g c = grind (arith, next_laid, item_at)
 
 pub returns-in_err-put_item : goal.returns-in_err-put_item
 returns-in_err-put_item g c =
