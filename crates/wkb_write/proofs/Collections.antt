@@ -12,7 +12,7 @@ use Rattle.wkb_write.specs.Bodies.{collection_of, measure_after, member_measure}
 use Rattle.wkb_write.specs.Measures.{IsAdded, IsMeasured}
 use Rattle.wkb_write.proofs.Faults.{reports_first, reports_rest}
 use Rattle.wkb_write.proofs.Loops.{HasLaid, all_laid, head_laid, head_cut}
-use Rattle.wkb_write.proofs.Falls.{members_fall}
+use Rattle.wkb_write.proofs.Falls.{members_fall, member_falls}
 use Rattle.wkb_geom.specs.Encodings.{inner, form_with_flags}
 use Rattle.wkb_write.specs.Answers.{member_encoding}
 use Rattle.wkb_write.proofs.Sums.{Ahead}
@@ -119,4 +119,4 @@ pub ruleset collection_laws = (collection_ready, lays_collection)
 
 pub ruleset begun_laws = (collection_begun, collection_empty, collection_cut, collection_count)
 
-pub ruleset added_laws = (added_alone, collection_added, dimensions_refused, count_refused, members_fall)
+pub ruleset added_laws = (added_alone, collection_added, dimensions_refused, count_refused, members_fall, member_falls)

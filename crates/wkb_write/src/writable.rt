@@ -239,6 +239,7 @@ impl Sink for Full {
 
 /// Lays a geometry in a slice that is as long as its encoding.
 #[inline(always)]
+#[tactic(auto, using(wkb_sink::proofs::Laid::fills_slice))]
 pub fn lay_whole<G, K: Writable<G>>(bytes: &mut [u8], geom: &G, options: &WriteOptions)
     requires fault { fault (K.geometry geom.now) ≡ None }
     requires size { length bytes.old ≡ length (encoding_of options.now (K.geometry geom.now)) }

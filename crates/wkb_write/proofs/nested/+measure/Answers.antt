@@ -12,9 +12,6 @@ add_members-loop-i-init g t c = record {
   fits = omega (arith, c.saturating_add-total.ensures);
 }
 
-pub add_members-measure_geometry-requires : goal.add_members-measure_geometry-requires
-add_members-measure_geometry-requires g t c κs within = grind (arith, member_falls)
-
 pub add_members-add_members-requires : goal.add_members-add_members-requires
 add_members-add_members-requires g t c κs within =
     let falls = member_falls g.K.Nested.geometry _ _ _ t c.index-members-i.is c.loop-i-test.true c.decreases in

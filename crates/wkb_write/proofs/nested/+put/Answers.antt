@@ -1,15 +1,7 @@
 use Rattle.wkb_write.proofs.Prelude.{arith, refl}
 use Rattle.wkb_sink.proofs.Laid.{exits}
-use Rattle.wkb_write.proofs.Collections.{member_ready}
 use Rattle.wkb_write.proofs.Loops.{last_laid, read_cut}
-use Rattle.wkb_write.proofs.Falls.{member_falls}
 use Rattle.wkb_write.proofs.nested.+put.Goals as goal
-
-pub put_members-put_member-requires : goal.put_members-put_member-requires
-put_members-put_member-requires g t c κs within = grind (arith, member_ready, member_falls)
-
-pub put_members-put_member-requires-2 : goal.put_members-put_member-requires-2
-put_members-put_member-requires-2 g t c κs within = grind (arith, member_ready, member_falls)
 
 pub put_members-returns-in_err-put_member : goal.put_members-returns-in_err-put_member
 put_members-returns-in_err-put_member g t c =
