@@ -25,12 +25,7 @@ spans c =
     (c.in_ok-spans.ensures.some.0 refl) c.in_ok-spans.ensures.start c.in_ok-spans.ensures.ends
 
 pub returns-in_err-spans-clause-some : goal.returns-in_err-spans-clause-some
-returns-in_err-spans-clause-some c =
-    let has = singles (goal.at.returns-in_err-spans-clause-some c).After-last in
-    none_exactly _ c.from_residual-in_err-spans.ensures (λ are.
-    let some = spans_some c.args.self.now c.args.dim c.args.i c.in_ok-singles.singles has are in
-    false≢true (c.in_err-spans.ensures.some.1
-    (omega (arith, c.start.ensures, c.last.ensures, some), omega (arith, c.last.ensures, some))))
+returns-in_err-spans-clause-some c = grind (arith, singles, none_exactly, spans_some, false≢true)
 
 pub returns-in_err-rings-clause-some : goal.returns-in_err-rings-clause-some
 returns-in_err-rings-clause-some c =
@@ -40,11 +35,7 @@ returns-in_err-rings-clause-some c =
     (rings_fit c.args.self.now c.args.dim c.args.i _ (singles at.After-last) _ (spans at.After-new) are)))
 
 pub new-requires-2 : goal.new-requires-2
-new-requires-2 c =
-    let at = goal.at.new-requires-2 c in
-    let counted = count_rings c.args.self.now c.args.dim c.args.i _ (singles at.After-last) _ (spans at.After-new) _
-    c.in_ok-rings.ensures.rings in
-    omega (arith, counted, c.last.ensures, c.last.type_inv)
+new-requires-2 c = grind (arith, count_rings, singles, spans)
 
 pub returns-clause-some : goal.returns-clause-some
 returns-clause-some c =
