@@ -10,7 +10,7 @@ use Rattle.wkb_levels.specs.declared.levels.Levels.{Levels}
 use Rattle.wkb_levels.specs.Cuts.{start_at, AreEnds, pieces_from}
 use Rattle.wkb_levels.specs.EndLists.{start_of, ends_of, begin_of, AreEndsWithin}
 use Rattle.wkb_levels.specs.RingLists.{rings_in}
-use Rattle.wkb_levels.specs.Columns.{AreRowLevels, singles_of, row_begin, row_end, AreEndsBetween}
+use Rattle.wkb_levels.specs.Columns.{AreRowLevels, singles_of, row_begin, row_end}
 use Rattle.wkb_levels.proofs.Pieces.{length-pieces, slice_range-pieces, start_within, start_from}
 use Rattle.wkb_levels.proofs.Pieces.{rest_fit, last_of_part}
 
@@ -48,22 +48,10 @@ pub has_part : (e : Ends) (b t : ℕ) (part : Ends) (from to : ℕ) → b ≡ fr
     → start_of part ≡ begin_of e b → ends_of part ≡ slice_range (ends_of e) b t → HasPart e from to part
 has_part e b t part from to at till are start ends = grind arith
 
--- they end in order if the level does there
-pub part_ends : (limit : ℕ) (e : Ends) (from to : ℕ) (part : Ends) → HasPart e from to part
-    → AreEndsBetween limit e from to → AreEndsWithin limit part
-part_ends limit e from to part has are = rw (has.start, has.ends) are
-
-pub ends_there : (limit : ℕ) (e : Ends) (from to : ℕ) (part : Ends) → HasPart e from to part
-    → AreEndsWithin limit part → AreEndsBetween limit e from to
-ends_there limit e from to part has are = rw (← has.start, ← has.ends) are
-
 -- the last of them ends where the level does there
 pub part_last : (e : Ends) (from to : ℕ) (part : Ends) → HasPart e from to part
     → begin_of part (length (ends_of part)) ≡ begin_of e to
 part_last e from to part has = grind (arith, last_of_part)
-
-pub part_count : (e : Ends) (from to : ℕ) (part : Ends) → HasPart e from to part → length (ends_of part) ≡ to - from
-part_count e from to part has = grind (arith, length-drop, length-take)
 
 -- where ends are in order the first is not behind the last
 pub rises : (limit : ℕ) (e : Ends) → AreEndsWithin limit e
@@ -105,13 +93,13 @@ module _ (l : Levels) (d : Dimensions) (i : ℕ) (s : Ends)
     pub rings_fit : AreRowLevels l d i → (0 < size d) × AreEndsWithin (length l.words.now / size d) r
     rings_fit are = (
       are.some_words,
-      part_ends (length l.words.now / size d) l.ring_ends (start_of s) (begin_of s (length (ends_of s))) r spans
+      rw (spans.start, spans.ends)
           (rw (part_last l.single_ends (row_begin l i) (row_end l i) s has, has.start) are.rings),
     )
 
     pub count_rings : (rings : List (List (List ℕ))) → rings ≡ rings_in d l.words.now r
         → start_of s + length rings ≡ begin_of s (length (ends_of s))
-    count_rings rings are = grind (arith, length-pieces, part_count)
+    count_rings rings are = grind (arith, length-pieces, length-drop, length-take)
 
     -- the singles end within them exactly if the row's levels are in order
     pub levels_are : (rings : List (List (List ℕ))) → rings ≡ rings_in d l.words.now r
@@ -123,15 +111,14 @@ module _ (l : Levels) (d : Dimensions) (i : ℕ) (s : Ends)
             some_words = fit.0;
             order = has.order;
             within = has.within;
-            singles = ends_there (length (ends_of l.ring_ends)) l.single_ends (row_begin l i) (row_end l i) s has
+            singles = rw (← has.start, ← has.ends)
                 (up_to _ (length (ends_of l.ring_ends)) s (omega (arith, count_rings rings given, spans.within)) are);
             rings = rw (← has.start, ← part_last l.single_ends (row_begin l i) (row_end l i) s has)
-                (ends_there (length l.words.now / size d) l.ring_ends (start_of s) (begin_of s (length (ends_of s))) r
-                spans fit.1);
+                (rw (← spans.start, ← spans.ends) fit.1);
           },
       λ are.
           to_last (length (ends_of l.ring_ends)) s _ (count_rings rings given)
-          (part_ends (length (ends_of l.ring_ends)) l.single_ends (row_begin l i) (row_end l i) s has are.singles),
+          (rw (has.start, has.ends) are.singles),
     )
 
     -- and then the polygons of the rings are the row's singles

@@ -14,9 +14,6 @@ abbrev pub Reaches : (ℕ → Type 0) → (ℕ → ℕ) → ℕ → ℕ → ℕ 
 Reaches Spans end i floor next = (Spans i × (next ≡ max floor (end i))) ⊎ ((Spans i → ⊥) × (next ≡ floor))
 
 module _ {Spans : ℕ → Type 0} {end : ℕ → ℕ} where
-  floor_first : (n : ℕ) → n ≡ 0 → IsLevelFloor Spans end 0 n
-  floor_first n is = record { enough = λ j h. absurd (omega (arith, h)); least = λ other are. omega (arith, is) }
-
   pub floor_next : {i floor next : ℕ} → IsLevelFloor Spans end i floor → Reaches Spans end i floor next
       → IsLevelFloor Spans end (i + 1) next
   floor_next {i} {floor} {next} is (inl (here, moved)) =
@@ -50,8 +47,7 @@ module _ {Spans : ℕ → Type 0} {end : ℕ → ℕ} where
 
 pub front_floor : (place : Place) → place.singles ≡ 0 → place.rings ≡ 0 → place.coordinates ≡ 0
     → (l : Levels) (d : Dimensions) → IsFloor l d 0 place
-front_floor place s r c l d =
-    record { singles = floor_first _ s; rings = floor_first _ r; coordinates = floor_first _ c }
+front_floor place s r c l d = grind arith
 
 module _ {l : Levels} {d : Dimensions} {i : ℕ} {floor : Place} (is : IsFloor l d i floor) (next : Place) where
   pub place_next : Reaches (SpansSingles l) (row_end l) i floor.singles next.singles

@@ -9,10 +9,6 @@ use Rattle.wkb_levels.specs.declared.polygons.Polygons.{Polygons}
 use Rattle.wkb_levels.proofs.Pieces.{length-pieces, slice_get-pieces, slice_range-pieces, start_from}
 use Rattle.wkb_levels.proofs.Pieces.{ones_at, ones_only, not_ones}
 
--- a polygon for each end
-pub count_polygons : (p : Polygons) → length (polygons_polygons p) ≡ length (ends_of p.ends)
-count_polygons p = length-pieces (start_of p.ends) (rings_rings p.rings) (start_of p.ends) (ends_of p.ends)
-
 -- none begins before the first ring
 pub begins_from : (p : Polygons) (s b i : ℕ) → s ≡ start_of p.ends → b ≡ begin_of p.ends i
     → i < length (polygons_polygons p) → s ≤ b
@@ -22,14 +18,14 @@ begins_from p s b i first at h =
       arith,
       first,
       at,
-      start_from limit (start_of p.ends) (ends_of p.ends) i p.fit (omega (arith, h, count_polygons p)),
+      start_from limit (start_of p.ends) (ends_of p.ends) i p.fit (omega (arith, h, length-pieces)),
     )
 
 -- none ends before it begins, nor past the rings
 pub ends_in : (p : Polygons) (s b e i : ℕ) → s ≡ start_of p.ends → b ≡ begin_of p.ends i
     → e ≡ slice_index (ends_of p.ends) i → i < length (polygons_polygons p)
     → (s ≤ e) × (b - s ≤ e - s) × (e - s ≤ length (rings_rings p.rings))
-ends_in p s b e i first at to h = grind (arith, count_polygons, begins_from)
+ends_in p s b e i first at to h = grind (arith, length-pieces, begins_from)
 
 -- where each has one ring, there are as many rings
 pub ones_in : (p : Polygons) (n : ℕ) → n ≡ length (ends_of p.ends) → AreOnes (start_of p.ends) (ends_of p.ends)
