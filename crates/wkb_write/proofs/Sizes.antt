@@ -1,7 +1,7 @@
 -- The length of an encoding, from what was measured.
 use Rattle.wkb_write.proofs.Prelude.{◌≡◌, ℕ, ◌+◌, ◌<◌, ◌≤◌, ◌^◌, ◌∙◌, length, None, Result, Ok}
 use Rattle.wkb_write.proofs.Prelude.{Err, sym, arith, IsErrAnd, nat_tests, Endianness, Form, Fault}
-use Rattle.wkb_write.proofs.Prelude.{Geometry, IsGeometry, byte_size, encoding, fault, IsForm, Finds, Measures}
+use Rattle.wkb_write.proofs.Prelude.{Geometry, IsGeometry, byte_size, encoding, fault, IsForm, Measures}
 use Rattle.wkb_write.proofs.Prelude.{bytes_behind_header, none_both, WkbError, TellsFault, encoding_of, IsSized}
 use Rattle.wkb_write.proofs.Prelude.{no_room, Advances, IsShort, Progress, Stopped, WriteOptions}
 use Rattle.std.specs.Prelude.{is_some}
@@ -18,10 +18,6 @@ use Rattle.wkb_write.specs.Measures.{IsMeasured}
 use Rattle.wkb_sink.proofs.Laid.{exits}
 use Rattle.wkb_sink.specs.Options.{header_size}
 use Rattle.wkb_geom.specs.declared.error.Fault.TheVariants as found
-
-reports_size : (n : ℕ) → 2 ^ 64 ≤ n → Finds found.Size (size_fault n)
-unfolding size_fault
-reports_size n h = record { is = grind (arith, nat_tests) }
 
 pub size_without_fault : (n : ℕ) → n < 2 ^ 64 → size_fault n ≡ None
 unfolding size_fault
@@ -58,7 +54,8 @@ module _ {s : ℕ} {read given : Result ℕ Fault} (form : Form) (g : Geometry) 
       grind (arith, measured_length, m, encoding, header_within, none_both, fault, size_without_fault)
 
   pub size_past : 2 ^ 64 ≤ s + header_size form → IsSized form g (Err found.Size)
-  size_past past = grind (arith, measured_length, m, reports_rest, fault, reports_size, header_within)
+  unfolding size_fault
+  size_past past = grind (arith, measured_length, m, reports_rest, fault, header_within, nat_tests)
 
 pub ruleset size_laws = (size_refused, size_past)
 

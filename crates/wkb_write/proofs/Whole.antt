@@ -8,7 +8,7 @@ use Rattle.wkb_write.proofs.Prelude.{parts_fault, parts_size, bytes_behind_heade
 use Rattle.wkb_geom.specs.Geometries.{point, multi_point}
 use Rattle.wkb_geom.specs.Geometries.{rectangle, triangle, line, dimensions_of}
 use Rattle.wkb_geom.specs.Sizes.{ring_size}
-use Rattle.wkb_write.specs.Bodies.{coordinate_words, ring_bytes, ring_measure, point_measure}
+use Rattle.wkb_write.specs.Bodies.{coordinate_words, ring_bytes, point_measure}
 use Rattle.wkb_write.specs.Bodies.{body_fault, size_by_parts}
 use Rattle.wkb_write.specs.Counted.{HasFaultlessBody, HasMeasures, ItemList}
 use Rattle.wkb_write.specs.Measures.{IsMeasured}
@@ -29,10 +29,6 @@ header_within _ = omega arith
 
 ring_takes : (d : Dimensions) → coordinate_words d ≡ size d → (cs : List (List ℕ)) → ring_bytes d cs ≡ ring_size d cs
 ring_takes d is cs = ap (λ w. 4 + 8 * w * length cs) is
-
-rings_take : (d : Dimensions) (rings : List (List (List ℕ))) → coordinate_words d ≡ size d
-    → parts_size 0 (ring_measure d) rings ≡ 4 + sum_by (ring_size d) rings
-rings_take d rings is = sizes_of 0 (ring_measure d) (ring_size d) rings (λ cs. omega (arith, ring_takes d is cs))
 
 alone : (a : Option Fault) → a ≡ or_else a None
 unfolding or_else
@@ -67,7 +63,7 @@ few_items g items h none = grind (arith, none_rest, dimensions_fault, fault_by_b
 
 pub size_by_body : (g : Geometry) → coordinate_words (dimensions_of g) ≡ size (dimensions_of g)
     → byte_size g ≡ 5 + size_by_parts g
-size_by_body g is = grind (arith, ring_takes, rings_take, points_take, sizes_of)
+size_by_body g is = grind (arith, ring_takes, points_take, sizes_of)
 
 -- a geometry without a fault takes its header and its parts
 pub size_of_parts : (g : Geometry) → fault g ≡ None → byte_size g ≡ 5 + size_by_parts g
