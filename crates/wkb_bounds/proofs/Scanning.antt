@@ -1,10 +1,13 @@
 -- What is said of the bounds of a geometry that the check found.
 use Rattle.std.proofs.Common.{◌≡◌, ℕ, ◌<◌, List, Ok, refl, arith, nat_lt, true, lt-ltb}
 use Rattle.wkb_geom.specs.Reading.{type_kind}
+use Rattle.wkb_geom.specs.declared.code.TheConstants.{POLYGON}
+use Rattle.wkb_geom.specs.declared.common.Dimension.TheVariants.{Xy}
+use Rattle.wkb_laws.specs.Prelude.{Value, Spelling, node}
 use Rattle.wkb_check.specs.declared.answer.Summary.{Summary}
 use Rattle.wkb_check.specs.Known.{HasGeometry}
 use Rattle.wkb_check.specs.declared.pieces.Piece.{Piece}
-use Rattle.wkb_check.specs.Pieces.{IsPieceAt}
+use Rattle.wkb_check.specs.Pieces.{IsPieceAt, piece_of, HeaderIs}
 use Rattle.wkb_check.specs.Public.{Checks, DescribesFront}
 use Rattle.wkb_check.proofs.Ahead.{found_header, piece_by}
 use Rattle.wkb_check.proofs.Joining.{geometry_of_front}
@@ -30,3 +33,8 @@ pub found_low : {buf : List ℕ} {found : Summary} → DescribesFront buf found 
 found_low f p is low =
     let g = geometry_of_front f.front in
     lt-ltb p.kind 3 (omega (arith, (piece_by 0 g.spelled g.value (found_header f refl refl g) p (is g)).kind_is))
+
+-- the header of a polygon of x and y, by its piece
+pub polygon_header : (s : Spelling) (t : Value) (p : Piece) → p ≡ piece_of 0 s t → p.kind ≡ POLYGON → p.dimension ≡ Xy
+    → HeaderIs s t POLYGON Xy p.order p.srid
+polygon_header (node h words ss) t p is three plane = grind arith

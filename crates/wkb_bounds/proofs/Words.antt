@@ -20,10 +20,11 @@ use Rattle.wkb_bounds.specs.Ordinates.{words_on, words_on_each}
 use Rattle.wkb_check.specs.Known.{HasGeometry}
 use Rattle.wkb_bounds.specs.Bounded.{on, nothing, AreBounds}
 use Rattle.wkb_check.specs.Pieces.{pieces_of, piece_of, own_end, IsRing, IsAhead, IsTaken, IsNext, Steps}
+use Rattle.wkb_check.specs.Pieces.{OnlyMember}
 use Rattle.wkb_check.specs.declared.pieces.Pieces.{Pieces}
 use Rattle.wkb_bounds.proofs.Widening.{widened-append}
 use Rattle.wkb_check.proofs.Placing.{only_piece}
-use Rattle.wkb_check.specs.Subjects.{Subject, dimension_in, subject_coordinates, subjects, subjects_of_rings}
+use Rattle.wkb_check.specs.Subjects.{Subject, whole, dimension_in, subject_coordinates, subjects, subjects_of_rings}
 use Rattle.wkb_check.specs.Subjects.{subjects_of_each}
 use Rattle.wkb_check.proofs.Subjects.{piece_coordinates, ArePiecesOf, pieces_match}
 
@@ -107,6 +108,21 @@ mutual
       (ap (λ q. widened q (words_of_each (subject_words a) (subjects_of_each ss ts)))
       (value_words a s t h.front h.first.0 r) ∙ members_words a w ss ts h.rest h.second (widened r (words_on a t)))
   members_words a w _ _ x h r = absurd h
+
+no_subject_words : (a : Axis) (s : Spelling) (t : Value) → nat_lt (kind t) 4 ≡ false
+    → subject_words a (whole s t) ≡ []
+no_subject_words a s t high = grind arith
+
+-- a geometry with one member has the bounds of that member
+pub member_bounds : {buf bytes : List ℕ} (g : HasGeometry buf) (only : OnlyMember g.spelled g.value bytes) (b : Bounds)
+    → AreBounds b only.member.value → AreBounds b g.value
+member_bounds g only b are a =
+    let m = only.member in
+    are a ∙ sym (value_words a m.spelled m.value m.begins.front m.begins.first no_numbers)
+    ∙ ap (λ ws. widened no_numbers (ws ++ words_of_each (subject_words a) (subjects m.spelled m.value)))
+    (sym (no_subject_words a g.spelled g.value only.high))
+    ∙ ap (λ xs. widened no_numbers (words_of_each (subject_words a) xs)) (sym only.are)
+    ∙ value_words a g.spelled g.value g.begins.front g.begins.first no_numbers
 
 -- the words of all pieces
 all_words : (a : Axis) (buf : List ℕ) (g : HasGeometry buf)

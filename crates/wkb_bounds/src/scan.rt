@@ -131,6 +131,25 @@ fn found_bounds_into(buf: &[u8], found: &Summary, bounds: &mut Bounds)
         WkbType::Polygon(Dimension::Xy) => {
             rings_bounds_into(buf, found.order, found.srid, bounds);
         }
+        _ => match Piece::outermost(buf, found).only_member(buf) {
+            Some(member) => member_bounds_into(member, bounds),
+            None => front_bounds_into(buf, bounds),
+        },
+    }
+}
+
+/// Writes the bounds of a geometry that is known to be there: those of the one whose only member it is.
+#[inline(never)]
+fn member_bounds_into(buf: &[u8], bounds: &mut Bounds)
+    requires here { HasGeometry buf.now }
+    ensures { (g : HasGeometry buf.now) → AreBounds bounds.new g.value }
+{
+    let first = Piece::of_geometry(buf, 0);
+    if first.has_coordinates() {
+        return piece_bounds_into(buf, &first, bounds);
+    }
+    match (first.kind, first.dimension) {
+        (POLYGON, Dimension::Xy) => rings_bounds_into(buf, first.order, first.srid, bounds),
         _ => front_bounds_into(buf, bounds),
     }
 }

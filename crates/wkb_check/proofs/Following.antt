@@ -1,17 +1,18 @@
 -- The pieces that are to come, one after another.
 use Rattle.std.proofs.Common.{rules, ◌≡◌, ◌≢◌, ℕ, ◌+◌, ◌-◌, ◌<◌, ◌≤◌, List, [], ◌∷◌, ◌++◌, length, drop, refl, sym, ap}
 use Rattle.std.proofs.Common.{◌∙◌, subst, arith, append-nil, append_assoc, length-drop, lt-ltb, le-ltb}
-use Rattle.std.specs.Prelude.{Some, None}
+use Rattle.std.specs.Prelude.{Some, None, nat_lt}
 use Rattle.std.specs.Iterator.{MakesProgress, Yields, at_most}
 use Rattle.wkb_laws.specs.Prelude.{Endianness, Dimension, number, any}
 use Rattle.wkb_check.specs.Known.{HasGeometry, decoded_rings}
-use Rattle.wkb_check.specs.Subjects.{subjects, subjects_of_rings, subjects_of_each}
+use Rattle.wkb_check.specs.Subjects.{whole, subjects, subjects_of_rings, subjects_of_each}
 use Rattle.wkb_check.specs.Pieces.{Ahead, own_end, ring_piece, last_end, subject_pieces, pieces_of, first_rings, IsPieceAt}
 use Rattle.wkb_check.specs.Pieces.{IsInside, IsAhead, HasAhead, Takes, Steps, bytes_left, AreRings, IsRing}
+use Rattle.wkb_check.specs.Pieces.{piece_of, OnlyMember}
 use Rattle.wkb_check.specs.declared.pieces.Piece.{Piece}
 use Rattle.wkb_check.specs.declared.pieces.Pieces.{Pieces}
 use Rattle.wkb_check.proofs.Placing.{First, alone, first_one, Inside, leaf_inside, rings_inside}
-use Rattle.wkb_check.proofs.Placing.{members_inside, inner, itself_first, own_inside, begun_at}
+use Rattle.wkb_check.proofs.Placing.{members_inside, inner, itself_first, own_inside, begun_at, none_of, kind_of}
 use Rattle.wkb_check.proofs.Rings.{NextRing, next_ring}
 use Rattle.wkb_check.proofs.Joining.{few_geometries, joined}
 
@@ -155,6 +156,30 @@ module _ (w : Pieces) (ahead : HasAhead w) (none : w.rings ≡ 0) (some : 0 < w.
       omega (arith, few_geometries _ _ _ a.all, length-drop from w.bytes.now)
 
 pub ruleset piece_laws = (piece_inside, leaf_takes, polygon_takes, members_takes)
+
+-- a geometry with one member, by its piece
+module _ (buf : List ℕ) (g : HasGeometry buf) (p : Piece) (is : p ≡ piece_of 0 g.spelled g.value) (high : 3 < p.kind)
+  where
+    member_end : p.offset ≡ own_end p
+    member_end = rw (le-ltb p.kind 3 (omega (arith, high))) refl
+
+    pub member_begins : p.offset ≤ length buf
+    member_begins = omega (arith, (own_inside buf 0 _ g p is member_end).inside)
+
+    pub member_alone : p.count ≡ 1 → OnlyMember g.spelled g.value (drop p.offset buf)
+    member_alone one =
+        let i = members_inside buf 0 g p is p.offset member_end (le-ltb p.kind 3 (omega (arith, high)))
+        (λ three. absurd (omega (arith, high, three))) p.order p.dimension in
+        let f = first_one p.count 0 _ _ i.all one in
+        let none = ap (subjects_of_each f.others.spelled) (none_of f.others.values f.others.counted) in
+        let only = subjects f.geometry.spelled f.geometry.value in
+        record {
+          high = ap (λ k. nat_lt k 4) (sym (kind_of buf 0 g p is)) ∙ le-ltb p.kind 4 (omega (arith, high));
+          member = f.geometry;
+          are = itself_first g.spelled g.value
+              ∙ ap (λ xs. whole g.spelled g.value ∷ xs)
+              (i.are ∙ f.are ∙ ap (λ xs. only ++ xs) none ∙ append-nil only);
+        }
 
 -- ---- the iterator
 

@@ -366,7 +366,7 @@ piece_kind at (node h words ss) t = refl
 
 module _ (buf : List ℕ) (at : ℕ) (g : HasGeometry (drop at buf)) (p : Piece)
     (is : p ≡ piece_of at g.spelled g.value) where
-  kind_of : p.kind ≡ kind g.value
+  pub kind_of : p.kind ≡ kind g.value
   kind_of = ap (λ (q : Piece). q.kind) is ∙ piece_kind at g.spelled g.value
 
   pub leaf_of : nat_lt p.kind 3 ≡ true → inner g.spelled g.value ≡ []

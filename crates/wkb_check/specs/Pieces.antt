@@ -56,6 +56,16 @@ piece_of at (node h words ss) t = record {
 abbrev pub IsPieceAt : List ℕ → ℕ → Piece → Type 0
 IsPieceAt buf at p = (g : HasGeometry (drop at buf)) → p ≡ piece_of at g.spelled g.value
 
+-- a geometry has one member and no rings: the one at the start of these bytes
+pub record OnlyMember (s : Spelling) (t : Value) (bytes : List ℕ) : Type 0 where
+  pub high : nat_lt (kind t) 4 ≡ false
+  pub member : HasGeometry bytes
+  pub are : subjects s t ≡ whole s t ∷ subjects member.spelled member.value
+
+-- whatever geometry the first bytes begin with, it is so
+abbrev pub IsOnlyMember : List ℕ → List ℕ → Type 0
+IsOnlyMember buf bytes = (g : HasGeometry buf) → OnlyMember g.spelled g.value bytes
+
 -- the kind, the dimension, the order and the SRID are those of the header of a geometry
 pub record HeaderIs (s : Spelling) (t : Value) (k : ℕ) (d : Dimension) (order : Endianness) (srid : Option ℕ)
     : Type 0 where

@@ -6,7 +6,8 @@ ghost use Rattle.wkb_geom.specs.Numbers.{number};
 ghost use Rattle.wkb_geom.specs.Reading.{type_kind};
 ghost use Rattle.wkb_check.specs.Known.{HasGeometry};
 ghost use Rattle.wkb_check.specs.Pieces.{own_end, ring_piece, IsPieceAt, IsHeaderAt, HasAhead, HasAll, IsBehind};
-ghost use Rattle.wkb_check.specs.Pieces.{Takes, TakesOrStays, Steps, AreRings, IsBareNext, IsRing, bytes_left};
+ghost use Rattle.wkb_check.specs.Pieces.{Takes, TakesOrStays, Steps, AreRings, IsBareNext, IsRing, IsOnlyMember};
+ghost use Rattle.wkb_check.specs.Pieces.{bytes_left};
 ghost use Rattle.wkb_check.specs.Public.{DescribesFront};
 
 use crate::answer::Summary;
@@ -129,6 +130,19 @@ impl Piece {
         Piece::of_header(bytes, 0, POLYGON, dimension, found.order, found.srid)
     }
 
+    /// The bytes from its member on, if it begins a geometry at the start of the bytes that has one member and no more.
+    #[inline(always)]
+    pub fn only_member<'a>(&self, bytes: &'a [u8]) -> Option<&'a [u8]>
+        requires here { HasGeometry bytes.now }
+        requires first { IsPieceAt bytes.now 0 self.now }
+        ensures { IfSome result (λ member. IsOnlyMember bytes.now member.now) }
+    {
+        if self.kind <= POLYGON || self.count != 1 {
+            return None;
+        }
+        Some(rest_from(bytes, self.offset))
+    }
+
     /// The ring that begins at this byte, of a polygon of this order and dimension.
     #[inline(always)]
     pub fn of_ring(bytes: &[u8], begin: usize, order: Endianness, dimension: Dimension) -> Piece
@@ -240,6 +254,19 @@ impl<'a> Pieces<'a> {
         ensures steps { Steps self.old result self.new }
         ensures ring { IfSome result (IsRing self.old.order self.old.dimension) }
         ensures rings { AreRings self.old.order self.old.dimension self.new }
+    {
+        if self.rings > 0 {
+            Some(self.next_ring())
+        } else {
+            None
+        }
+    }
+
+    /// The next piece, if it is a ring. Geometries may follow the rings.
+    #[inline(always)]
+    pub fn next_of_rings(&mut self) -> Option<Piece>
+        requires ahead { HasAhead self.old }
+        ensures { TakesOrStays self.old result self.new }
     {
         if self.rings > 0 {
             Some(self.next_ring())

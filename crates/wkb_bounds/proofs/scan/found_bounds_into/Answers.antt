@@ -1,7 +1,8 @@
 use Rattle.std.proofs.Common.{sym, ap, rules}
 use Rattle.wkb_geom.specs.Reading.{type_kind}
-use Rattle.wkb_check.proofs.Ahead.{found_header}
+use Rattle.wkb_check.proofs.Ahead.{found_header, here}
 use Rattle.wkb_bounds.proofs.Scanning.{found_low}
+use Rattle.wkb_bounds.proofs.Words.{member_bounds}
 use Rattle.wkb_bounds.proofs.scan.found_bounds_into.Goals as goal
 
 pub piece_bounds_into-requires-clause-low : goal.piece_bounds_into-requires-clause-low
@@ -11,3 +12,10 @@ piece_bounds_into-requires-clause-low c =
 pub rings_bounds_into-requires-clause-header : goal.rings_bounds_into-requires-clause-header
 rings_bounds_into-requires-clause-header c =
     found_header c.requires (sym (ap type_kind c.in-Polygon-Xy.is)) (search (rules))
+
+pub member_bounds_into-requires : goal.member_bounds_into-requires
+member_bounds_into-requires c = record { here = (c.in-Some.ensures (here c.requires)).member }
+
+pub returns-in-Some : goal.returns-in-Some
+returns-in-Some c = λ g.
+    let only = c.in-Some.ensures g in member_bounds g only _ (c.member_bounds_into.ensures only.member)
