@@ -1,12 +1,12 @@
 -- The encoding is laid piece by piece.
 use Rattle.std.proofs.Common.{◌≡◌, ℕ, ◌+◌, ◌≤◌, List, [], ◌++◌, length, sym, ap, ◌∙◌, arith, length-append, nat_lt}
-use Rattle.std.proofs.Common.{true, append-nil, refl, map}
+use Rattle.std.proofs.Common.{true, append-nil, refl, map, Some, subst}
 use lib.Seq.{sets}
 use Rattle.wkb_laws.specs.Prelude.{Endianness, Form, inner, encoding, geometry_of}
 use Rattle.wkb_check.specs.declared.pieces.Piece.{Piece}
 use Rattle.wkb_check.specs.declared.pieces.Pieces.{Pieces}
 use Rattle.wkb_check.specs.Known.{HasGeometry}
-use Rattle.wkb_check.specs.Pieces.{own_end, IsPieceAt, IsTaken, pieces_of}
+use Rattle.wkb_check.specs.Pieces.{own_end, IsPieceAt, IsTaken, Steps, pieces_of}
 use Rattle.wkb_check.proofs.Placing.{sets_after, only_piece, own_inside}
 use Rattle.wkb_check.specs.declared.answer.Summary.{Summary}
 use Rattle.wkb_check.specs.Public.{DescribesFront}
@@ -17,7 +17,7 @@ use Rattle.wkb_rewrite.proofs.Comparing.{encoded}
 use Rattle.wkb_check.proofs.Ahead.{here}
 use Rattle.wkb_rewrite.proofs.Encodings.{shares_encoding}
 use Rattle.wkb_rewrite.proofs.Spelled.{pieces_say}
-use Rattle.wkb_rewrite.proofs.Walks.{Rest, Next}
+use Rattle.wkb_rewrite.proofs.Walks.{Rest, Next, next_taken}
 use Rattle.wkb_rewrite.proofs.Laying.{laid_length}
 
 -- what is left to be laid makes of the slice what all makes of it
@@ -34,6 +34,10 @@ module _ {buf : List ℕ} {order : Endianness} {form : Form} {w : Pieces} {at : 
   pub left_none : l.shares ≡ [] → (at ≡ length whole) × (out ≡ sets before 0 whole)
   left_none none = grind arith
 
+  -- a walk that stayed where it was has as much left
+  pub left_still : {new : Pieces} → new ≡ w → Left buf order form new at out before whole
+  left_still e = subst (λ v. Left buf order form v at out before whole) (sym e) l
+
   module _ {new : Pieces} {p : Piece} (n : Next buf new l.shares p) where
     abbrev pub own : List ℕ
     own = share_encoding order form (share_in buf p)
@@ -44,10 +48,10 @@ module _ {buf : List ℕ} {order : Endianness} {form : Form} {w : Pieces} {at : 
     all : shares_encoding order form l.shares ≡ own ++ others
     all = ap (shares_encoding order form) n.first
 
-    pub left_room : length whole ≤ length before → at + length own ≤ length out
+    left_room : length whole ≤ length before → at + length own ≤ length out
     left_room room = omega (arith, ap length all, length-append own others)
 
-    pub left_next : {to : ℕ} {with : List ℕ} → IsLaidAt out with at to own
+    left_next : {to : ℕ} {with : List ℕ} → IsLaidAt out with at to own
         → Left buf order (inner form) new to with before whole
     left_next {to = to} p = record {
       shares = n.others;
@@ -57,6 +61,17 @@ module _ {buf : List ℕ} {order : Endianness} {form : Form} {w : Pieces} {at : 
           ∙ l.laid;
       long = laid_length p ∙ l.long;
     }
+
+  -- there is room for the next piece
+  pub next_fits : {new : Pieces} {p : Piece} → Steps w (Some p) new → length whole ≤ length before
+      → record { inside : own_end p ≤ length buf; room : HasRoomAt out at (share_encoding order form (share_in buf p)) }
+  next_fits s room = let n = next_taken l.rest s in record { inside = n.own; room = left_room n room }
+
+  -- behind the first piece the form stays the same
+  pub left_inside : inner form ≡ form → {new : Pieces} {p : Piece} → Steps w (Some p) new → {to : ℕ} {with : List ℕ}
+      → IsLaidAt out with at to (share_encoding order form (share_in buf p))
+      → Left buf order form new to with before whole
+  left_inside same s laid = rw same at (left_next (next_taken l.rest s) laid)
 
 -- the first piece comes first, and then the others are left
 module _ {buf : List ℕ} (order : Endianness) (form : Form) (g : HasGeometry buf) {w : Pieces} {p : Piece}

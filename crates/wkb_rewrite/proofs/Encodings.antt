@@ -22,6 +22,9 @@ shares_encoding order form (x ∷ xs) = share_encoding order form x ++ shares_en
 pub inner_twice : (form : Form) → inner (inner form) ≡ inner form
 inner_twice form = grind arith
 
+pub inner_again : (form : Form) {own : Form} → own ≡ inner form → inner own ≡ own
+inner_again form is = ap inner is ∙ inner_twice form ∙ sym is
+
 -- inside a geometry the form stays the same, so that shares can be encoded list by list
 pub shares_append : (order : Endianness) (form : Form) (xs ys : List Share) → inner form ≡ form
     → shares_encoding order form (xs ++ ys) ≡ shares_encoding order form xs ++ shares_encoding order form ys

@@ -67,31 +67,53 @@ pub fn lay_pieces(buf: &[u8], options: WriteOptions, out: &mut [u8]) -> usize
     ensures size { IsFrontSize buf.now options.endianness options.form result }
     ensures laid { LaysFront buf.now options out.old out.new }
 {
+    let first = Piece::of_geometry(buf, 0);
     let WriteOptions { endianness, form } = options;
     by_order!(
         endianness,
-        lay_each_piece(buf, WriteOptions { endianness, form }, out)
+        lay_each_piece(buf, &first, WriteOptions { endianness, form }, out)
     )
 }
 
-/// As `lay_pieces`, in an order that is a constant where this is inlined.
+/// The order that isn't this one.
+#[inline(always)]
+fn other(order: Endianness) -> Endianness {
+    match order {
+        Endianness::BigEndian => Endianness::LittleEndian,
+        Endianness::LittleEndian => Endianness::BigEndian,
+    }
+}
+
+/// As `lay_pieces`, by the first piece, in an order that is a constant where this is inlined. Plain headers in the
+/// other order, and the rings behind them, have code of their own, where that order is a constant, too.
 #[tactic(auto, using(wkb_check::proofs::Following::fewer_left))]
 #[inline(always)]
-fn lay_each_piece(buf: &[u8], options: WriteOptions, out: &mut [u8]) -> usize
+fn lay_each_piece(buf: &[u8], first: &Piece, options: WriteOptions, out: &mut [u8]) -> usize
     requires here { HasGeometry buf.now }
+    requires first { IsPieceAt buf.now 0 first.now }
     requires room { FrontFits buf.now options out.old }
     ensures size { IsFrontSize buf.now options.endianness options.form result }
     ensures laid { LaysFront buf.now options out.old out.new }
 {
-    let mut at = 0;
-    let endianness = options.endianness;
-    let mut form = options.form;
-    let mut pieces = Pieces::of(buf);
-    while let Some(piece) = pieces.next() {
-        at = lay_piece(buf, &piece, WriteOptions { endianness, form }, out, at);
-        form = form.inner();
+    let WriteOptions { endianness, form } = options;
+    let mut pieces = Pieces::behind(buf, first);
+    let mut at = lay_piece(buf, first, options, out, 0);
+    let inner = WriteOptions {
+        endianness,
+        form: form.inner(),
+    };
+    loop {
+        if let Some(piece) = pieces.next_bare(other(endianness)) {
+            at = lay_piece(buf, &piece, inner, out, at);
+            while let Some(ring) = pieces.next_of_rings() {
+                at = lay_piece(buf, &ring, inner, out, at);
+            }
+        } else if let Some(piece) = pieces.next() {
+            at = lay_piece(buf, &piece, inner, out, at);
+        } else {
+            return at;
+        }
     }
-    at
 }
 
 /// As `lay_pieces`, for the geometry in which the check found this. Where all that follows its header stands as it is

@@ -1,42 +1,83 @@
-use Rattle.std.proofs.Common.{arith, ap, length, refl}
-use lib.Seq.{sets}
-use Rattle.wkb_rewrite.proofs.Encodings.{shares_encoded}
-use Rattle.wkb_rewrite.proofs.Walks.{all_to_come, next_taken, none_taken}
-use Rattle.wkb_rewrite.proofs.Encoded.{left_room, left_next, left_none}
+use Rattle.std.proofs.Common.{arith}
+use Rattle.wkb_check.proofs.Following.{fewer_left}
+use Rattle.wkb_rewrite.proofs.Encodings.{inner_again}
+use Rattle.wkb_rewrite.proofs.Walks.{none_taken, some_ahead, stepped}
+use Rattle.wkb_rewrite.proofs.Encoded.{left_inside, left_none, left_still, next_fits, first_room, first_left}
 use Rattle.wkb_rewrite.proofs.encoding.lay_each_piece.Goals as goal
+
+pub lay_piece-at-requires-clause-room : goal.lay_piece-at-requires-clause-room
+lay_piece-at-requires-clause-room c =
+    let here = c.requires.here in
+    first_room c.args.options.endianness c.args.options.form here (c.behind-pieces.ensures.steps here) _
+    (c.requires.room here)
 
 pub loop-piece-init : goal.loop-piece-init
 loop-piece-init c = λ g.
-    let all = shares_encoded c.args.options.endianness c.args.options.form g.spelled g.value g.begins.front
-    g.begins.first in
+    let behind = c.behind-pieces.ensures in
+    rw c.inner.ensures
+    (first_left c.args.options.endianness c.args.options.form g (behind.steps g) behind.same c.lay_piece-at.ensures)
+
+-- ---- a geometry with a plain header, and its rings
+
+pub next_bare-requires : goal.next_bare-requires
+next_bare-requires c = record { ahead = some_ahead (c.loop-piece.invariant c.requires.here).rest }
+
+pub lay_piece-at-requires-in-Some : goal.lay_piece-at-requires-in-Some
+lay_piece-at-requires-in-Some c =
+    let here = c.requires.here in
+    next_fits (c.loop-piece.invariant here) (stepped c.in-Some.ensures.taken) (c.requires.room here)
+
+pub loop-ring-init : goal.loop-ring-init
+loop-ring-init c = record {
+  left = λ g.
+      left_inside (c.loop-piece.invariant g) (inner_again c.args.options.form c.inner.ensures)
+      (stepped c.in-Some.ensures.taken) c.lay_piece-at-in-Some.ensures;
+  fewer = omega arith;
+}
+
+pub next_of_rings-requires : goal.next_of_rings-requires
+next_of_rings-requires c = record { ahead = some_ahead (c.loop-ring.invariant.left c.requires.here).rest }
+
+pub lay_piece-at-requires-in-Some-next_of_rings : goal.lay_piece-at-requires-in-Some-next_of_rings
+lay_piece-at-requires-in-Some-next_of_rings c =
+    let here = c.requires.here in
+    next_fits (c.loop-ring.invariant.left here) (stepped c.in-Some-next_of_rings.ensures) (c.requires.room here)
+
+pub loop-ring-preserved : goal.loop-ring-preserved
+loop-ring-preserved c =
+    let s = stepped c.in-Some-next_of_rings.ensures in
     record {
-      shares = _;
-      rest = all_to_come g (c.of-pieces.ensures.ahead g) c.of-pieces.ensures.same;
-      size = omega (arith, ap length all);
-      laid = ap (sets c.args.out.now 0) all;
-      long = refl;
+      left = λ g.
+          left_inside (c.loop-ring.invariant.left g) (inner_again c.args.options.form c.inner.ensures) s
+          c.lay_piece-at-in-Some-next_of_rings.ensures;
+      fewer = omega (arith, c.loop-ring.invariant.fewer, fewer_left s);
     }
 
-pub lay_piece-at-requires : goal.lay_piece-at-requires
-lay_piece-at-requires c =
+-- ---- any other piece
+
+pub next-requires : goal.next-requires
+next-requires c =
     let l = c.loop-piece.invariant c.requires.here in
-    let next = next_taken l.rest c.in-Some.ensures.steps in
-    record { inside = next.own; room = left_room l next (c.requires.room c.requires.here) }
+    some_ahead (left_still l (c.next_bare.ensures.taken.stays c.in_default.is)).rest
+
+pub lay_piece-at-requires-in-Some-next : goal.lay_piece-at-requires-in-Some-next
+lay_piece-at-requires-in-Some-next c =
+    let here = c.requires.here in
+    let l = left_still (c.loop-piece.invariant here) (c.next_bare.ensures.taken.stays c.in_default.is) in
+    next_fits l c.in-Some-next.ensures.steps (c.requires.room here)
 
 pub loop-piece-preserved : goal.loop-piece-preserved
 loop-piece-preserved c = λ g.
-    let l = c.loop-piece.invariant g in
-    rw c.inner-form.ensures (left_next l (next_taken l.rest c.in-Some.ensures.steps) c.lay_piece-at.ensures)
+    let l = left_still (c.loop-piece.invariant g) (c.next_bare.ensures.taken.stays c.in_default.is) in
+    left_inside l (inner_again c.args.options.form c.inner.ensures) c.in-Some-next.ensures.steps
+    c.lay_piece-at-in-Some-next.ensures
 
-pub returns-clause-size : goal.returns-clause-size
-returns-clause-size c = λ g.
-    let l = c.loop-piece.invariant g in
-    (left_none l (none_taken l.rest c.in_default.is c.next.ensures.steps)).0
+pub returns-in_default-next-clause-size : goal.returns-in_default-next-clause-size
+returns-in_default-next-clause-size c = λ g.
+    let l = left_still (c.loop-piece.invariant g) (c.next_bare.ensures.taken.stays c.in_default.is) in
+    (left_none l (none_taken l.rest c.in_default-next.is c.next.ensures.steps)).0
 
-pub returns-clause-laid : goal.returns-clause-laid
-returns-clause-laid c = λ g.
-    let l = c.loop-piece.invariant g in
-    (left_none l (none_taken l.rest c.in_default.is c.next.ensures.steps)).1
-
-pub loop-piece-init-derived : goal.loop-piece-init-derived
-loop-piece-init-derived c = (record { pieces = _; are = c.of-pieces.ensures.ahead c.requires.here }, tt)
+pub returns-in_default-next-clause-laid : goal.returns-in_default-next-clause-laid
+returns-in_default-next-clause-laid c = λ g.
+    let l = left_still (c.loop-piece.invariant g) (c.next_bare.ensures.taken.stays c.in_default.is) in
+    (left_none l (none_taken l.rest c.in_default-next.is c.next.ensures.steps)).1

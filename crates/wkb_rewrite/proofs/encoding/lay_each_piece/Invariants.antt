@@ -1,3 +1,4 @@
+use Rattle.std.specs.Prelude.{◌≤◌}
 use Rattle.wkb_laws.specs.Prelude.{geometry_of, encoding}
 use Rattle.wkb_check.specs.Known.{HasGeometry}
 use Rattle.wkb_check.specs.Pieces.{bytes_left}
@@ -9,5 +10,16 @@ decreases-loop-piece l = bytes_left l.pieces
 
 abbrev pub invariant-loop-piece : goal.invariant-loop-piece
 invariant-loop-piece l = (g : HasGeometry l.buf)
-    → Left l.buf l.fn.options.endianness l.form l.pieces l.at l.out l.initial.out
-    (encoding l.fn.options.endianness l.fn.options.form (geometry_of g.value))
+    → Left l.buf l.endianness l.inner.form l.pieces l.at l.out l.fn.out
+    (encoding l.endianness l.fn.options.form (geometry_of g.value))
+
+abbrev pub decreases-loop-ring : goal.decreases-loop-ring
+decreases-loop-ring l = bytes_left l.pieces
+
+abbrev pub invariant-loop-ring : goal.invariant-loop-ring
+invariant-loop-ring l = record {
+  left : (g : HasGeometry l.buf)
+      → Left l.buf l.endianness l.inner.form l.pieces l.at l.out l.fn.out
+      (encoding l.endianness l.fn.options.form (geometry_of g.value));
+  fewer : bytes_left l.pieces ≤ bytes_left l.initial.pieces;
+}

@@ -1,8 +1,6 @@
-use Rattle.std.proofs.Common.{◌≡◌, ap, sym, ◌∙◌}
-use Rattle.wkb_laws.specs.Prelude.{inner}
-use Rattle.wkb_rewrite.proofs.Encodings.{inner_twice}
-use Rattle.wkb_rewrite.proofs.Walks.{next_taken, none_taken, some_ahead}
-use Rattle.wkb_rewrite.proofs.Encoded.{left_room, left_next, left_none, first_room, first_left}
+use Rattle.wkb_rewrite.proofs.Encodings.{inner_again}
+use Rattle.wkb_rewrite.proofs.Walks.{none_taken, some_ahead}
+use Rattle.wkb_rewrite.proofs.Encoded.{next_fits, left_inside, left_none, first_room, first_left}
 use Rattle.wkb_rewrite.proofs.encoding.lay_rings.Goals as goal
 
 pub lay_piece-at-requires-clause-room : goal.lay_piece-at-requires-clause-room
@@ -29,17 +27,14 @@ next_if_ring-requires c =
 
 pub lay_piece-at-requires-in-Some : goal.lay_piece-at-requires-in-Some
 lay_piece-at-requires-in-Some c =
-    let l = c.loop-ring.invariant.left c.requires.here in
-    let next = next_taken l.rest c.in-Some.ensures.steps in
-    record { inside = next.own; room = left_room l next (c.requires.room c.requires.here) }
+    let here = c.requires.here in
+    next_fits (c.loop-ring.invariant.left here) c.in-Some.ensures.steps (c.requires.room here)
 
 pub loop-ring-preserved : goal.loop-ring-preserved
 loop-ring-preserved c = record {
   left = λ g.
-      let l = c.loop-ring.invariant.left g in
-      let again : inner c.inner.result ≡ c.inner.result =
-      ap inner c.inner.ensures ∙ inner_twice c.args.options.form ∙ sym c.inner.ensures in
-      rw again at (left_next l (next_taken l.rest c.in-Some.ensures.steps) c.lay_piece-at-in-Some.ensures);
+      left_inside (c.loop-ring.invariant.left g) (inner_again c.args.options.form c.inner.ensures)
+      c.in-Some.ensures.steps c.lay_piece-at-in-Some.ensures;
   alone = c.next_if_ring.ensures.rings.alone;
 }
 
