@@ -1,21 +1,24 @@
 -- Words and ends that are written one after another, and how far they go.
-use Rattle.wkb_abi.proofs.Common.{◌≡◌, ℕ, suc, ◌+◌, ◌*◌, ◌≤◌, ◌<◌, ◌^◌, List, [], ◌∷◌, ◌++◌, length, drop}
+use Rattle.wkb_abi.proofs.Common.{◌≡◌, ℕ, zero, suc, ◌+◌, ◌*◌, ◌≤◌, ◌<◌, ◌^◌, List, [], ◌∷◌, ◌++◌, length, drop}
 use Rattle.wkb_abi.proofs.Common.{slice_index, refl, ap, sym, ◌∙◌, arith, append_assoc, append-nil, length-append}
 use Rattle.wkb_abi.proofs.Common.{drop-drop, Dimension, width, number, Coordinate, Spelling, node, Spellings}
 use Rattle.wkb_abi.proofs.Common.{no_spellings, spelling, Value, Values, no_members, member, members, dimension}
 use Rattle.wkb_abi.proofs.Common.{sets, length-sets, Endianness, HasGeometry, Piece, levels_of, Totals, Subject}
-use Rattle.wkb_abi.proofs.Common.{subjects, subjects_of_each}
+use Rattle.wkb_abi.proofs.Common.{subjects, subjects_of_each, kind, subst, false, set}
 use Rattle.std.specs.Prelude.{sum, flat_map, nat_lt, Bool, cond}
+use Rattle.std.proofs.Common.{length-set}
 use Rattle.std.proofs.lemmas.List.Sums.{sum_by-cons, sum_by-append}
 use Rattle.std.proofs.lemmas.Option.{slice_get-get_or}
 use Rattle.wkb_geom.specs.Items.{length-items}
-use Rattle.wkb_geom.specs.Reading.{coordinate, coordinates}
+use Rattle.wkb_geom.specs.Reading.{coordinate, coordinates, items}
+use Rattle.wkb_laws.proofs.OneFront.{one_spelling}
 use Rattle.wkb_laws.proofs.Parts.{item_at}
 use Rattle.wkb_check.specs.Pieces.{piece_at, subject_pieces, own_end, all_pieces, IsAhead, IsTaken, IsPieceAt}
+use Rattle.wkb_check.specs.Pieces.{OnlyMember}
 use Rattle.wkb_check.specs.declared.pieces.Pieces.{Pieces}
 use Rattle.wkb_check.proofs.Placing.{sets_after, itself_first}
 use Rattle.wkb_abi.specs.Coordinates.{words_asked, asked_subject_words, ring_counts, single_counts, ends, totals_after}
-use Rattle.wkb_abi.specs.Coordinates.{LevelLists, with_levels}
+use Rattle.wkb_abi.specs.Coordinates.{LevelLists, with_levels, HasRoomUpTo}
 use Rattle.wkb_abi.specs.LevelLists.{AreSameSlices, HasRoomFor, LaysLevels}
 use Rattle.wkb_abi.specs.declared.level_slices.LevelSlices.{LevelSlices}
 use Rattle.wkb_abi.specs.PieceLevels.{ring_sizes, single_sizes, piece_words, PieceFits, with_piece, totals_with}
@@ -47,6 +50,56 @@ pub words_next : {asked own : Dimension} {order : Endianness} {row all : List �
     → WordsLeft asked own order row all m to next new
 words_next {asked} {own} {order} {row} {m = m} {from} {at = at} {next} {out} left some to_is next_is new_is =
     grind (arith, asked_length, length-sets, drop-drop, width, sets_after)
+
+-- n words are still to be written as they come
+pub record PlainLeft (order : Endianness) (row all : List ℕ) (n from at : ℕ) (out : List ℕ) : Type 0 where
+  pub inside : from + 8 * n ≤ length row
+  pub room : at + n ≤ length out
+  pub written : sets out at (items 8 (number order 8) n (drop from row)) ≡ all
+
+pub plain_next : {order : Endianness} {row all : List ℕ} {n m from to at next : ℕ} {out new : List ℕ}
+    → PlainLeft order row all n from at out → n ≡ suc m → to ≡ from + 8 → next ≡ at + 1
+    → new ≡ set out at (number order 8 (drop from row)) → PlainLeft order row all m to next new
+plain_next {order} {row} {m = m} {from} {to} {at} {next} {out} left some to_is next_is new_is =
+    let behind : drop 8 (drop from row) ≡ drop to row = drop-drop 8 from row ∙ ap (λ k. drop k row) (sym to_is) in
+    let first : items 8 (number order 8) (suc m) (drop from row)
+    ≡ number order 8 (drop from row) ∷ items 8 (number order 8) m (drop to row) =
+    ap (λ ys. number order 8 (drop from row) ∷ items 8 (number order 8) m ys) behind in
+    let further : next ≡ suc at = omega (arith, next_is) in
+    record {
+      inside = omega arith;
+      room = omega (arith, ap length new_is, length-set out at (number order 8 (drop from row)));
+      written = (λ i. sets (new_is i) (further i) (items 8 (number order 8) m (drop to row)))
+          ∙ ap (sets out at) (sym (ap (λ k. items 8 (number order 8) k (drop from row)) some ∙ first)) ∙ left.written;
+    }
+
+items_append : (order : Endianness) (m n : ℕ) (bytes : List ℕ)
+    → items 8 (number order 8) m bytes ++ items 8 (number order 8) n (drop (8 * m) bytes)
+    ≡ items 8 (number order 8) (m + n) bytes
+items_append order zero n bytes = grind arith
+items_append order (suc m) n bytes =
+    let long : 8 + 8 * m ≡ 8 * suc m = omega arith in
+    let many : suc (m + n) ≡ suc m + n = omega arith in
+    ap (λ ys. items 8 (number order 8) (suc m) bytes ++ items 8 (number order 8) n ys)
+    (ap (λ k. drop k bytes) (sym long) ∙ sym (drop-drop (8 * m) 8 bytes))
+    ∙ ap (λ ys. number order 8 bytes ∷ ys) (items_append order m n (drop 8 bytes))
+    ∙ ap (λ k. items 8 (number order 8) k bytes) many
+
+own_words : (order : Endianness) (d : Dimension) (bytes : List ℕ)
+    → words_asked d d (coordinate order d bytes) ≡ coordinate order d bytes
+own_words order d bytes = grind arith
+
+-- the words of coordinates that are asked for as they are
+pub plain_words : (order : Endianness) (d : Dimension) (n : ℕ) (bytes : List ℕ)
+    → flat_map (words_asked d d) (coordinates order d n bytes) ≡ items 8 (number order 8) (width d * n) bytes
+plain_words order d zero bytes = let none : width d * 0 ≡ 0 = omega arith in rw none refl
+plain_words order d (suc n) bytes =
+    let many : width d + width d * n ≡ width d * suc n = omega arith in
+    ap (λ ws. ws ++ flat_map (words_asked d d) (coordinates order d n (drop (8 * width d) bytes)))
+    (own_words order d bytes)
+    ∙ ap (λ ws. coordinate order d bytes ++ ws) (plain_words order d n (drop (8 * width d) bytes))
+    ∙ items_append order (width d) (width d * n) bytes
+    ∙ ap (λ k. items 8 (number order 8) k bytes) many
 
 -- ---- ends
 
@@ -315,3 +368,52 @@ module _ {asked : Dimension} {row : List ℕ} {from at : Totals} {before out : L
   -- and where no piece is left it ends
   pub walk_ends : ((ps : List Piece) → IsAhead w ps → ps ≡ []) → LaysLevels asked row from before out
   walk_ends none = λ g. let l = walk.left g in rw (none l.ps l.ahead) at l.left
+
+-- ---- a geometry with one member
+
+-- it gives no level anything itself
+nothing_own : (asked : Dimension) (s : Spelling) (t : Value) → nat_lt (kind t) 4 ≡ false
+    → (ring_counts (whole s t) ≡ []) × (single_counts (whole s t) ≡ []) × (asked_subject_words asked (whole s t) ≡ [])
+nothing_own asked s t high = grind arith
+
+module _ {buf bytes : List ℕ} (g : HasGeometry buf) (only : OnlyMember g.spelled g.value bytes) (from : Totals)
+    (asked : Dimension) where
+  abbrev its : List Subject
+  its = subjects only.member.spelled only.member.value
+
+  all_its : (f : Subject → List ℕ) → f (whole g.spelled g.value) ≡ []
+      → flat_map f (subjects g.spelled g.value) ≡ flat_map f its
+  all_its f none = ap (flat_map f) only.are ∙ ap (λ ns. ns ++ flat_map f its) none
+
+  rings : flat_map ring_counts (subjects g.spelled g.value) ≡ flat_map ring_counts its
+  rings = all_its ring_counts (nothing_own asked g.spelled g.value only.high).0
+
+  singles : flat_map single_counts (subjects g.spelled g.value) ≡ flat_map single_counts its
+  singles = all_its single_counts (nothing_own asked g.spelled g.value only.high).1
+
+  -- so its levels are those of its member
+  pub member_levels : (out : LevelLists)
+      → with_levels asked its from out ≡ with_levels asked (subjects g.spelled g.value) from out
+  member_levels out =
+      let words = all_its (asked_subject_words asked) (nothing_own asked g.spelled g.value only.high).2 in
+      λ i. record {
+        words = sets out.words (width asked * from.coordinates) (sym words i);
+        ring_ends = sets out.ring_ends from.rings (ends from.coordinates (sym rings i));
+        single_ends = sets out.single_ends from.singles (ends from.rings (sym singles i));
+      }
+
+  -- and there is room for the one where there is for the other
+  pub member_fits : (out : LevelLists) → HasRoomUpTo asked out (totals_after from (subjects g.spelled g.value))
+      → (m : HasGeometry bytes) → HasRoomUpTo asked out (totals_after from (subjects m.spelled m.value))
+  member_fits out room m =
+      let own = only.member in
+      let same = one_spelling own.spelled m.spelled own.value m.value own.begins.front m.begins.front own.rest m.rest
+      own.begins.first m.begins.first (sym own.begins.whole ∙ m.begins.whole) in
+      let after : totals_after from (subjects g.spelled g.value) ≡ totals_after from its =
+      λ i. record {
+        coordinates = end_of from.coordinates (sum (rings i));
+        rings = end_of from.rings (length (rings i));
+        singles = end_of from.singles (length (singles i));
+      } in
+      subst (HasRoomUpTo asked out)
+      (after ∙ (λ i. totals_after from (subjects (same.spelling i) (same.value i)))) room

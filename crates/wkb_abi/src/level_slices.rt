@@ -3,7 +3,8 @@
 ghost use Rattle.std.specs.Prelude.{◌≡◌, ◌+◌, ◌*◌, ◌^◌, ◌<◌, ◌≤◌, ◌&&◌, length, sum, drop, slice_index, IsTrue, false};
 ghost use lib.Seq.{sets};
 ghost use Rattle.wkb_geom.specs.Dimensions.{width};
-ghost use Rattle.wkb_geom.specs.Reading.{coordinate};
+ghost use Rattle.wkb_geom.specs.Numbers.{number};
+ghost use Rattle.wkb_geom.specs.Reading.{coordinate, items};
 ghost use Rattle.wkb_geom.specs.declared.code.TheConstants.{POLYGON};
 ghost use Rattle.wkb_check.specs.Known.{HasGeometry};
 ghost use Rattle.wkb_check.specs.Pieces.{IsPieceAt};
@@ -122,6 +123,18 @@ fn lay_ordered(
     }
 }
 
+/// Writes words of this order as they come. Where the order is little endian this is compiled to one copy.
+#[inline(always)]
+fn lay_words(bytes: &[u8], words: usize, order: Endianness, out: &mut [u64], start: usize)
+    requires inside { 8 * words ≤ length bytes.now }
+    requires room { start + words ≤ length out.old }
+    ensures { out.new ≡ sets out.old start (items 8 (number order 8) words bytes.now) }
+{
+    for k in 0..words {
+        out[start + k] = u64_at(bytes, k * WORD_SIZE, order);
+    }
+}
+
 /// As `lay_many_coordinates`, of one coordinate. It is inlined, so that a point takes no call.
 #[inline(always)]
 fn lay_one_coordinate(
@@ -139,9 +152,9 @@ fn lay_one_coordinate(
     by_order!(order, lay_ordered(bytes, 1, order, own, asked, out, start))
 }
 
-/// Writes the words that are asked for of `count` coordinates. The order is a constant in each loop, and where xy, xyz or
-/// xyzm is both there and asked for, the dimensions are, too. It takes scalars, so that its callers need no piece in
-/// memory.
+/// Writes the words that are asked for of `count` coordinates. The order is a constant in each loop, and in big endian
+/// the dimensions are, too, where xy, xyz or xyzm is both there and asked for. It takes scalars, so that its callers need
+/// no piece in memory.
 #[inline(never)]
 fn lay_many_coordinates(
     bytes: &[u8],
@@ -158,12 +171,12 @@ fn lay_many_coordinates(
 {
     use Dimension::{Xy, Xyz, Xyzm};
     use Endianness::{BigEndian as Big, LittleEndian as Little};
+    if order == Little && own == asked {
+        return lay_words(bytes, own.width() * count as usize, Little, out, start);
+    }
     match (order, own, asked) {
-        (Little, Xy, Xy) => lay_ordered(bytes, count, Little, Xy, Xy, out, start),
         (Big, Xy, Xy) => lay_ordered(bytes, count, Big, Xy, Xy, out, start),
-        (Little, Xyz, Xyz) => lay_ordered(bytes, count, Little, Xyz, Xyz, out, start),
         (Big, Xyz, Xyz) => lay_ordered(bytes, count, Big, Xyz, Xyz, out, start),
-        (Little, Xyzm, Xyzm) => lay_ordered(bytes, count, Little, Xyzm, Xyzm, out, start),
         (Big, Xyzm, Xyzm) => lay_ordered(bytes, count, Big, Xyzm, Xyzm, out, start),
         (Little, _, _) => lay_ordered(bytes, count, Little, own, asked, out, start),
         (Big, _, _) => lay_ordered(bytes, count, Big, own, asked, out, start),
@@ -278,7 +291,8 @@ fn lay_piece_levels(
     lay_single(piece, at, out.single_ends);
 }
 
-/// Writes the levels of a row from the totals on, for which there is room, by its first piece.
+/// Writes the levels of a row from the totals on, for which there is room, by its first piece. Those of a geometry with
+/// one member are those of that member.
 #[inline(always)]
 pub fn lay_levels(
     row: &[u8],
@@ -293,8 +307,25 @@ pub fn lay_levels(
     ensures levels { LaysLevels asked row.now from out.old out.new }
     ensures same_slices { AreSameSlices out.old out.new }
 {
+    match first.only_member(row) {
+        Some(member) => lay_by_kind(member, &Piece::of_geometry(member, 0), from, asked, out),
+        None => lay_by_kind(row, first, from, asked, out),
+    }
+}
+
+/// As `lay_levels`, of a geometry that may have more members.
+#[inline(always)]
+fn lay_by_kind(row: &[u8], first: &Piece, from: Totals, asked: Dimension, out: &mut LevelSlices<'_>)
+    requires here { HasGeometry row.now }
+    requires first { IsPieceAt row.now 0 first.now }
+    requires room { HasRoomFor asked row.now from out.old }
+    ensures levels { LaysLevels asked row.now from out.old out.new }
+    ensures same_slices { AreSameSlices out.old out.new }
+{
     if first.has_coordinates() {
         lay_piece_levels(row, first, asked, from, out);
+    } else if first.kind == POLYGON {
+        lay_rings(row, first, from, asked, out);
     } else {
         lay_walked(row, first, from, asked, out);
     }

@@ -1,18 +1,19 @@
-use Rattle.wkb_abi.proofs.Common.{arith, sym, ◌∙◌}
-use Rattle.wkb_check.proofs.Placing.{only_piece}
-use Rattle.wkb_abi.proofs.Levels.{first_fits, levels_fill}
+use Rattle.wkb_abi.proofs.Common.{levels_of, ◌∙◌}
+use Rattle.wkb_abi.proofs.Levels.{member_levels, member_fits}
 use Rattle.wkb_abi.proofs.level_slices.lay_levels.Goals as goal
 
-pub lay_piece_levels-requires : goal.lay_piece_levels-requires
-lay_piece_levels-requires c =
-    first_fits _ _ _ c.args.out.now c.requires.room (omega arith) (omega arith) (omega arith) c.requires.first
-    c.requires.here
+pub of_geometry-requires : goal.of_geometry-requires
+of_geometry-requires c = record { here = (c.in-Some.ensures c.requires.here).member }
 
-pub returns-then-has_coordinates-clause-levels : goal.returns-then-has_coordinates-clause-levels
-returns-then-has_coordinates-clause-levels c = λ g.
-    let a = c.args in
-    let left = levels_fill a.asked a.row.now a.from a.out.now c.requires.room (omega arith) (omega arith) (omega arith)
-    g in
-    c.lay_piece_levels.ensures.laid
-    ∙ (rw (only_piece a.row.now 0 g a.first.now (c.requires.first g)
-    (sym c.has_coordinates.ensures ∙ c.if-has_coordinates.true)) at left).1
+pub lay_by_kind-requires-clause-here : goal.lay_by_kind-requires-clause-here
+lay_by_kind-requires-clause-here c = (c.in-Some.ensures c.requires.here).member
+
+pub lay_by_kind-requires-clause-room : goal.lay_by_kind-requires-clause-room
+lay_by_kind-requires-clause-room c =
+    let g = c.requires.here in
+    member_fits g (c.in-Some.ensures g) c.args.from c.args.asked (levels_of c.args.out.now) (c.requires.room g)
+
+pub returns-in-Some-clause-levels : goal.returns-in-Some-clause-levels
+returns-in-Some-clause-levels c = λ g.
+    let only = c.in-Some.ensures g in
+    c.lay_by_kind.ensures.levels only.member ∙ member_levels g only c.args.from c.args.asked (levels_of c.args.out.now)
