@@ -37,12 +37,6 @@ module _ {A : Type 0} (many : A → ℕ) (whole : List A → List ℕ → Item) 
       ≡ walked (sum_by many) r t
   whole_walked n bytes r t = grind arith
 
-  pub list_walked : (part : List ℕ → Reading A) (k : ℕ) (l : Layout) (bytes start : List ℕ) (n : ℕ)
-      → n ≡ count_in l bytes → body_start l.has_srid + 4 ≤ length bytes → start ≡ parts_start l.has_srid bytes
-      → (t : Tally)
-      → walked total (list_at k l part whole bytes) t ≡ walked (sum_by many) (repeated n part start) t
-  list_walked part k l bytes start n counts long at t = grind arith
-
 -- ---- the sums
 
 mapped_sum : {A B : Type 0} (f : B → ℕ) (g : A → B) (l : List A) → sum_by f (map g l) ≡ sum_by (λ a. f (g a)) l
@@ -59,7 +53,7 @@ pub polygon_passes : (l : Layout) (bytes start : List ℕ) (n : ℕ) (r : Result
     → n ≡ count_in l bytes → body_start l.has_srid + 4 ≤ length bytes → start ≡ parts_start l.has_srid bytes
     → Passes r (rings_walked l n start) old new → Passes r (polygon_walked l bytes) old new
 unfolding polygon_at
-polygon_passes l bytes start n r old new counts long at h = grind (arith, as_walked, list_walked, mapped_sum)
+polygon_passes l bytes start n r old new counts long at h = grind (arith, as_walked, mapped_sum)
 
 abbrev multi_with : MemberKind → Layout → List Item → List ℕ → Item
 multi_with kinds.Point l = list_item l multi_point_with

@@ -1,5 +1,5 @@
 -- The loop over the open collections: what is looked at, and what is ahead of it.
-use Rattle.std.proofs.Common.{◌≡◌, ℕ, zero, suc, ◌+◌, ◌-◌, ◌<◌, ◌≤◌, List, [], ◌∷◌, length, take, slice_set, sum_by}
+use Rattle.std.proofs.Common.{◌≡◌, ℕ, zero, suc, ◌+◌, ◌-◌, ◌<◌, ◌≤◌, List, [], ◌∷◌, length, slice_set, sum_by}
 use Rattle.std.proofs.lemmas.List.{length-reverse}
 use Rattle.std.proofs.lemmas.List.Sums.{sum_by-cons}
 use Rattle.wkb_geom.specs.declared.code.WkbType.{WkbType}
@@ -11,17 +11,17 @@ use Rattle.wkb_geom.specs.declared.header.Layout.{Layout}
 use Rattle.wkb_geom.specs.Fronts.{max_nesting}
 use Rattle.wkb_geom.specs.Reading.{Item, values, list_item, collection_with, layout_of, body_start, parts_start}
 use Rattle.wkb_geom.specs.Reading.{count_in, HasNoCount, list_at, type_kind, Reading, done, point_item_of, costs}
-use Rattle.wkb_geom.specs.Reading.{slots_of, and_then, polygon_item, consumed, body_at, then_body, geometry_inside}
+use Rattle.wkb_geom.specs.Reading.{slots_of, and_then, polygon_item, consumed, body_at, geometry_inside}
 unfoldable use Rattle.wkb_geom.specs.Reading.{geometry_at, by_type, point_at, line_string_at, polygon_at, head_at}
-use Rattle.std.proofs.Common.{Bor, Result, Ok, Err, refl, sym, ◌∙◌, arith, length-take, slice_index_or, replicate, Bool}
+use Rattle.std.proofs.Common.{Bor, Result, Ok, Err, refl, sym, arith, length-take, slice_index_or, replicate, Bool}
 unfoldable use Rattle.wkb_geom.specs.Reading.{collection_at}
 use Rattle.wkb_geom.specs.Counted.{coordinate_count_each}
 use Rattle.wkb_check.specs.declared.nested.OpenCounts.{OpenCounts}
 use Rattle.wkb_check.specs.declared.walk.Walk.{Walk}
 use Rattle.wkb_check.specs.Passes.{open_counts, IsFollowed, Passes, PassesOrOpens}
 use Rattle.wkb_check.specs.Walked.{type_walked, body_walked, inside_walked, Tally, Walked, walked, onward}
-use Rattle.wkb_check.specs.Walked.{item_coordinates, coordinates_by, body_within, ahead_of}
-use Rattle.wkb_check.proofs.Counting.{no_count, list_walked}
+use Rattle.wkb_check.specs.Walked.{item_coordinates, coordinates_by, ahead_of}
+use Rattle.wkb_check.proofs.Counting.{no_count}
 use Rattle.wkb_check.proofs.Closing.{top_set, top_is, none_left}
 
 values_sum : (l : List Item) → coordinate_count_each (values l) ≡ sum_by item_coordinates l
@@ -49,26 +49,17 @@ module _ (u : Tally) (l : Layout) (bytes : List ℕ) where
   unfolding point_at line_string_at polygon_at
   kind_same collection t = grind arith
 
-by_header : (room : ℕ) (bytes : List ℕ) (read : Result Head Cause) → head_at bytes ≡ read
-    → geometry_at room bytes
-    ≡ then_body bytes read (λ h. body_within room h.wkb_type (layout_of h) bytes)
-unfolding geometry_at by_type
-by_header room bytes read e = grind arith
-
 pub with_header : (around : ℕ) (bytes : List ℕ) (h : Head) (t : Tally) → head_at bytes ≡ Ok h
     → inside_walked around bytes t ≡ body_walked around h bytes t
-with_header around bytes h t e = rw (by_header (max_nesting - around) bytes (Ok h) e) (grind (arith, kind_same))
+unfolding geometry_at by_type
+with_header around bytes h t e = grind (arith, kind_same)
 
 pub without_header : (around : ℕ) (bytes : List ℕ) (c : Cause) (t : Tally) → head_at bytes ≡ Err c
     → inside_walked around bytes t ≡ Err (t.0, (c, length bytes))
-without_header around bytes c t e = rw (by_header (max_nesting - around) bytes (Err c) e) (grind arith)
+unfolding geometry_at by_type
+without_header around bytes c t e = grind arith
 
 -- ---- the open collections
-
--- as many counts as collections are open
-as_many : (left : List ℕ) (depth : ℕ) → length left ≡ max_nesting → depth ≤ max_nesting
-    → length (open_counts left depth) ≡ depth
-as_many left depth len shallow = length-reverse (take depth left) ∙ omega (arith, length-take depth left)
 
 module _ (depth : ℕ) (h : Head) (d : Dimension) (l : Layout) (bytes : List ℕ)
     (is : h.wkb_type ≡ kinds.GeometryCollection d) (l-is : l ≡ layout_of h) (shallow : depth < max_nesting) where
@@ -84,7 +75,8 @@ module _ (depth : ℕ) (h : Head) (d : Dimension) (l : Layout) (bytes : List ℕ
       → body_start l.has_srid + 4 ≤ length bytes → start ≡ parts_start l.has_srid bytes
       → onward (body_walked depth h bytes (turns, passed)) (ahead_of (open_counts left depth))
       ≡ ahead_of (open_counts (slice_set left depth n) (depth + 1)) (turns, passed) start
-  opens left start n turns passed len counts long at = grind (arith, top_set, behind, list_walked, values_sum, as_many)
+  opens left start n turns passed len counts long at =
+      grind (arith, top_set, behind, values_sum, length-reverse, length-take)
 
   pub opens_none : (turns passed : ℕ) (c : Cause) → HasNoCount l bytes c
       → body_walked depth h bytes (turns, passed) ≡ Err (turns, (c, length bytes))
@@ -125,7 +117,7 @@ module _ (left next bytes : List ℕ) (depth deep turns passed : ℕ) (reached w
     (settled : IsFollowed (open_counts left depth) (open_counts next deep)) (len : length next ≡ max_nesting)
     (shallow : deep ≤ max_nesting) where
   begun : onward (inside_walked deep bytes (turns + 1, passed)) (ahead_of (open_counts next deep)) ≡ whole
-  begun = grind (arith, as_many)
+  begun = grind (arith, length-reverse, length-take)
 
   pub next_begins : (h : Head) → head_at bytes ≡ Ok h
       → onward (body_walked deep h bytes (turns + 1, passed)) (ahead_of (open_counts next deep)) ≡ whole

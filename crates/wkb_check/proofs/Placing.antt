@@ -92,13 +92,9 @@ end_append at (x ∷ xs) ys = end_append (own_end (piece_at at x)) xs ys
 begins_onward : (at : ℕ) (x : Subject) → at < (piece_at at x).offset
 begins_onward at x = grind arith
 
-own_behind : (p : Piece) → p.offset ≤ own_end p
-own_behind p = cond_both (nat_lt p.kind 3) _ _ (λ e. p.offset ≤ e) (λ _. omega arith) (λ _. omega arith)
-
 pub end_onward : (at : ℕ) (xs : List Subject) → at ≤ last_end at xs
 end_onward at [] = omega arith
-end_onward at (x ∷ xs) =
-    omega (arith, begins_onward at x, own_behind (piece_at at x), end_onward (own_end (piece_at at x)) xs)
+end_onward at (x ∷ xs) = grind (arith, begins_onward, cond_both, end_onward (own_end (piece_at at x)) xs)
 
 -- they end where the bytes do that spell them
 rings_end : (order : Endianness) (d : Dimension) (at : ℕ) (rings : List (List Coordinate)) (bytes : List ℕ)
@@ -357,17 +353,14 @@ own_inside buf at to g p is ends = record {
 
 -- what is inside bytes ends further on
 pub onward : (buf : List ℕ) (from to : ℕ) (p : Piece) → IsInside buf from to p → from < to
-onward buf from to p i = omega (arith, i.begins, i.ends, own_behind p)
+onward buf from to p i = grind (arith, cond_both)
 
 -- ---- by the piece that was read
-
-piece_kind : (at : ℕ) (s : Spelling) (t : Value) → (piece_of at s t).kind ≡ kind t
-piece_kind at (node h words ss) t = refl
 
 module _ (buf : List ℕ) (at : ℕ) (g : HasGeometry (drop at buf)) (p : Piece)
     (is : p ≡ piece_of at g.spelled g.value) where
   pub kind_of : p.kind ≡ kind g.value
-  kind_of = ap (λ (q : Piece). q.kind) is ∙ piece_kind at g.spelled g.value
+  kind_of = grind arith
 
   pub leaf_of : nat_lt p.kind 3 ≡ true → inner g.spelled g.value ≡ []
   leaf_of low = leaf g.spelled g.value (ap (λ k. nat_lt k 3) (sym kind_of) ∙ low)

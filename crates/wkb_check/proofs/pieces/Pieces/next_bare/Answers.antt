@@ -1,4 +1,4 @@
-use Rattle.std.proofs.Common.{arith}
+use Rattle.std.proofs.Common.{arith, rules}
 use Rattle.wkb_check.proofs.Ahead.{bare_header}
 use Rattle.wkb_check.proofs.Following.{geometry_there}
 use Rattle.wkb_check.proofs.pieces.Pieces.next_bare.Goals as goal
@@ -9,7 +9,4 @@ of_header-piece-requires-clause-here c =
     (omega (arith, c.if-self-eq0.false))
 
 pub of_header-piece-requires-clause-header : goal.of_header-piece-requires-clause-header
-of_header-piece-requires-clause-header c = λ g.
-    let bare = c.in_ok-kind.ensures in
-    bare_header c.args.self.now.bytes.now c.args.self.now.at g _ c.args.order _ c.rest_from.ensures bare.head bare.least
-    bare.most
+of_header-piece-requires-clause-header c = search (rules, bare_header, c.in_ok-kind.ensures, c.rest_from.ensures)

@@ -1,6 +1,6 @@
+use Rattle.std.proofs.Common.{rules}
 use Rattle.wkb_check.proofs.Following.{geometry_there}
 use Rattle.wkb_check.proofs.pieces.Pieces.next_geometry.Goals as goal
 
 pub of_geometry-piece-requires : goal.of_geometry-piece-requires
-of_geometry-piece-requires c =
-    record { here = geometry_there c.args.self.now c.requires.ahead.are c.requires.no_ring c.requires.some }
+of_geometry-piece-requires c = search (rules, geometry_there)
