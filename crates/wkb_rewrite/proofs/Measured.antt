@@ -1,5 +1,5 @@
 -- How long an encoding is, by the SRIDs of the pieces.
-use Rattle.std.proofs.Common.{◌≡◌, ℕ, ◌+◌, ◌*◌, ◌≤◌, List, [], ◌∷◌, ◌++◌, length, is_some, refl, sym, ap, ◌∙◌, arith}
+use Rattle.std.proofs.Common.{◌≡◌, ℕ, ◌+◌, ◌*◌, ◌≤◌, List, [], ◌∷◌, ◌++◌, length, is_some, refl, ap, ◌∙◌, arith}
 use Rattle.std.proofs.Common.{length-append}
 use Rattle.wkb_laws.specs.Prelude.{Endianness, Dimension, Form, Coordinate, AreBytes, Value, Values, no_members, member}
 use Rattle.wkb_laws.specs.Prelude.{dimension, members, Spelling, node, Spellings, no_spellings, spelling, Spells}
@@ -16,6 +16,7 @@ use Rattle.wkb_check.specs.Known.{HasGeometry}
 use Rattle.wkb_check.specs.Public.{DescribesFront}
 use Rattle.wkb_check.specs.Subjects.{Subject, rings_of, subjects, subjects_of_rings, subjects_of_each}
 use Rattle.wkb_check.specs.Pieces.{own_end, piece_of, ring_piece, piece_at, last_end, subject_pieces, pieces_of}
+use Rattle.wkb_check.specs.Pieces.{IsPieceAt}
 use Rattle.wkb_check.proofs.Ahead.{here, type_kind_is}
 use Rattle.wkb_rewrite.proofs.Comparing.{same_spelling, value_good}
 use Rattle.wkb_rewrite.proofs.Laying.{most_srid}
@@ -118,13 +119,7 @@ at_most order form buf g b =
       length-append g.begins.front g.rest,
     )
 
-piece_kind : (s : Spelling) (t : Value) → (piece_of 0 s t).kind ≡ kind t
-piece_kind (node h words ss) t = refl
-
 -- the kind of its first piece is that which was found
-pub kind_of : {buf : List ℕ} {found : Summary} → DescribesFront buf found → (g : HasGeometry buf) (p : Piece)
-    → p ≡ piece_of 0 g.spelled g.value
+pub kind_of : {buf : List ℕ} {found : Summary} → DescribesFront buf found → (p : Piece) → IsPieceAt buf 0 p
     → p.kind ≡ type_kind found.wkb_type
-kind_of d g p is =
-    ap (λ (q : Piece). q.kind) is ∙ piece_kind g.spelled g.value
-    ∙ sym (ap type_kind d.described.wkb_type ∙ type_kind_is d.value ∙ ap kind (same_spelling (here d) g refl).value)
+kind_of d p is = let there = is (here d) in grind (arith, type_kind_is)

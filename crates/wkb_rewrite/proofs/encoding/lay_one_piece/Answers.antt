@@ -1,14 +1,11 @@
 use Rattle.std.proofs.Common.{◌≡◌, arith, lt-ltb, nat_lt, true}
 use Rattle.wkb_rewrite.proofs.Encoded.{alone_fits, alone_laid}
 use Rattle.wkb_rewrite.proofs.Measured.{kind_of}
-use Rattle.wkb_check.proofs.Ahead.{here}
 use Rattle.wkb_rewrite.proofs.encoding.lay_one_piece.Goals as goal
 use Rattle.wkb_rewrite.proofs.encoding.lay_one_piece.Goals.{After-outermost-first}
 
 low : (c : After-outermost-first) → nat_lt c.outermost-first.result.kind 3 ≡ true
-low c =
-    let g = here c.requires.here in
-    lt-ltb _ 3 (omega (arith, kind_of c.requires.here g _ (c.outermost-first.ensures g)))
+low c = lt-ltb _ 3 (omega (arith, kind_of c.requires.here _ c.outermost-first.ensures))
 
 pub lay_piece-requires : goal.lay_piece-requires
 lay_piece-requires c =

@@ -1,23 +1,17 @@
-use Rattle.std.proofs.Common.{◌≡◌, arith, ap, length, refl, rules}
+use Rattle.std.proofs.Common.{arith, ap, length, refl, rules}
 use Rattle.wkb_check.proofs.Ahead.{here}
 use Rattle.wkb_check.specs.declared.pieces.Pieces.{Pieces}
 use Rattle.wkb_rewrite.proofs.Measured.{kind_of, long_of}
 use Rattle.wkb_rewrite.proofs.Copying.{polygon_stands}
 use Rattle.wkb_rewrite.proofs.encoding.lay_polygon.Goals as goal
-use Rattle.wkb_rewrite.proofs.encoding.lay_polygon.Goals.{After-polygon-first}
-
-polygon : (c : After-polygon-first) → c.polygon-first.result.kind ≡ 3
-polygon c =
-    let g = here c.requires.here in
-    omega (arith, kind_of c.requires.here g _ (c.polygon-first.ensures g))
 
 pub lay_rings-requires-clause-polygon : goal.lay_rings-requires-clause-polygon
-lay_rings-requires-clause-polygon c = polygon (goal.at.lay_rings-requires-clause-polygon c).After-polygon-first
+lay_rings-requires-clause-polygon c = omega (arith, kind_of c.requires.here _ c.polygon-first.ensures)
 
 pub lay_rings-requires-in-LittleEndian-BigEndian-clause-polygon :
     goal.lay_rings-requires-in-LittleEndian-BigEndian-clause-polygon
 lay_rings-requires-in-LittleEndian-BigEndian-clause-polygon c =
-    polygon (goal.at.lay_rings-requires-in-LittleEndian-BigEndian-clause-polygon c).After-polygon-first
+    omega (arith, kind_of c.requires.here _ c.polygon-first.ensures)
 
 pub behind_header-requires-clause-stands : goal.behind_header-requires-clause-stands
 behind_header-requires-clause-stands c = λ g.
@@ -32,8 +26,7 @@ behind_header-requires-clause-stands c = λ g.
       dimension = first.dimension;
     } in
     polygon_stands c.args.options walk (λ i. (c.type_inv.buf i).fits) c.polygon-first.ensures
-    (polygon (goal.at.behind_header-requires-clause-stands c).After-polygon-first) (search rules) g
-    (long_of c.requires.here g) refl
+    (omega (arith, kind_of c.requires.here first c.polygon-first.ensures)) (search rules) g (long_of c.requires.here g) refl
 
 pub lay-requires : goal.lay-requires
 lay-requires c =

@@ -5,12 +5,10 @@ use Rattle.wkb_rewrite.proofs.encoding.size_with_own_srid.Goals as goal
 
 pub returns-clause-size : goal.returns-clause-size
 returns-clause-size c = λ order g.
-    let p = c.outermost-first.result in
-    let first = c.outermost-first.ensures g in
     omega (
       arith,
       ap (λ o. srid_size (is_some o)) c.srid_of_form.ensures,
       measured order c.args.form c.args.buf.now g (λ i. (c.type_inv.buf i).fits) (long_of c.requires.here g),
-      own_srid_alone 0 g.spelled g.value g.begins.front g.begins.first p first
-          (omega (arith, kind_of c.requires.here g p first)),
+      own_srid_alone 0 g.spelled g.value g.begins.front g.begins.first _ (c.outermost-first.ensures g)
+          (omega (arith, kind_of c.requires.here _ c.outermost-first.ensures)),
     )
