@@ -8,13 +8,14 @@ use Rattle.wkb_abi.proofs.Common.{subjects_of_each}
 use Rattle.std.specs.Prelude.{sum, sum_by}
 use Rattle.std.proofs.lemmas.Grind.{flat_map-append}
 use Rattle.std.proofs.lemmas.List.Sums.{sum_by-cons, sum_by-append}
+use Rattle.std.proofs.Common.{rules}
 use Rattle.wkb_geom.specs.Values.{each}
 use Rattle.wkb_laws.proofs.OneFront.{one_spelling}
 use Rattle.wkb_geom.specs.Counted.{coordinate_count}
 use Rattle.wkb_check.specs.Pieces.{piece_of, IsPieceAt}
 use Rattle.wkb_abi.specs.Coordinates.{ring_counts, single_counts, AreTotals}
 use Rattle.wkb_abi.specs.PieceLevels.{ring_number, single_number}
-use Rattle.wkb_check.specs.Subjects.{ring, subjects_of_rings}
+use Rattle.wkb_check.specs.Subjects.{subjects_of_rings}
 
 -- these subjects have so many coordinates, rings and singles
 abbrev Count : List Subject → ℕ → ℕ → ℕ → Type 0
@@ -37,9 +38,7 @@ more x are c_is r_is s_is = grind (arith, sum_by-append, length-append)
 rings_count : (order : Endianness) (d : Dimension) (rings : List (List Coordinate))
     → Count (subjects_of_rings order d rings) (sum_by length rings) (length rings) 0
 rings_count order d [] = no_subject
-rings_count order d (cs ∷ rest) =
-    more (ring order d cs) (rings_count order d rest) (omega (arith, sum_by-cons length cs rest)) (omega arith)
-    (omega arith)
+rings_count order d (cs ∷ rest) = search (rules, more, sum_by-cons, rings_count order d rest)
 
 point_counts : (d : Dimension) (c : Option Coordinate) (s : Spelling) → Count (subjects s (point d c)) 1 1 1
 point_counts d c (node h words ss) = more _ no_subject (omega arith) (omega arith) (omega arith)

@@ -24,7 +24,7 @@ use Rattle.wkb_abi.specs.declared.level_slices.LevelSlices.{LevelSlices}
 use Rattle.wkb_abi.specs.PieceLevels.{ring_sizes, single_sizes, piece_words, PieceFits, with_piece, totals_with}
 use Rattle.wkb_abi.specs.RowItems.{end_of}
 use Rattle.wkb_check.proofs.Subjects.{ArePlaced, all_placed, says}
-use Rattle.wkb_check.specs.Subjects.{whole, subjects_of_rings, subject_coordinates, rings_of}
+use Rattle.wkb_check.specs.Subjects.{whole, subjects_of_rings, rings_of}
 
 -- ---- words
 
@@ -33,9 +33,6 @@ pub coordinate_word : (order : Endianness) (d : Dimension) (from n at : ℕ) (ro
     → at ≡ from + 8 * n → number order 8 (drop at row) ≡ slice_index (coordinate order d (drop from row)) n
 coordinate_word order d from n at row h is =
     grind (arith, number, drop-drop, item_at, width, slice_get-get_or, length-items)
-
-asked_length : (asked own : Dimension) (c : Coordinate) → length (words_asked asked own c) ≡ width asked
-asked_length asked own c = grind arith
 
 -- n coordinates are still to be written
 pub record WordsLeft (asked own : Dimension) (order : Endianness) (row all : List ℕ) (n from at : ℕ) (out : List ℕ)
@@ -49,7 +46,7 @@ pub words_next : {asked own : Dimension} {order : Endianness} {row all : List �
     → next ≡ at + width asked → new ≡ sets out at (words_asked asked own (coordinate order own (drop from row)))
     → WordsLeft asked own order row all m to next new
 words_next {asked} {own} {order} {row} {m = m} {from} {at = at} {next} {out} left some to_is next_is new_is =
-    grind (arith, asked_length, length-sets, drop-drop, width, sets_after)
+    grind (arith, length-sets, drop-drop, width, sets_after)
 
 -- n words are still to be written as they come
 pub record PlainLeft (order : Endianness) (row all : List ℕ) (n from at : ℕ) (out : List ℕ) : Type 0 where
@@ -134,10 +131,6 @@ pub record AreSmall (at : Totals) : Type 0 where
   pub rings : at.rings < 2 ^ 64
   pub singles : at.singles < 2 ^ 64
 
--- totals of the same numbers are the same
-same_totals : {a b : Totals} → a.coordinates ≡ b.coordinates → a.rings ≡ b.rings → a.singles ≡ b.singles → a ≡ b
-same_totals c r s = λ i. record { coordinates = c i; rings = r i; singles = s i }
-
 -- the totals after these pieces
 abbrev pub totals_behind : Totals → List Piece → Totals
 totals_behind at [] = at
@@ -146,13 +139,11 @@ totals_behind at (p ∷ ps) = totals_behind (totals_with at p) ps
 -- those after the pieces of subjects
 pub totals_reached : (begin : ℕ) (xs : List Subject) (at : Totals) → AreSmall at
     → totals_behind at (subject_pieces begin xs) ≡ totals_after at xs
-totals_reached begin [] at small = same_totals (omega arith) (omega arith) (omega arith)
+totals_reached begin [] at small = grind arith
 totals_reached begin (x ∷ xs) at small =
-    let own = own_sizes begin x in
-    totals_reached (own_end (piece_at begin x)) xs (totals_with at (piece_at begin x))
-    (record { coordinates = omega arith; rings = omega arith; singles = omega arith })
-    ∙ same_totals (omega (arith, ap sum own.0, sum_by-append (λ (n : ℕ). n)))
-    (omega (arith, ap length own.0, length-append {A = ℕ})) (omega (arith, ap length own.1, length-append {A = ℕ}))
+    let others = totals_reached (own_end (piece_at begin x)) xs (totals_with at (piece_at begin x))
+    (record { coordinates = omega arith; rings = omega arith; singles = omega arith }) in
+    grind (arith, own_sizes, sum_by-append, length-append)
 
 pub totals_next : {now : Pieces} {ps : List Piece} {p : Piece} {to all : Totals} (at : Totals) → IsTaken now ps p
     → to ≡ totals_with at p → totals_behind at ps ≡ all → Coming now (λ ps. totals_behind to ps ≡ all)
@@ -214,15 +205,11 @@ wide_enough d n = grind arith
 words_length : (asked own : Dimension) (cs : List Coordinate)
     → length (flat_map (words_asked asked own) cs) ≡ width asked * length cs
 words_length asked own [] = omega arith
-words_length asked own (c ∷ cs) = grind (arith, length-append, asked_length, words_length asked own cs)
-
--- a ring has as many coordinates as it counts, and nothing else has any
-subject_length : (x : Subject) → length (subject_coordinates x) ≡ sum (ring_counts x)
-subject_length x = grind arith
+words_length asked own (c ∷ cs) = grind (arith, length-append, words_length asked own cs)
 
 subject_words : (asked : Dimension) (x : Subject)
     → length (asked_subject_words asked x) ≡ width asked * sum (ring_counts x)
-subject_words asked x = grind (arith, words_length, width, subject_length)
+subject_words asked x = grind (arith, words_length, width)
 
 pub subjects_words : (asked : Dimension) (xs : List Subject)
     → length (flat_map (asked_subject_words asked) xs) ≡ width asked * sum (flat_map ring_counts xs)

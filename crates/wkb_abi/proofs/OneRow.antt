@@ -1,5 +1,5 @@
 -- What holds of one row of a column: it has one list of bytes, and no two answers.
-use Rattle.std.proofs.Common.{arith}
+use Rattle.std.proofs.Common.{arith, rules}
 use Rattle.wkb_abi.proofs.Common.{◌≡◌, ◌≢◌, ℕ, List, Some, None, IsAccepted, IsRow, IsRefusedWith, Column, Options}
 use Rattle.wkb_laws.proofs.Outcomes.{never_both_lem}
 use Rattle.wkb_abi.specs.Columns.{LacksRow, null_row, bad_offsets}
@@ -16,8 +16,7 @@ never_lacks is (bad_offsets some none is_status) = none _ is.slice
 
 -- what is accepted isn't rejected
 pub never_refused : {row : List ℕ} {status : ℕ} → IsAccepted row → IsRefusedWith row status → ⊥
-never_refused {row} a why =
-    let r = why.1 in never_both_lem row a.s a.t a.rest r.cause r.turns r.slots a.front r.refuses
+never_refused {row} a why = search (rules, never_both_lem)
 
 -- what is asked for is not nothing
 pub is_asked : (o : Options) (request : Request) → request_of o ≡ Some request → request_of o ≢ None

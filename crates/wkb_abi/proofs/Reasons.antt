@@ -13,18 +13,11 @@ TellsOther Fails = (i : ℕ) → Fails i NO_ROOM → ⊥
 refusal_tells_other : (row : List ℕ) → IsRefusedWith row NO_ROOM → ⊥
 refusal_tells_other row why = omega (arith, why.1.status_is, refusals why.1.cause)
 
-writing_tells_other : (o : Options) (row : List ℕ) → FailsToWrite o row NO_ROOM → ⊥
-writing_tells_other o row x = grind arith
-
-items_tell_other : {Fails : List ℕ → ℕ → Type 0} {c : Column} → ((row : List ℕ) → Fails row NO_ROOM → ⊥)
-    → TellsOther (RowFails Fails c)
-items_tell_other other i x = grind arith
-
 pub tables_tell_other : (c : Column) → TellsOther (RowFails IsRefusedWith c)
-tables_tell_other c = items_tell_other refusal_tells_other
+tables_tell_other c i x = grind (arith, refusal_tells_other)
 
 pub encodings_tell_other : (o : Options) (c : Column) → TellsOther (RowFails (FailsToWrite o) c)
-encodings_tell_other o c = items_tell_other (writing_tells_other o)
+encodings_tell_other o c i x = grind arith
 
 pub levels_tell_other : (c : LevelColumn) (asked : Option LevelTarget) → TellsOther (LacksLevels c asked)
 levels_tell_other c asked i x = grind arith

@@ -2,20 +2,20 @@
 use Rattle.wkb_abi.proofs.Common.{◌≡◌, ℕ, zero, suc, ◌+◌, ◌*◌, ◌≤◌, ◌<◌, ◌^◌, List, length, drop, Some, refl, sym, ap}
 use Rattle.wkb_abi.proofs.Common.{◌∙◌, subst, arith, Dimension, width, set, sets, sets-eq, length-sets, ◌-◌}
 use Rattle.wkb_abi.proofs.Common.{DescribesFront, Summary, IsRow, Column, Totals, OK, NO_ROOM, subjects}
-use Rattle.wkb_abi.proofs.Common.{length-append, append_assoc, levels_of}
+use Rattle.wkb_abi.proofs.Common.{length-append, append_assoc, levels_of, HasGeometry, here}
 use Rattle.std.specs.Prelude.{flat_map, take, sum, nat_lt, if◌then◌else◌}
-use Rattle.std.proofs.Common.{length-take, mul-add, lt-ltb}
+use Rattle.std.proofs.Common.{length-take, mul-add, lt-ltb, rules}
 use Rattle.std.proofs.lemmas.Bool.{le-ltb}
 use Rattle.std.proofs.lemmas.List.{take_at, drop_at, take-take, drop-take, length-take-le}
 use Rattle.std.proofs.lemmas.Slice.{drop-append-drop}
 use borrow.Author.Count.{below_more, below_none}
 use lib.Seq.{get_or-set_same, get_or-set_other}
 use Rattle.wkb_geom.specs.Codes.{dimension_of_thousands}
-use Rattle.wkb_abi.specs.Coordinates.{LevelLists, HasRoomUpTo, LevelsSuffice, totals_after, with_levels, ring_counts}
+use Rattle.wkb_abi.specs.Coordinates.{LevelLists, HasRoomUpTo, LevelsSuffice, totals_after, ring_counts}
 use Rattle.wkb_abi.specs.Coordinates.{no_totals, Level, of_words, of_rings, of_singles, list_of, many_in, items_of}
 use Rattle.wkb_abi.specs.Coordinates.{AreLaid, written, no_room, IsCoordinatesRow, handed, failed}
 use Rattle.wkb_abi.specs.Coordinates.{AreColumnCoordinates, IsCoordinatesStep}
-use Rattle.wkb_abi.specs.LevelLists.{LaysAny}
+use Rattle.wkb_abi.specs.LevelLists.{LaysAny, LaysLevels}
 use Rattle.wkb_abi.specs.RowItems.{HoldsItems, KeepsFrom, end_of}
 use Rattle.wkb_abi.specs.declared.level_slices.LevelSlices.{LevelSlices}
 use Rattle.wkb_abi.proofs.Levels.{AreSmall, ends_length, wide_enough, subjects_words}
@@ -79,7 +79,8 @@ pub unchanged : {c : Column} {dimension i status : ℕ} {from to : Totals} {out 
 unchanged row = record { row = row; long = λ k. refl; front = λ k asked named. refl; kept = λ k n far. refl }
 
 module _ {asked : Dimension} {row : List ℕ} {found : Summary} {from to : Totals} (before : LevelSlices)
-    (d : DescribesFront row found) (to_is : to ≡ totals_after from (subjects d.spelled d.value)) where
+    (d : DescribesFront row found)
+    (after_is : (g : HasGeometry row) → to ≡ totals_after from (subjects g.spelled g.value)) where
   -- what becomes of a row in which the check found this
   in_row : {c : Column} {dimension i status : ℕ} {out : LevelLists} → IsRow c i row
       → dimension_of_thousands dimension ≡ Some asked → AreLaid asked (subjects d.spelled d.value) status from to out
@@ -88,14 +89,15 @@ module _ {asked : Dimension} {row : List ℕ} {found : Summary} {from to : Total
       handed asked named row is (record { s = d.spelled; t = d.value; rest = d.rest; front = d.front }) laid
 
   pub lacks_row : (HasRoomUpTo asked (levels_of before) to → ⊥) → LaysAny asked row NO_ROOM from to before before
-  lacks_row short = λ c dimension i is named. unchanged (in_row is named (no_room refl to_is short))
+  lacks_row short = λ c dimension i is named. unchanged (in_row is named (no_room refl (after_is (here d)) short))
 
   pub laid_row : (after : LevelSlices) → length before.words.now < 2 ^ 63 → length before.ring_ends.now < 2 ^ 63
       → length before.single_ends.now < 2 ^ 63 → HasRoomUpTo asked (levels_of before) to
-      → levels_of after ≡ with_levels asked (subjects d.spelled d.value) from (levels_of before)
-      → LaysAny asked row OK from to before after
-  laid_row after words ring_ends single_ends room laid = λ c dimension i is named. record {
-    row = in_row is named (written refl to_is (λ k. rw (now k) (held_laid (old k) _ _ _ (many k) (room_at room k))));
+      → LaysLevels asked row from before after → LaysAny asked row OK from to before after
+  laid_row after words ring_ends single_ends room lays = λ c dimension i is named. record {
+    row =
+        in_row is named (written refl (after_is (here d))
+        (λ k. rw (now k) (held_laid (old k) _ _ _ (many k) (room_at room k))));
     long = λ k. ap length (now k) ∙ length-sets (old k) (many_in k asked from) (items k);
     front = λ k other named'.
         one_dimension (λ d. take (many_in k d from) (list_of k (levels_of after)) ≡ take (many_in k d from) (old k))
@@ -112,11 +114,11 @@ module _ {asked : Dimension} {row : List ℕ} {found : Summary} {from to : Total
       items k = items_of k asked (subjects d.spelled d.value) from
 
       now : (k : Level) → list_of k (levels_of after) ≡ sets (old k) (many_in k asked from) (items k)
-      now of_words = ap (λ out. out.words) laid
-      now k = ap (list_of k) laid
+      now of_words = ap (λ out. out.words) (lays (here d))
+      now k = ap (list_of k) (lays (here d))
 
       fits : (k : Level) → many_in k asked (totals_after from (subjects d.spelled d.value)) ≤ length (old k)
-      fits k = rw to_is at (room_at room k)
+      fits k = rw (after_is (here d)) at (room_at room k)
 
       -- where there is room, totals grow by as many as there are items
       many : (k : Level) → many_in k asked to ≡ many_in k asked from + length (items k)
@@ -125,9 +127,9 @@ module _ {asked : Dimension} {row : List ℕ} {found : Summary} {from to : Total
           let n = sum (flat_map ring_counts xs) in
           let end : end_of from.coordinates n ≡ from.coordinates + n =
           omega (arith, fits of_words, words, wide_enough asked (end_of from.coordinates n)) in
-          rw (to_is, subjects_words asked xs, ← mul-add) (ap (λ n. width asked * n) end)
-      many of_rings = rw to_is (omega (arith, fits of_rings, ring_ends, ends_length))
-      many of_singles = rw to_is (omega (arith, fits of_singles, single_ends, ends_length))
+          rw (after_is (here d), subjects_words asked xs, ← mul-add) (ap (λ n. width asked * n) end)
+      many of_rings = rw (after_is (here d)) (omega (arith, fits of_rings, ring_ends, ends_length))
+      many of_singles = rw (after_is (here d)) (omega (arith, fits of_singles, single_ends, ends_length))
 
       there : (k : Level) → many_in k asked from + length (items k) ≤ length (old k)
       there k = omega (arith, many k, room_at room k)
@@ -175,10 +177,7 @@ module _ {c : Column} {dimension : ℕ} {statuses row_ends : List ℕ} {out : Le
   end_at k asked i below = grind (arith, rise_at)
 
   pub levels_suffice : LevelsSuffice dimension out at rows statuses
-  levels_suffice asked named room i below =
-      row_lacks named (r.each i below)
-      (room_of asked before (r.at (suc i))
-      (λ k. omega (arith, end_at k asked (suc i) (omega (arith, below)), room_at room k, r.long k)))
+  levels_suffice asked named room i below = search (rules, row_lacks, room_of, end_at, room_at)
 
   -- a row more
   module _ {status : ℕ} {to : Totals} {after : LevelLists}

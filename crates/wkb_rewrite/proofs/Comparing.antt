@@ -1,5 +1,5 @@
 -- Values are equal exactly where their shares are.
-use Rattle.std.proofs.Common.{◌≡◌, ◌↔◌, ℕ, ◌&&◌, List, ◌∷◌, replicate, refl, sym, ap, ◌∙◌, subst, true, Bool}
+use Rattle.std.proofs.Common.{◌≡◌, ◌↔◌, ℕ, List, ◌∷◌, replicate, refl, sym, ap, ◌∙◌, subst, true}
 use Rattle.std.proofs.Common.{arith, zero, suc, ◌*◌, nat_lt, if◌then◌else◌}
 use Rattle.wkb_laws.specs.Prelude.{Endianness, Form, LittleEndian, Iso, AreBytes, encoding, geometry_of}
 use Rattle.wkb_laws.specs.Prelude.{all_nan, empty_word, width}
@@ -70,15 +70,10 @@ empty_is_nan : (n : ℕ) → all_nan (replicate n empty_word) ≡ true
 empty_is_nan zero = refl
 empty_is_nan (suc n) = empty_is_nan n
 
--- an empty point is known by the words that are written of it
-empty_by : (point empty : Bool) (n : ℕ) (own : List ℕ) → empty ≡ all_nan own
-    → (point && empty) ≡ (point && all_nan (if (point && empty) then replicate n empty_word else own))
-empty_by point empty n own e = grind (arith, empty_is_nan)
-
 pub empty_told : (a : List ℕ) (x : Piece) (b : List ℕ) (y : Piece) → x.kind ≡ y.kind
     → written_words a x ≡ written_words b y
     → is_empty_point a x ≡ is_empty_point b y
-empty_told a x b y k e = grind (arith, empty_by)
+empty_told a x b y k e = grind (arith, empty_is_nan)
 
 pub words_as_many : (x y : Piece) → x.kind ≡ y.kind → x.dimension ≡ y.dimension → x.count ≡ y.count
     → word_count x ≡ word_count y

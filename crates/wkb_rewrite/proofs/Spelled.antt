@@ -14,7 +14,7 @@ use Rattle.wkb_check.specs.declared.pieces.Piece.{Piece}
 use Rattle.wkb_check.specs.Pieces.{pieces_of}
 use Rattle.wkb_check.specs.Subjects.{Subject, whole, ring, rings_of, subject_coordinates, subjects, subjects_of_rings}
 use Rattle.wkb_check.specs.Subjects.{subjects_of_each}
-use Rattle.wkb_check.proofs.Subjects.{piece_coordinates, IsPieceOf, ArePiecesOf, pieces_match}
+use Rattle.wkb_check.proofs.Subjects.{IsPieceOf, ArePiecesOf, pieces_match}
 use Rattle.wkb_rewrite.specs.Shares.{Share, share_in, own_words}
 use Rattle.wkb_rewrite.proofs.ValueShares.{own_share, ring_share, shares_of, shares_of_each}
 
@@ -32,9 +32,6 @@ flat order d zero x = simp unary_clauses
 flat order d (suc n) x =
     simp (unary_clauses, items_more (number order 8) 8 (width d) (width d * n) x, flat order d n (drop (8 * width d) x))
 
-own_are : (buf : List ℕ) (p : Piece) → own_words buf p ≡ concat (piece_coordinates buf p)
-own_are buf p = grind (arith, flat)
-
 -- ---- one piece
 
 abbrev share_of : Subject → Share
@@ -47,7 +44,7 @@ written k n words = if (k == 1) && all_nan words then replicate n empty_word els
 
 module _ (buf : List ℕ) (p : Piece) where
   own : (x : Subject) → IsPieceOf buf p x → own_words buf p ≡ concat (subject_coordinates x)
-  own x m = own_are buf p ∙ ap concat m.coordinates_are
+  own x m = grind (arith, flat)
 
   share_is : (x : Subject) → IsPieceOf buf p x → share_in buf p ≡ share_of x
   unfolding point_words
