@@ -16,8 +16,7 @@ use Rattle.wkb_bounds.specs.declared.ranks.Ranks.{Ranks}
 use Rattle.wkb_bounds.specs.declared.run.Run.{Run}
 use Rattle.wkb_bounds.specs.declared.axes.AxisRanks.{AxisRanks}
 use Rattle.wkb_bounds.specs.Ranges.{with_word, widened, AreNumbers, AreRight, WidensRanks}
-use Rattle.wkb_bounds.specs.Ordinates.{Axis, axis_place, word_at, words_of_each}
-use Rattle.wkb_bounds.specs.Ordinates.{words_at, words_in, place_words}
+use Rattle.wkb_bounds.specs.Ordinates.{Axis, axis_place, word_at, words_of_each, words_at, words_in, place_words}
 use Rattle.wkb_bounds.specs.Bounded.{on, Widens, WidensBounds, WidensPlane, bounds_by}
 use Rattle.wkb_bounds.specs.Runs.{run_coordinates, rows, first_word, IsRun, IsBehindFirst}
 
@@ -112,9 +111,6 @@ pub no_ordinates : (p : Option ℕ) (r : Range) (cs : List Coordinate) → ((k :
     → r ≡ widened r (words_of_each (word_at p) cs)
 no_ordinates None r cs none = ap (widened r) (sym (no_column cs))
 no_ordinates (Some k) r cs none = absurd (none k refl)
-
-pub place_is : (width : ℕ) (p : Option ℕ) (k : ℕ) → p ≡ Some k → IfSome p (λ k. k < width) → k < width
-place_is width p k is within = subst (λ p. IfSome p (λ k. k < width)) is within
 
 pub place_there : (p : Option ℕ) (width : ℕ) {size : ℕ} → size ≡ 8 * width → IfSome p (λ k. k < width)
     → IfSome p (λ k. k < size / 8)

@@ -31,6 +31,7 @@ impl Range {
     }
 
     /// The range of the word at this place of the coordinate at the start of the bytes, if it has one there.
+    #[tactic(auto, using(crate::proofs::Widening::one_word_at))]
     #[inline(always)]
     fn of_ordinate(
         place: Option<usize>,

@@ -158,6 +158,7 @@ impl Ranks {
 
 impl Range {
     /// Widens the range by the word at this place of each coordinate, if they have one there.
+    #[tactic(auto, using(crate::proofs::Widening::no_ordinates))]
     #[inline(always)]
     pub(crate) fn widen_at(&mut self, place: Option<usize>, run: Run<'_>)
         requires place { IfSome place (λ k. k < run.size / 8) }

@@ -65,6 +65,4 @@ returns-in-Xy c = λ g a.
     (one_words a buf g p (c.requires.only g) c.requires.low))
 
 pub returns-in_default : goal.returns-in_default
-returns-in_default c = λ g a.
-    rw (c.coordinates_bounds_into.ensures a, on_nothing a, c.rest_from-bytes.ensures)
-    (one_words a c.args.buf.now g c.args.only.now (c.requires.only g) c.requires.low)
+returns-in_default c = grind (arith, on_nothing, one_words)

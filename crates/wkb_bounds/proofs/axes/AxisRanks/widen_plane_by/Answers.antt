@@ -1,4 +1,4 @@
-use Rattle.std.proofs.Common.{◌≡◌, arith, refl}
+use Rattle.std.proofs.Common.{◌≡◌, arith, refl, rules}
 use Rattle.wkb_bounds.specs.Ordinates.{x_axis, y_axis}
 use Rattle.wkb_bounds.proofs.Widening.{run_first, run_next, run_done}
 use Rattle.wkb_bounds.proofs.axes.AxisRanks.widen_plane_by.Goals as goal
@@ -12,13 +12,7 @@ loop-left-init c =
     }
 
 pub loop-left-preserved : goal.loop-left-preserved
-loop-left-preserved c =
-    let l = c.loop-left.invariant in
-    let behind = c.behind_first-left.ensures in
-    record {
-      x_left = run_next l.x_left c.first_word.ensures c.with-x.ensures behind;
-      y_left = run_next l.y_left c.first_word-in-loop-left.ensures c.with-y.ensures behind;
-    }
+loop-left-preserved c = search (rules, run_next)
 
 pub returns : goal.returns
 returns c =
