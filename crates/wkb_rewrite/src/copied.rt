@@ -97,6 +97,7 @@ impl<'a> Copied<'a> {
         )
     }
 
+    #[tactic(auto, using(crate::proofs::Copying::first_stands))]
     #[inline(always)]
     fn by_walk(buf: &'a [u8], found: &Summary, options: WriteOptions) -> Option<Copied<'a>>
         requires { DescribesFront buf.now found.now }

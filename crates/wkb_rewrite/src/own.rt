@@ -11,6 +11,7 @@ use wkb_geom::code::POINT;
 use wkb_geom::words::{WORD_SIZE, is_nan, u64_at};
 
 /// The bytes of a piece's own words.
+#[tactic(auto, using(crate::proofs::Held::own_held))]
 #[inline(always)]
 pub fn own_bytes<'a>(buf: &'a [u8], piece: &Piece) -> &'a [u8]
     requires { own_end piece.now ≤ length buf.now }

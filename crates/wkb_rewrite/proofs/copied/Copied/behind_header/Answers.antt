@@ -16,6 +16,3 @@ slice_bounds-result-count c =
 pub slice_bounds-result-start : goal.slice_bounds-result-start
 slice_bounds-result-start c =
     (copied (goal.at.slice_bounds-result-start c).After-size_of_srid-start (here c.requires.found)).inside
-
-pub returns : goal.returns
-returns c = λ g. rw c.of_kind.ensures (copied (goal.at.returns c).After-size_of_srid-start g).is

@@ -1,11 +1,8 @@
 use Rattle.std.proofs.Common.{arith, refl}
 use Rattle.wkb_check.proofs.Ahead.{here}
 use Rattle.wkb_rewrite.proofs.Measured.{long_of}
-use Rattle.wkb_rewrite.proofs.Copying.{first_stands, one_more_stands, still_ahead, all_stand}
+use Rattle.wkb_rewrite.proofs.Copying.{one_more_stands, still_ahead, all_stand}
 use Rattle.wkb_rewrite.proofs.copied.Copied.by_walk.Goals as goal
-
-pub loop-stands-init : goal.loop-stands-init
-loop-stands-init c = grind (arith, first_stands)
 
 pub pass_next-requires : goal.pass_next-requires
 pass_next-requires c =
