@@ -1,8 +1,9 @@
 -- The table of the parts of what was found.
-use Rattle.wkb_abi.proofs.Common.{◌≡◌, ℕ, ◌+◌, ◌≤◌, ◌<◌, List, [], ◌∷◌, length, refl, sym, ap, ◌∙◌, arith, append-nil}
+use Rattle.wkb_abi.proofs.Common.{◌≡◌, ℕ, ◌+◌, ◌≤◌, ◌<◌, List, [], ◌∷◌, length, sym, ap, ◌∙◌, arith, append-nil}
 use Rattle.wkb_abi.proofs.Common.{Spelling, node, Value, sets, set, DescribesFront, Summary, Piece, subjects}
 use Rattle.wkb_abi.proofs.Common.{subjects_of_each}
 use Rattle.std.proofs.lemmas.List.{nil_from_length}
+use Rattle.std.proofs.Common.{rules}
 use Rattle.wkb_check.specs.Known.{HasGeometries}
 use Rattle.wkb_check.specs.Pieces.{last_end, IsPieceAt}
 use Rattle.wkb_check.specs.Subjects.{whole}
@@ -30,15 +31,7 @@ module _ {input : List ℕ} {f : Summary} (d : DescribesFront input f) where
   entries = geometry_entries 0 0 d.spelled d.value
 
   table : HasTable input entries
-  table = record {
-    s = d.spelled;
-    t = d.value;
-    rest = d.rest;
-    front = d.front;
-    parts_are = refl;
-    hold = holds d.spelled d.value (begins input d.spelled d.value d.rest d.front);
-    many = entries_many d.spelled d.value d.front.front d.front.spelled;
-  }
+  table = search (rules, holds, begins, entries_many)
 
   long : f.parts ≡ length entries
   long = omega (arith, d.described.parts, entries_many d.spelled d.value d.front.front d.front.spelled)

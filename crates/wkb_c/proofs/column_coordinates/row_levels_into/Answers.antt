@@ -1,10 +1,7 @@
 use Rattle.wkb_abi.proofs.Common.{refl, sym, ◌∙◌}
-use Rattle.wkb_abi.specs.Coordinates.{failed, unknown, no_row}
+use Rattle.wkb_abi.specs.Coordinates.{failed, unknown}
 use Rattle.wkb_abi.proofs.Rooms.{unchanged}
 use Rattle.wkb_c.proofs.column_coordinates.row_levels_into.Goals as goal
-
-pub returns-in-Err-clause-laid : goal.returns-in-Err-clause-laid
-returns-in-Err-clause-laid c = unchanged (failed (no_row c.in-Err.ensures.none) refl)
 
 pub returns-in_default-clause-laid : goal.returns-in_default-clause-laid
 returns-in_default-clause-laid c =

@@ -1,14 +1,11 @@
-use Rattle.wkb_abi.proofs.Common.{arith, ◌≡◌}
-use Rattle.std.proofs.Common.{rules}
-use Rattle.wkb_abi.specs.RowItems.{rows_of}
+use Rattle.wkb_abi.proofs.Common.{arith}
 use Rattle.wkb_abi.proofs.Rooms.{no_rows, row_more, levels_suffice}
 use Rattle.wkb_abi.proofs.Levels.{stay_same}
 use Rattle.wkb_c.proofs.RowItems.{set_more}
 use Rattle.wkb_c.proofs.column_coordinates.wkb_raw_column_coordinates.Goals as goal
 
 pub loop-i-init : goal.loop-i-init
-loop-i-init c =
-    record { reaches = search rules; lists = search rules; done = no_rows (search rules); same_slices = search rules }
+loop-i-init c = grind (arith, no_rows)
 
 pub loop-i-preserved : goal.loop-i-preserved
 loop-i-preserved c =
@@ -23,13 +20,6 @@ loop-i-preserved c =
           (omega (arith, c.loop-i-test.true, c.min-i-end.ensures, lists.as_many_others));
       same_slices = stay_same row.ensures.same_slices l.invariant.same_slices;
     }
-
-pub returns-clause-each : goal.returns-clause-each
-returns-clause-each c =
-    let l = c.loop-i in
-    let rows : rows_of l.statuses l.row_ends ≡ l.i =
-    omega (arith, c.loop-i-test.false, l.auto.i-end, c.min-i-end.ensures, l.invariant.lists) in
-    rw rows l.invariant.done
 
 pub returns-clause-room : goal.returns-clause-room
 returns-clause-room c = λ asked named room i below.

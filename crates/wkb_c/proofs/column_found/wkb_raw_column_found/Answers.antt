@@ -1,3 +1,4 @@
+use Rattle.std.proofs.Common.{rules}
 use Rattle.wkb_abi.proofs.Common.{arith}
 use Rattle.wkb_abi.proofs.Rows.{status_shown}
 use Rattle.wkb_abi.proofs.Telling.{found_accepted}
@@ -5,9 +6,7 @@ use Rattle.wkb_c.proofs.RowItems.{row_shown}
 use Rattle.wkb_c.proofs.column_found.wkb_raw_column_found.Goals as goal
 
 pub loop-i-preserved : goal.loop-i-preserved
-loop-i-preserved c =
-    let row = c.find_row.ensures in
-    row_shown c.loop-i.invariant row.reach row.found c.loop-i-test.true (omega (arith, c.min-i-end.ensures))
+loop-i-preserved c = search (rules, row_shown)
 
 pub returns-clause-checked : goal.returns-clause-checked
 returns-clause-checked c =

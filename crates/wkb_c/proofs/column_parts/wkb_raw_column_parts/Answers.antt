@@ -1,6 +1,5 @@
 use Rattle.wkb_abi.proofs.Common.{arith}
-use Rattle.wkb_abi.proofs.Reasons.{tables_tell_other}
-use Rattle.wkb_c.proofs.RowItems.{row_done, last_end_suffices}
+use Rattle.wkb_c.proofs.RowItems.{row_done}
 use Rattle.wkb_c.proofs.column_parts.wkb_raw_column_parts.Goals as goal
 
 pub loop-i-preserved : goal.loop-i-preserved
@@ -16,8 +15,3 @@ pub returns-clause-each : goal.returns-clause-each
 returns-clause-each c =
     let done = c.loop-i.invariant.done in
     λ i below. done.each i (omega (arith, c.loop-i-test.false, c.min-i-end.ensures, done.lists))
-
-pub returns-clause-room : goal.returns-clause-room
-returns-clause-room c =
-    last_end_suffices c.loop-i.invariant.done (tables_tell_other c.args.column.now) (omega arith)
-    (omega (arith, c.loop-i-test.false, c.loop-i.auto.i-end, c.min-i-end.ensures))

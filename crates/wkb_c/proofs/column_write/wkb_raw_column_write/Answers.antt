@@ -18,6 +18,4 @@ returns-clause-each c =
     λ i below. done.each i (omega (arith, c.loop-i-test.false, c.min-i-end.ensures, done.lists))
 
 pub returns-clause-room : goal.returns-clause-room
-returns-clause-room c =
-    last_end_suffices c.loop-i.invariant.done (encodings_tell_other c.args.options.now c.args.column.now) (omega arith)
-    (omega (arith, c.loop-i-test.false, c.loop-i.auto.i-end, c.min-i-end.ensures))
+returns-clause-room c = grind (arith, last_end_suffices, encodings_tell_other)

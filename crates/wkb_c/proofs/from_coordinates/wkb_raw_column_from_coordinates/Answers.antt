@@ -1,5 +1,4 @@
 use Rattle.wkb_abi.proofs.Common.{arith, ◌∙◌, ◌≡◌, ap, length}
-use Rattle.std.proofs.Common.{rules}
 use Rattle.wkb_levels.specs.EndLists.{ends_of}
 use Rattle.wkb_c.proofs.LevelRows.{ready_first}
 use Rattle.wkb_abi.proofs.Reasons.{levels_tell_other}
@@ -9,10 +8,7 @@ use Rattle.wkb_c.proofs.from_coordinates.wkb_raw_column_from_coordinates.Goals.{
 use Rattle.wkb_abi.specs.LevelTargets.{levels_in}
 
 pub loop-i-init : goal.loop-i-init
-loop-i-init c = record {
-  ready = ready_first c.args.column.now c.target_of_numbers-target.result c.front-floor.result c.front-floor.ensures;
-  done = search rules;
-}
+loop-i-init c = grind (arith, ready_first)
 
 pub loop-i-preserved : goal.loop-i-preserved
 loop-i-preserved c =
@@ -35,8 +31,4 @@ returns-clause-each c =
     (done.each i (omega (arith, c.loop-i-test.false, c.min.ensures, c.min-i-end.ensures, done.lists)))
 
 pub returns-clause-room : goal.returns-clause-room
-returns-clause-room c =
-    let rows = rows_are (goal.at.returns-clause-room c).After-len-rows in
-    last_end_suffices c.loop-i.invariant.done (levels_tell_other c.args.column.now c.target_of_numbers-target.result)
-    (omega arith)
-    (omega (arith, c.loop-i-test.false, c.loop-i.auto.i-end, c.min.ensures, c.min-i-end.ensures))
+returns-clause-room c = grind (arith, rows_are, last_end_suffices, levels_tell_other)

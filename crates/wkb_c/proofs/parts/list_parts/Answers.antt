@@ -1,16 +1,14 @@
-use Rattle.wkb_abi.proofs.Common.{arith, ap, ◌∙◌, append-nil, sets, set, subjects}
+use Rattle.std.proofs.Common.{rules}
+use Rattle.wkb_abi.proofs.Common.{arith, ap, ◌∙◌, append-nil, sets, subjects}
 use Rattle.wkb_abi.specs.Tables.{entries_from}
 use Rattle.wkb_c.proofs.Called.{fits_table, table_laid, one_geometry, whole_laid}
 use Rattle.wkb_c.proofs.parts.list_parts.Goals as goal
 
 pub lay_geometries-requires : goal.lay_geometries-requires
-lay_geometries-requires c =
-    record { fit = fits_table c.requires.accepted c.args.parts.now (omega (arith, c.if-parts-found.false)) }
+lay_geometries-requires c = search (rules, fits_table)
 
 pub returns-then-found-eq1-clause-listed : goal.returns-then-found-eq1-clause-listed
-returns-then-found-eq1-clause-listed c = λ ok.
-    whole_laid c.requires.accepted c.outermost.result c.outermost.ensures c.if-found-eq1.true
-    (omega (arith, c.if-parts-found.false)) (ap (set c.args.parts.now 0) c.of-entry.ensures)
+returns-then-found-eq1-clause-listed c = grind (arith, whole_laid)
 
 pub returns-clause-listed : goal.returns-clause-listed
 returns-clause-listed c = λ ok.

@@ -13,16 +13,7 @@ returns-then-out-wanted c =
 fits : (c : Joined-out-buf) → (g : HasGeometry c.args.buf.now)
     → length (encoding c.options_for-options.result.endianness c.options_for-options.result.form (geometry_of g.value))
     ≤ length c.args.out.now
-fits c g =
-    let options = c.options_for-options in
-    elim c.if-out-buf.branch [
-      | then-out-buf+else-out-wanted w ↦
-          omega (arith, w.encoded_size-wanted.ensures.size options.result.endianness g, w.if-out-wanted.false)
-      | else-out-buf w ↦
-          let most =
-          at_most options.result.endianness options.result.form c.args.buf.now g (λ i. (c.type_inv.buf i).fits) in
-          omega arith
-    ]
+fits c g = grind (arith, then-out-buf+else-out-wanted, else-out-buf, at_most)
 
 pub lay_encoding-requires-clause-room : goal.lay_encoding-requires-clause-room
 lay_encoding-requires-clause-room c = fits (goal.at.lay_encoding-requires-clause-room c).Joined-out-buf
