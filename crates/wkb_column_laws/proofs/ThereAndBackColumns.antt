@@ -8,7 +8,6 @@ use Rattle.wkb_levels.specs.Cuts.{start_at}
 use Rattle.wkb_abi.specs.Columns.{IsRow, is_null_row, is_unset_bit}
 use Rattle.wkb_abi.specs.Columns as columns
 use Rattle.wkb_abi.specs.LevelRows.{EncodeLevels, LacksLevels}
-use Rattle.wkb_abi.specs.LevelRows as in_levels
 use Rattle.wkb_abi.specs.Requests.{request_of}
 use Rattle.wkb_abi.specs.RowItems.{IsRowAnswer, RowFails, fails, has_no_row}
 use Rattle.wkb_abi.specs.Writings.{FailsToWrite, unknown, refused}

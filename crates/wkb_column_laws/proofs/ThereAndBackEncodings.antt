@@ -1,15 +1,14 @@
 -- What bytes spell, with the words of its empty points, can be written; and where these are the words that are written
 -- of empty points, its encoding is that of the value.
-use Rattle.wkb_abi.proofs.Common.{◌≡◌, ℕ, suc, ◌≤◌, ◌<◌, ◌^◌, List, [], ◌∷◌, ◌++◌, length, Option, Some, None, refl, ap}
-use Rattle.wkb_abi.proofs.Common.{◌∙◌, arith, is_some, Dimension, Coordinate, Spelling, node, Spellings, no_spellings}
+use Rattle.wkb_abi.proofs.Common.{◌≡◌, ℕ, suc, ◌<◌, ◌^◌, List, [], ◌∷◌, ◌++◌, length, Option, Some, None, refl, ap}
+use Rattle.wkb_abi.proofs.Common.{arith, Dimension, Coordinate, Spelling, node, Spellings, no_spellings}
 use Rattle.wkb_abi.proofs.Common.{spelling, Spells, SpellsEach, SpellsCoordinate, Value, point, multi_point, IsNumber}
-use Rattle.std.specs.Prelude.{map, flat_map, if◌then◌else◌, Bool}
+use Rattle.std.specs.Prelude.{map, flat_map}
 use Rattle.std.specs.List.{AllByRecursion}
 use Rattle.std.proofs.Common.{lt-ltb}
 use Rattle.std.proofs.lemmas.List.{length-map}
 use Rattle.wkb_geom.specs.Dimensions.{as_dimensions, written_dimension}
 use Rattle.wkb_geom.specs.Encodings.{encoding, point_encoding, point_words, fault, or_else, size_fault, fault_under}
-use Rattle.wkb_geom.specs.Encodings.{form_srid}
 use Rattle.wkb_geom.specs.Geometries.{geometry_of, normal, IsGeometry, IsCoordinate, IsPoint}
 use Rattle.wkb_geom.specs.Grammar.{IsEach}
 use Rattle.wkb_geom.specs.Numbers.{AreBytes, IsWord}
@@ -75,26 +74,12 @@ like_value s t bytes b spelled =
 
 -- ---- it can be written
 
--- a form has at most one SRID
-at_most_one : (b : Bool) → (if b then 1 else 0) ≤ 1
-at_most_one b = grind arith
-
 -- it is no longer than the bytes and an SRID
 pub spelled_writable : (order : Endianness) (form : Form) (s : Spelling) (t : Value) (bytes : List ℕ) → AreBytes bytes
     → length bytes < 2 ^ 63 → Spells s t bytes → fault_under order form (as_spelled s t) ≡ None
 unfolding size_fault or_else
 spelled_writable order form s t bytes b small spelled =
-    let good = spelled_good s t bytes b spelled in
-    let like = like_value s t bytes b spelled in
-    let fine = like.same_fault ∙ good.1 in
-    let fits : length (encoding order form (as_spelled s t)) < 2 ^ 64 = omega (
-      arith,
-      encoding_length order form (as_spelled s t) like.lawful fine,
-      ap value_size (normal-geometry_of t good.0),
-      spelled_length s t bytes spelled,
-      at_most_one (is_some (form_srid form)),
-    ) in
-    rw (fine, lt-ltb (length (encoding order form (as_spelled s t))) (2 ^ 64) fits)
+    grind (arith, spelled_good, like_value, encoding_length, value_size, normal-geometry_of, spelled_length, lt-ltb)
 
 -- ---- its encoding
 

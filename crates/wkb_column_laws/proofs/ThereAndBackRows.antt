@@ -3,7 +3,7 @@ use Rattle.wkb_abi.proofs.Common.{◌≡◌, ℕ, zero, suc, ◌+◌, ◌*◌, �
 use Rattle.wkb_abi.proofs.Common.{◌∙◌, subst, arith, Dimension, width, Spelling, Value, Subject, subjects}
 use Rattle.std.specs.Prelude.{◌==◌, if◌then◌else◌, sum, flat_map, take}
 use Rattle.std.specs.Borrow.{Bor}
-use Rattle.std.proofs.Common.{eqb-true, mul-add}
+use Rattle.std.proofs.Common.{eqb-true, mul-add, rules}
 use Rattle.std.proofs.lemmas.Bool.{cond_both}
 use Rattle.std.proofs.lemmas.List.{take-take, nil_from_length}
 use Rattle.std.proofs.lemmas.List.Sums.{sum_by-cons}
@@ -166,11 +166,6 @@ module _ {c : Column} {dimension : ℕ} {asked : Dimension} {statuses : List ℕ
   pub ring_level : AreGivenEnds (levels_in l).ring_ends l.ring_ends.now
   ring_level = given_ends l.ring_ends l.rings g.levels.rings
 
-  -- and rows
-  row_begins : (i : ℕ) → i ≤ rows → start_at 0 g.row_ends i ≡ (at i).singles
-  row_begins zero below = ap (λ t. t.singles) (sym g.written.first)
-  row_begins (suc i) below = g.written.row_ends_are i (omega (arith, below))
-
   -- so a row begins in them where those before it end
   pub begins_at : (j : ℕ) → j ≤ rows → Fits j → BeginsAt (levels_in l) j (at j)
-  begins_at j below fits = grind (arith, placed, given_ends, row_begins, single_level, ring_level)
+  begins_at j below fits = search (rules, placed, given_ends, single_level, ring_level)
