@@ -91,7 +91,7 @@ pub says_different : (text first second : List ℕ) (equal : Bool) (r : Result R
 says_different text first second equal r cut new is h =
     reports_line Same text _ 0 r new (rw cut.whole (said (two h.1 h.2.1) (different (rw is at h.2.2))))
 
-pub ruleset comparison_laws = (says_same, says_different)
+pub ruleset comparison_laws = (says_same, says_different, fails_two)
 
 pub counts_line : (verdict line : List ℕ) (turns slots : ℕ)
     → line ≡ verdict ++ (codes " turns " ++ (decimal turns ++ (codes " slots " ++ (decimal slots ++ codes "\n"))))
@@ -118,4 +118,4 @@ pub says_no_srid : (text : List ℕ) (found : Option ℕ) (r : Result Report All
 says_no_srid text found r new is h =
     reports_line Srid text _ 0 r new (said (one (λ e. cc) h.1) (no_srid (rw is at h.2)))
 
-pub ruleset report_laws = (says_rewritten, says_rewritten_with_srid, says_srid, says_no_srid)
+pub ruleset report_laws = (says_rewritten, says_rewritten_with_srid, says_srid, says_no_srid, fails_one, iso_refusal)

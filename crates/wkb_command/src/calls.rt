@@ -63,6 +63,7 @@ impl From<FromHexError> for HexFault {
 }
 
 /// The bytes that a text spells.
+#[tactic(auto, using(crate::proofs::Failures::decode_failed))]
 fn bytes_of_hex(alloc: Global, text: &str) -> Result<Vec<u8>, HexFault>
     ensures ok { IfOk result (λ bytes. IsHexOf text.now bytes.items) }
     ensures err { IfErr result (IsDecodingFailure text.now) }

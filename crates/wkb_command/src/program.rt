@@ -285,6 +285,7 @@ fn report_on_text(alloc: Global, command: Command, text: &str) -> Result<Report,
 }
 
 /// The report on the input of a command.
+#[tactic(auto, using(crate::proofs::Spelled::spelled_utf8))]
 fn report_on_input(alloc: Global, command: Command, input: &[u8]) -> Result<Report, AllocError>
     ensures { IfOk result (IsReportOn command input.now) }
 {

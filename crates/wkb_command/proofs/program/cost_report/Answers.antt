@@ -1,11 +1,10 @@
+use Rattle.std.proofs.Common.{arith}
 use Rattle.wkb_command.specs.declared.program.Command.TheVariants.{Cost}
 use Rattle.wkb_command.proofs.Reports.{fails_one, reports_line, says_accepted, says_counted}
 use Rattle.wkb_command.proofs.program.cost_report.Goals as goal
 
 pub returns-in-Err : goal.returns-in-Err
-returns-in-Err c =
-    c.failure_report.ensures _ _ (fails_one Cost c.args.text.now (λ bytes e. ⊥) c.in-Err.failure (λ is. cc)
-    (λ bytes e never. absurd never) c.in-Err.ensures.err)
+returns-in-Err c = grind (arith, fails_one)
 
 pub returns-then-cost : goal.returns-then-cost
 returns-then-cost c =

@@ -34,9 +34,3 @@ returns-clause-ends g c =
           (IfOk-weaker c.report_on_input.result _ _ (λ report replies. asked c.in-Some.ensures is_body replies)
           c.report_on_input.ensures),
     )
-
-pub returns-in-Err-Unreadable-clause-arguments_first : goal.returns-in-Err-Unreadable-clause-arguments_first
-returns-in-Err-Unreadable-clause-arguments_first g c = λ none. absurd (none _ c.in-Some.ensures)
-
-pub returns-clause-arguments_first : goal.returns-clause-arguments_first
-returns-clause-arguments_first g c = λ none. absurd (none _ c.in-Some.ensures)

@@ -1,12 +1,10 @@
-use Rattle.std.proofs.Common.{lit<}
+use Rattle.std.proofs.Common.{lit<, arith}
 use Rattle.std.proofs.lemmas.Str.Pattern.{contains_char}
 use Rattle.wkb_command.proofs.Spelled.{uncut_spells_none, more_spells_none, cut_of}
 use Rattle.wkb_command.proofs.program.two_lines.Goals as goal
 
 pub returns-in_err-first : goal.returns-in_err-first
-returns-in_err-first c =
-    rw c.from_residual.ensures
-    (uncut_spells_none c.args.text.now (rw c.in_err-first.was at c.split_once.ensures.cases))
+returns-in_err-first c = grind (arith, uncut_spells_none)
 
 pub returns-then-contains : goal.returns-then-contains
 returns-then-contains c =

@@ -1,4 +1,4 @@
-use Rattle.std.proofs.Common.{◌∷◌, [], inl, inr, refl}
+use Rattle.std.proofs.Common.{◌∷◌, [], inl}
 use Rattle.std.proofs.lemmas.Bool.Decides.{Decides-eqb}
 use Rattle.std.proofs.lemmas.Slice.Eq.{strip_suffix_is}
 use Rattle.wkb_command.proofs.program.without_last_feed.Goals as goal
@@ -8,9 +8,3 @@ returns-in-Some c =
     let cases =
     strip_suffix_is Decides-eqb c.args.input.now (10 ∷ []) c.strip_suffix.result c.strip_suffix.ensures.cases in
     inl (rw c.in-Some.is at cases)
-
-pub returns-in-None : goal.returns-in-None
-returns-in-None c =
-    let cases =
-    strip_suffix_is Decides-eqb c.args.input.now (10 ∷ []) c.strip_suffix.result c.strip_suffix.ensures.cases in
-    inr (refl, (rw c.in-None.is at cases))
