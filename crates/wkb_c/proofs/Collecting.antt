@@ -1,17 +1,13 @@
 -- One geometry whose members are the geometries that rows begin with.
-use Rattle.wkb_abi.proofs.Common.{◌≡◌, ℕ, suc, ◌+◌, ◌<◌, ◌≤◌, List, [], ◌∷◌, ◌++◌, refl, sym, arith, append-nil, Value}
+use Rattle.wkb_abi.proofs.Common.{◌≡◌, ℕ, suc, ◌<◌, ◌≤◌, List, [], ◌∷◌, refl, sym, arith, append-nil, Value}
 use Rattle.wkb_abi.proofs.Common.{Values, member, no_members, kind, dimension, members, point, line_string, polygon}
 use Rattle.wkb_abi.proofs.Common.{multi_point, multi_line_string, multi_polygon, collection, Dimension, false, Wanted}
-use Rattle.wkb_laws.specs.Prelude.{encodings, inner, geometries_of, type_of, IsPart, member_part, count, each, nest}
-use Rattle.wkb_laws.specs.Prelude.{nest_each}
+use Rattle.wkb_laws.specs.Prelude.{IsPart, member_part, each, nest_each}
 use Rattle.wkb_abi.specs.declared.{column.Column.Column, options.Options.Options}
 unfoldable use Rattle.wkb_laws.specs.Prelude.{words_encoding}
 use Rattle.wkb_laws.proofs.Lists.{by_list_kind, count-each}
 use Rattle.wkb_check.specs.Public.{member_room}
 use Rattle.wkb_rewrite.proofs.Encodings.{encoded_apart}
-use Rattle.wkb_rewrite.specs.Targets.{encoding_for}
-use Rattle.wkb_sink.specs.Options.{counted_header}
-use Rattle.wkb_sink.specs.declared.options.WriteOptions.{WriteOptions}
 use Rattle.wkb_c.specs.Collections.{AreRowMembers, IsCollected, IsAsked, IsWhole}
 use Rattle.wkb_c.specs.declared.collect.CollectTarget.{CollectTarget}
 use Rattle.wkb_c.proofs.RowItems.{written_as, no_room_as}
@@ -53,22 +49,12 @@ shallow_each c w i (member t ts) are = omega (arith, are.0.has.front.shallow, sh
 
 -- ---- what is written of it
 
--- its front, and then its members
-whole_encoded : (options : WriteOptions) (t : Value) → 3 < kind t
-    → encoding_for options t
-    ≡ counted_header options (type_of (kind t) (dimension t)) (count (members t))
-    ++ encodings options.endianness (inner options.form) (geometries_of (members t))
-unfolding words_encoding
-whole_encoded options t low = grind (arith, encoded_apart, collection, append-nil, count-each)
-
-nest_of : (t : Value) → nest t ≤ 1 + nest_each (members t)
-nest_of t = grind arith
-
 -- ---- the whole
 
 pub whole_collected : {c : Column} {rows k n : ℕ} {o : Options} {target : CollectTarget}
     → IsAsked k n o target → (encoding : List ℕ) → IsWhole c target rows encoding
     → IsCollected c rows k n o encoding
-whole_collected a encoding w = grind (arith, made, nest_of, shallow_each, whole_encoded)
+unfolding words_encoding
+whole_collected a encoding w = grind (arith, encoded_apart, collection, append-nil, count-each, made, shallow_each)
 
 pub ruleset collected_laws = (whole_collected, written_as, no_room_as)
