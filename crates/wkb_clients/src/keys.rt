@@ -17,6 +17,7 @@ use wkb::writer::{Form, WriteOptions};
 /// and SRIDs.
 ///
 /// Rejected as `read_wkb` rejects the bytes.
+#[tactic(auto, using(crate::proofs::KeysFound::is_key))]
 pub fn key(alloc: Global, bytes: &[u8]) -> WkbResult<Vec<u8>>
     ensures ok { IfOk result (λ key. IsKey bytes.now key.items) }
     ensures err { IfErr result (λ e. IsMemory e ⊎ IsRefusal bytes.now e) }

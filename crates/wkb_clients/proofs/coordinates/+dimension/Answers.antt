@@ -1,3 +1,4 @@
+use Rattle.std.proofs.Common.{arith}
 use Rattle.wkb.specs.Members.{member_falls}
 use Rattle.wkb_clients.proofs.AllPoints.{each_has}
 use Rattle.wkb_clients.proofs.coordinates.+dimension.Goals as goal
@@ -6,6 +7,4 @@ pub have_only-has_only-requires : goal.have_only-has_only-requires
 have_only-has_only-requires t c = (member_falls _ _ _ t c.member-item.is c.loop-member-test.true c.decreases, tt)
 
 pub have_only-returns-then-not-has_only : goal.have_only-returns-then-not-has_only
-have_only-returns-then-not-has_only t c =
-    λ all. c.if-not-has_only.ensures
-    (each_has c.args.dimension c.args.members.now _ _ c.member-item.is c.loop-member-test.true all)
+have_only-returns-then-not-has_only t c = grind (arith, each_has)

@@ -1,11 +1,9 @@
-use Rattle.std.proofs.Common.{◌≡◌, [], map, Some, ap, subst, sym, ◌∙◌}
+use Rattle.std.proofs.Common.{◌≡◌, [], map, Some, ap, subst, ◌∙◌, arith}
 use Rattle.wkb.specs.AllCoordinates.{coordinates_fit, words_are_whole, coordinates_again}
-use Rattle.wkb.specs.Encodings.{encoding_of, fault_of}
 use Rattle.wkb.specs.Geometries.{multi_point}
 use Rattle.wkb.specs.Levels.{points_dimensions, points_points}
 use Rattle.wkb.specs.Plain.{line_string_coordinates, coordinates_in}
 use Rattle.wkb.specs.Values.{dimension}
-use Rattle.wkb.specs.Writes.{IsVecError}
 use Rattle.wkb.specs.Coordinates.{coordinates_of, words_of, HasOnly}
 use Rattle.wkb_clients.specs.Coordinates.{points_meant}
 use Rattle.wkb_clients.proofs.AllPoints.{Fit, are_points, want_of_room}
@@ -45,16 +43,7 @@ unreachable-requires c =
     absurd (cc)
 
 pub returns-in-Ok-clause-ok : goal.returns-in-Ok-clause-ok
-returns-in-Ok-clause-ok c =
-    let p = (goal.at.returns-in-Ok-clause-ok c).After-as_slice in
-    let same = meant (goal.at.returns-in-Ok-clause-ok c).After-to_vec (fit p) (words_are p) in
-    are_points c.args.options.now c.args.geometry.now.value c.srid_fits.ensures (fit p) c.in-Ok.bytes.items
-    (c.in-Ok.ensures.ok ∙ ap (encoding_of c.args.options.now) same)
-    (ap (fault_of c.args.options.now) (sym same) ∙ c.in-Ok.ensures.writable)
+returns-in-Ok-clause-ok c = grind (arith, meant, fit, words_are, are_points)
 
 pub returns-clause-err : goal.returns-clause-err
-returns-clause-err c =
-    let p = (goal.at.returns-clause-err c).After-as_slice in
-    let same = meant (goal.at.returns-clause-err c).After-to_vec (fit p) (words_are p) in
-    want_of_room c.args.options.now c.args.geometry.now.value c.srid_fits.ensures (fit p) c.in-Err.e
-    (subst (λ g. IsVecError c.args.options.now g c.in-Err.e) same c.in-Err.ensures.err)
+returns-clause-err c = grind (arith, meant, fit, words_are, want_of_room)

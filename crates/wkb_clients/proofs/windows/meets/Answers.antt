@@ -1,4 +1,4 @@
-use Rattle.std.proofs.Common.{◌≡◌, ℕ, List, Bool, true, false, MatchBool, sym, ap, ◌∙◌}
+use Rattle.std.proofs.Common.{◌≡◌, ℕ, List, Bool, true, false, MatchBool, sym, ap, ◌∙◌, arith}
 use Rattle.wkb.specs.Checks.{Bounds, BoundsFront, BoundsOnlyFront}
 use Rattle.wkb.specs.Ranges.{same_bounds}
 use Rattle.wkb_clients.specs.declared.boxes.BoundingBox.{BoundingBox}
@@ -15,9 +15,7 @@ judged box bytes b false front only is = λ m.
     absurd (cc)
 
 pub returns-in-Ok : goal.returns-in-Ok
-returns-in-Ok c =
-    judged c.args.window.now c.args.bytes.now c.in-Ok.found c.bounds_meet.result c.in-Ok.ensures.front
-    c.in-Ok.ensures.one_front c.bounds_meet.ensures
+returns-in-Ok c = grind (arith, judged)
 
 pub returns-in-Err : goal.returns-in-Err
 returns-in-Err c = λ m. c.in-Err.ensures.refused.no_front m.front.spelled m.front.value m.front.rest m.front.front

@@ -1,9 +1,8 @@
-use Rattle.std.proofs.Common.{◌≡◌, ◌++◌, ◌∷◌, [], ℕ, List, map, Vec, Global, true, false, refl, sym, ap, subst, ◌∙◌}
+use Rattle.std.proofs.Common.{◌++◌, ◌∷◌, [], ℕ, List, map, Vec, Global, true, false, refl, sym, ap, ◌∙◌, arith}
 use Rattle.std.specs.Prelude.{bytes_eq}
-use Rattle.std.specs.List.{All, list_any}
+use Rattle.std.specs.List.{list_any}
 use Rattle.std.proofs.lemmas.List.{map-append}
-use Rattle.std.proofs.lemmas.List.Elements.{All-push}
-use Rattle.wkb_clients.specs.Keys.{key_of, value_in}
+use Rattle.wkb_clients.specs.Keys.{value_in}
 use Rattle.wkb_clients.proofs.KeysFound.{inserts, is_its_own}
 use Rattle.wkb_clients.proofs.keys.Store.insert.Goals as goal
 
@@ -20,10 +19,7 @@ returns-then-contains-clause-ok c =
     ∙ ap (λ l. list_any (λ y. bytes_eq (bytes_of y) key.items) l) c.deref.ensures.value) refl
 
 pub invariant_of-self-2 : goal.invariant_of-self-2
-invariant_of-self-2 c =
-    let P = λ (y : Vec ℕ Global). bytes_of y ≡ key_of (value_in (bytes_of y)) in
-    subst (All P) (sym c.in_ok-push.ensures.items) (All-push P c.self.inside.keys.items c.in-Ok.key c.self.invariant
-    (is_its_own c.args.bytes.now c.in-Ok.key.items c.are_bytes.ensures c.in-Ok.ensures.ok))
+invariant_of-self-2 c = grind (arith, is_its_own)
 
 pub returns-clause-ok : goal.returns-clause-ok
 returns-clause-ok c =
