@@ -271,6 +271,7 @@ fn without_last_feed(input: &[u8]) -> &[u8]
 }
 
 /// The report on the text of a command.
+#[tactic(auto, using(std::proofs::lemmas::Str::Pattern::contains_char, crate::proofs::Spelled::feed_spells_none))]
 fn report_on_text(alloc: Global, command: Command, text: &str) -> Result<Report, AllocError>
     ensures { IfOk result (IsReportOn command text.now) }
 {
