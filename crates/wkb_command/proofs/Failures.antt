@@ -21,10 +21,6 @@ pub decode_failed : {T : Type 0} (text : List ℕ) (e : FromHexError) (r : Resul
 decode_failed text e (Ok x) h failed = tt
 decode_failed text e (Err failure) h failed = decode_failure text e failure h failed
 
-pub failure_of : (AreHex : Type 0) (IsRight : WkbError → Type 0) (e : WkbError) (failure : HexFault)
-    → IsMemory e ⊎ IsRight e → FailureOfError e failure → IsFailureOf AreHex IsRight failure
-failure_of AreHex IsRight e failure h is = grind arith
-
 -- a call on the bytes of hex texts failed, and what it says of them is right for the texts
 pub call_failed : {T : Type 0} (AreHex Said : Type 0) (IsRight : WkbError → Type 0) (e : WkbError)
     (r : Result T HexFault)

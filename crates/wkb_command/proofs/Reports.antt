@@ -20,16 +20,11 @@ use Rattle.wkb_command.specs.declared.program.Command.TheVariants.{Rewrite, Rewr
 use Rattle.wkb_command.specs.declared.program.Report.{Report}
 use Rattle.wkb_command.specs.Readings.{HasSrid}
 use Rattle.wkb_command.specs.Calls.{IsHex, OfHex, OfTwoHexes, IsCost, AreCompared, FailsOn, FailsOnTwo}
-use Rattle.wkb_command.specs.Program.{Spells, one, two, IsOneLine, TellsError, counts, hex_line}
+use Rattle.wkb_command.specs.Program.{Spells, one, two, TellsError, counts, hex_line}
 use Rattle.wkb_command.specs.Program.{Says, rewritten, rewritten_with_srid, same, different, accepted, counted_refusal}
 use Rattle.wkb_command.specs.Program.{srid, no_srid, refused, second_refused, Replies, said}
 use Rattle.wkb_command.specs.Reports.{IsReport, IsReportOn, IsFailureOn, HasLines}
 use Rattle.wkb_command.proofs.Spelled.{IsHex-from}
-
--- the line for an error other than the end of the input
-pub tells_text : (e : WkbError) (text line : List ℕ) → ((x : _) → e ≡ errors.IOError x → ⊥) → IsOneLine text
-    → line ≡ codes "refused: " ++ (text ++ codes "\n") → TellsError e line
-tells_text e text line other one_line whole = grind arith
 
 -- a fixed line
 pub reports_line : (command : Command) (text line : List ℕ) (status : ℕ) (r : Result Report AllocError)

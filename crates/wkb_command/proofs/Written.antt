@@ -1,8 +1,7 @@
 -- What is written of a line in parts, and of its hex in pieces.
-use Rattle.std.proofs.Common.{◌≡◌, ℕ, ◌<◌, ◌≤◌, ◌*◌, ◌+◌, ◌-◌, List, [], ◌∷◌, ◌++◌, length, take, drop}
+use Rattle.std.proofs.Common.{◌≡◌, ℕ, ◌<◌, ◌*◌, ◌+◌, ◌-◌, List, [], ◌∷◌, ◌++◌, length, take, drop}
 use Rattle.std.proofs.Common.{slice_set, append_assoc, Option, Result, Ok, Err, refl, arith}
 use Rattle.std.specs.Result.{result_unwrap_or}
-use Rattle.std.specs.Io.{WritesAtMost}
 use Rattle.std.specs.Io.KnownBytes.{WriteAppends}
 use Rattle.std.proofs.KnownBytes.{Appends-kept, Appends-nil, Appends-trans}
 use Rattle.std.proofs.lemmas.Grind.{common_steps}
@@ -21,10 +20,6 @@ wrote_once old new (Err e) count text is p = record {
   appended = Appends-kept _ _ _ _ (Appends-nil old) p;
   parts = rw is (grind (arith, common_steps));
 }
-
-pub taken_fits : {E : Type 0} (r : Result ℕ E) (bytes : List ℕ) → WritesAtMost r bytes
-    → result_unwrap_or r 0 ≤ length bytes
-taken_fits r bytes p = grind arith
 
 -- some of the rest is written, too
 pub wrote_more : {old mid new : Option (List ℕ)} {rest left text : List ℕ} → WroteUpTo old mid rest text
