@@ -1,12 +1,10 @@
 -- A collection that is spelled as it is written.
-use Rattle.wkb_read.proofs.Prelude.{◌≡◌, ℕ, List, [], ◌∷◌, Bool, refl, ap, ◌∙◌, AllByRecursion, Layout, Endianness}
-use Rattle.wkb_read.proofs.Prelude.{Item, spellings, values, geometries_of, list_item, collection_with}
+use Rattle.wkb_read.proofs.Prelude.{◌≡◌, ℕ, List, [], ◌∷◌, Bool, refl, AllByRecursion, Layout, Endianness, Item}
+use Rattle.wkb_read.proofs.Prelude.{spellings, values, geometries_of, list_item, collection_with, arith}
 use Rattle.wkb_read.specs.Prelude.{IsSpelledAsWritten}
-use Rattle.wkb_geom.specs.Dimensions.{as_dimensions, written_dimension}
 use Rattle.wkb_geom.specs.Encodings.{inner, form_with_flags}
 use Rattle.wkb_geom.specs.Numbers.{AreBytes}
-use Rattle.wkb_geom.specs.Spellings.{Spellings, node}
-use Rattle.wkb_laws.specs.Written.{written_header, written_each}
+use Rattle.wkb_laws.specs.Written.{written_each}
 use Rattle.wkb_view.proofs.Encodings.{HasWrittenHeader, header_spelled, as_member}
 
 -- members that are spelled as they are written
@@ -23,10 +21,4 @@ pub collection_written : (order : Endianness) (has_flags : Bool) (l : Layout) (m
     → AllByRecursion (IsSpelledAsWritten order has_flags) members
     → IsSpelledAsWritten order has_flags (list_item l collection_with members encoding)
 collection_written order has_flags l members encoding range h all =
-    let header = written_header order (form_with_flags has_flags) 7 (written_dimension (as_dimensions l.dimension)) in
-    record {
-      bytes = range;
-      same =
-          header_spelled 7 l encoding order has_flags (spellings members) h
-          ∙ ap (λ (ss : Spellings). node header [] ss) (members_written order has_flags members all);
-    }
+    grind (arith, header_spelled, spellings, members_written)

@@ -1,13 +1,13 @@
 -- Geometries by their headers and kinds.
-use Rattle.wkb_read.specs.Prelude.read_errors
-use Rattle.wkb_read.proofs.Prelude.{any, max_nesting, ◌≡◌, ◌-◌, ℕ, List, Result, Ok, Err, sym, ap, ◌∙◌, subst}
-use Rattle.wkb_read.proofs.Prelude.{arith, WkbType, Layout, layout_of, collection_within, then_body, Cause, Head, Item}
+use Rattle.wkb_read.proofs.Prelude.{any, max_nesting, ◌≡◌, ◌-◌, ℕ, List, Result, Ok, Err, sym, ap, subst, arith}
+use Rattle.wkb_read.proofs.Prelude.{WkbType, Layout, layout_of, collection_within, then_body, Cause, Head, Item}
 use Rattle.wkb_read.proofs.Prelude.{Outcome, Reading, costs, done, at_no_cost, head_at, body_at, Counts, Stops}
 use Rattle.wkb_read.proofs.Prelude.{geometry_inside, cost_of, ReadError, BeginsAs}
 use Rattle.std.specs.Prelude.{IsErrAnd}
 use Rattle.wkb_read.specs.declared.read.stack.Begun.{Begun}
 use Rattle.wkb_laws.proofs.Heads.{OpensAs, head_says}
 use Rattle.wkb_view.proofs.Lists.{refused_stops}
+use Rattle.wkb_read.specs.Prelude.read_errors
 unfoldable use Rattle.wkb_geom.specs.Reading.{by_type, geometry_at}
 
 geometry_is : (levels : ℕ) (bytes : List ℕ)
@@ -33,16 +33,13 @@ by_header depth bytes h t l e is laid = grind (arith, behind_header)
 
 pub stops_without_header : (cause : Cause) (depth : ℕ) (bytes : List ℕ) (c : Counts) → head_at bytes ≡ Err cause
     → Stops (read_errors.Cause cause) (geometry_inside depth bytes) c c
-stops_without_header cause depth bytes c h =
-    refused_stops _ bytes cause c (geometry_is (max_nesting - depth) bytes
-    ∙ ap (λ (r : Result Head Cause). then_body bytes r (λ g. body_inside depth g bytes)) h)
+stops_without_header cause depth bytes c h = grind (arith, refused_stops, geometry_is)
 
 -- an error that `?` hands on, by the reading that stops
 pub hands_on : (depth : ℕ) (bytes : List ℕ) (r : Result Begun ReadError) (error : ReadError) (read : Reading Item)
     (old new : Counts) → IsErrAnd r (λ e. e ≡ error) → geometry_inside depth bytes ≡ read
     → Stops error read old new → BeginsAs geometry_inside depth bytes r old new
-hands_on depth bytes (Ok x) error read old new is same stops = absurd is
-hands_on depth bytes (Err e) error read old new is same stops = rw (is, same) stops
+hands_on depth bytes r error read old new is same stops = grind arith
 
 -- a whole part that costs nothing
 pub whole_at_no_cost : {A : Type 0} (r : Outcome A) (x : A) (rest : List ℕ) (c : Counts) → r ≡ Ok (x, rest)

@@ -15,9 +15,7 @@ pub record Top {A : Type 0} (xs : List A) (n : ℕ) (o : A) : Type 0 where
 
 pub top : {A : Type 0} (xs : List A) (n : ℕ) (o : A) → length xs ≡ suc n → o ≡ slice_index_or xs n o → Top xs n o
 top xs n o l is =
-    let all : xs ≡ take n xs ++ o ∷ [] =
-    sym (take_all (suc n) xs (omega arith)) ∙ take-suc xs n o (omega arith)
-    ∙ ap (λ z. take n xs ++ z ∷ []) (sym is) in
+    let all : xs ≡ take n xs ++ o ∷ [] = grind (arith, take_all, take-suc) in
     record {
       below = reverse (take n xs);
       is = backwards xs (take n xs) o all;

@@ -1,14 +1,13 @@
 -- Inputs that take no memory, by their headers.
-use Rattle.wkb_read.proofs.Prelude.{◌≡◌, ℕ, ◌+◌, Bool, false, ltb, List, length, drop, Ok, Err, refl, subst, arith}
-use Rattle.wkb_read.proofs.Prelude.{WkbType, Endianness, Layout, max_nesting, Item, Reading, and_then, head_at}
-use Rattle.wkb_read.proofs.Prelude.{type_kind, type_dimension, laid, body_start, count_in, parts_start, repeated}
-use Rattle.wkb_read.proofs.Prelude.{geometry_at, Agrees, geometry_agrees_lem, HasNoMembers, TypeTakesNone}
-use Rattle.wkb_read.proofs.Prelude.{ReadsWithoutMemory, AsksForNone, BeginsNone, KindTakesNone, TakesNoMemory, closing}
+use Rattle.wkb_read.proofs.Prelude.{◌≡◌, ℕ, Bool, List, Ok, Err, refl, subst, arith, WkbType, Endianness, Layout}
+use Rattle.wkb_read.proofs.Prelude.{max_nesting, Item, Reading, and_then, head_at, type_kind, type_dimension, laid}
+use Rattle.wkb_read.proofs.Prelude.{repeated, geometry_at, Agrees}
+use Rattle.wkb_read.proofs.Prelude.{geometry_agrees_lem, HasNoMembers, TypeTakesNone, ReadsWithoutMemory, AsksForNone}
+use Rattle.wkb_read.proofs.Prelude.{BeginsNone, KindTakesNone, TakesNoMemory}
 use Rattle.std.proofs.lemmas.Bool.{le-ltb}
-use Rattle.wkb_view.specs.Entries.{entries_asked}
-use Rattle.wkb_geom.specs.declared.code.WkbType.TheVariants as kinds
 use Rattle.wkb_view.proofs.Algebra.{and_then-least}
 use Rattle.wkb_read.proofs.Bodies.{behind_header, head_opens}
+use Rattle.wkb_geom.specs.declared.code.WkbType.TheVariants as kinds
 unfoldable use Rattle.wkb_geom.specs.Reading.{collection_at}
 
 -- what asks for no entry costs none
@@ -37,13 +36,7 @@ no_parts n part bytes end none = grind (arith, (and_then-least (repeated n part 
 no_members_in : (member : List ℕ → Reading Item) (l : Layout) (bytes : List ℕ)
     → (collection_at member l bytes).0.turns ≡ 0 → HasNoMembers l bytes
 unfolding collection_at
-no_members_in member l bytes none = λ whole.
-    let long : ltb (length bytes) (body_start l.has_srid + 4) ≡ false = le-ltb _ _ whole in
-    no_parts (count_in l bytes) member (parts_start l.has_srid bytes) (closing l bytes) (omega (arith, rw long at none))
-
--- where there are no members, no entry is asked for
-pub none_asked : (l : Layout) (bytes : List ℕ) → HasNoMembers l bytes → entries_asked 9 l bytes ≡ 0
-none_asked l bytes none = grind (arith, none)
+no_members_in member l bytes none = grind (arith, le-ltb, no_parts)
 
 by_kind : (buf : List ℕ) (type : WkbType) (order : Endianness) (srid : Bool)
     → head_at buf ≡ Ok (record { order = order; wkb_type = type; has_srid = srid })
@@ -56,6 +49,4 @@ by_kind buf (kinds.GeometryCollection d) order srid e k =
 by_kind buf _ order srid e k = tt
 
 pub without_memory : (buf : List ℕ) → TakesNoMemory buf → ReadsWithoutMemory buf
-without_memory buf none = λ h e.
-    by_kind buf h.wkb_type h.order h.has_srid e
-    (none h.order (type_kind h.wkb_type) (type_dimension h.wkb_type) h.has_srid (drop 5 buf) (head_opens buf h e))
+without_memory buf none = grind (arith, by_kind, head_opens)

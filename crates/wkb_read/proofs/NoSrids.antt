@@ -1,21 +1,20 @@
 -- Geometries that have no SRID but their own.
-use Rattle.wkb_read.proofs.Prelude.{◌≡◌, ◌+◌, ◌-◌, ◌*◌, ◌≤◌, List, [], ◌∷◌, length, None, refl}
-use Rattle.wkb_read.proofs.Prelude.{arith, geometry_of, AllByRecursion, Item, spellings, BytesSpell}
-use Rattle.wkb_read.proofs.Prelude.{geometry_seen, Listed, Coordinate, seen_as_it_is}
+use Rattle.wkb_read.proofs.Prelude.{◌≡◌, ◌+◌, ◌-◌, ◌*◌, ◌≤◌, List, [], ◌∷◌, length, None, refl, arith, geometry_of}
+use Rattle.wkb_read.proofs.Prelude.{AllByRecursion, Item, spellings, BytesSpell, geometry_seen, Listed, Coordinate}
+use Rattle.wkb_read.proofs.Prelude.{seen_as_it_is}
 use Rattle.std.proofs.Common.{is_some}
 use Rattle.wkb_geom.specs.Encodings.{fault}
 use Rattle.wkb_geom.specs.Numbers.{AreBytes}
 use Rattle.wkb_geom.specs.Refusals.{srid_size}
 use Rattle.wkb_geom.specs.Sizes.{byte_size}
-use Rattle.wkb_geom.specs.Spellings.{Spelling, node, Spells}
-use Rattle.wkb_geom.specs.Spellings.{srid_count, srid_count_each}
-use Rattle.wkb_geom.specs.Values as value
+use Rattle.wkb_geom.specs.Spellings.{Spelling, node, Spells, srid_count, srid_count_each}
 use Rattle.wkb_laws.proofs.Lengths.{srid_size_is, none_without_members, none_in_points}
 use Rattle.wkb_laws.proofs.Spelled.{in_full_lem, size_of_spelled_lem}
 use Rattle.wkb_laws.proofs.Values.{Good, spelled_good, lawful-geometry_of}
 use Rattle.wkb_read.specs.Prelude.{members_spelled, srid_of, polygon_seen, multi_point_seen}
 use Rattle.wkb_read.specs.NoSrids.{HoldsNoSrid, HaveNoSrids}
 use Rattle.wkb_view.specs.declared.multi_point.MultiPoint.{MultiPoint}
+use Rattle.wkb_geom.specs.Values as value
 
 -- the rings of a polygon have none
 pub polygon_holds_none : (p : Listed (List (List Coordinate))) → HoldsNoSrid (polygon_seen p)

@@ -1,11 +1,8 @@
 -- How a collection begins.
-use Rattle.wkb_read.specs.Prelude.read_errors
 use Rattle.wkb_read.proofs.Prelude.{◌≡◌, ℕ, suc, ◌+◌, ◌-◌, ◌≤◌, ◌<◌, List, [], length, drop, false, ltb, refl, sym, ap}
 use Rattle.wkb_read.proofs.Prelude.{◌∙◌, arith, drop-drop, number, Item, Cost, ◌⊕◌, one_turn, Reading, costs, done}
-use Rattle.wkb_read.proofs.Prelude.{and_then, repeated, slots_of, body_start, consumed, Layout, closing}
-use Rattle.wkb_read.proofs.Prelude.{list_item, collection_with, max_nesting, geometry_inside, after_member}
-use Rattle.wkb_read.proofs.Prelude.{collection_inside, Counts, Stops}
-use Rattle.wkb_geom.specs.declared.error.Cause.TheVariants.{NestingDepthExceeded as nesting_depth_exceeded}
+use Rattle.wkb_read.proofs.Prelude.{and_then, repeated, slots_of, body_start, consumed, Layout, closing, list_item}
+use Rattle.wkb_read.proofs.Prelude.{collection_with, max_nesting, geometry_inside, after_member, collection_inside}
 use Rattle.std.proofs.lemmas.Bool.{le-ltb}
 use Rattle.wkb_view.specs.Entries.{entries_asked}
 use Rattle.wkb_view.proofs.Lists.{parts_length}
@@ -46,8 +43,7 @@ pub without_members : (l : Layout) (bytes encoding rest : List ℕ) (n : ℕ) (m
     (members : List Item) → n ≡ 0 → encoding ≡ consumed bytes rest
     → members ≡ []
     → done (list_item l collection_with members encoding) rest ≡ and_then (repeated n member rest) (closing l bytes)
-without_members l bytes encoding rest n member members none encoding-is empty =
-    rw (none, encoding-is, empty) (sym (repeated_none member rest (closing l bytes)))
+without_members l bytes encoding rest n member members none encoding-is empty = grind (arith, repeated_none)
 
 -- one with members goes on with the first
 pub first_begins : (l : Layout) (bytes rest : List ℕ) (n : ℕ) (member : List ℕ → Reading Item) (members : List Item)
@@ -56,14 +52,4 @@ pub first_begins : (l : Layout) (bytes rest : List ℕ) (n : ℕ) (member : List
     ≡ and_then (repeated n member rest) (closing l bytes)
 first_begins l bytes rest n member members some empty =
     let k : n ≡ suc (n - 1) = omega arith in
-    rw empty (sym
-    (ap (λ (i : ℕ). and_then (repeated i member rest) (closing l bytes)) k
-    ∙ repeated_more (n - 1) member rest (closing l bytes)))
-
--- ---- the refusal before any list
-
-pub too_many_around : (l : Layout) (bytes : List ℕ) (depth : ℕ) (c : Counts) → max_nesting ≤ depth
-    → Stops (read_errors.Cause (nesting_depth_exceeded max_nesting)) (collection_inside l depth bytes) c c
-too_many_around l bytes depth c deep =
-    let level : max_nesting - depth ≡ 0 = omega arith in
-    rw level (refl, record { turns = omega arith; slots = omega arith })
+    grind (arith, repeated_more)

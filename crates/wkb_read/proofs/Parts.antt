@@ -1,9 +1,8 @@
 -- The members of collections, as a caller of the geometry traits sees them.
-use Rattle.wkb_read.proofs.Prelude.{◌≡◌, ℕ, List, [], ◌∷◌, map, refl, sym, ap, ◌∙◌, slice_get, Option}
-use Rattle.wkb_read.proofs.Prelude.{option_map, Bor, length, Value, Values, Coordinate, Listed, Geometry}
-use Rattle.wkb_read.proofs.Prelude.{geometries, geometry_of, geometries_of, IsGeometry, Item, values, geometry_seen}
-use Rattle.wkb_read.proofs.Prelude.{members_seen, Layout, parts_in, AreMembers, IsMemberAt}
-use Rattle.wkb_read.proofs.Prelude.{arith}
+use Rattle.wkb_read.proofs.Prelude.{◌≡◌, ℕ, List, [], ◌∷◌, map, refl, sym, ap, ◌∙◌, slice_get, Option, option_map, Bor}
+use Rattle.wkb_read.proofs.Prelude.{length, Value, Values, Coordinate, Listed, Geometry, geometries, geometry_of}
+use Rattle.wkb_read.proofs.Prelude.{geometries_of, IsGeometry, Item, values, geometry_seen, members_seen, Layout}
+use Rattle.wkb_read.proofs.Prelude.{parts_in, AreMembers, IsMemberAt, arith}
 use Rattle.wkb_read.proofs.Places.{is_member_at}
 use Rattle.std.proofs.lemmas.Bool.{ltb-true, ltb-false}
 use Rattle.std.proofs.lemmas.List.{length-map}
@@ -11,22 +10,16 @@ use Rattle.std.proofs.lemmas.Option.{slice_get-map, slice_get_past, slice_get_re
 use Rattle.std.specs.Slice.{IsItemAt}
 use Rattle.wkb_geom.specs.Dimensions.{as_dimensions}
 use Rattle.wkb_geom.specs.declared.geom.GeometryType.{GeometryType}
-use Rattle.wkb_geom.specs.declared.geom.GeometryType.TheVariants as handed
-use Rattle.wkb_geom.specs.Values as value
-use Rattle.wkb_geom.specs.Geometries.{point, line_string, multi_point}
-use Rattle.wkb_geom.specs.Parts.{PointMeans, LineStringMeans, PolygonMeans, MultiPointMeans, MultiLineStringMeans}
-use Rattle.wkb_geom.specs.Parts.{MultiPolygonMeans, CollectionMeans, RectMeans, TriangleMeans, LineMeans, RectMembers}
-use Rattle.wkb_geom.specs.Parts.{TriangleMembers, LineMembers}
-use Rattle.wkb_view.specs.Fits.{fitted_parts, fitted_members, fitted_geometry, fitted_geometries}
-use Rattle.wkb_view.specs.Views.{point_seen, point_dimension, seen_coordinate, line_string_seen}
-use Rattle.wkb_view.specs.Lawful.{fitted_geometry-same, point_value}
-use Rattle.wkb_view.specs.Views.{line_string_dimension, seen_coordinates, multi_point_seen}
-use Rattle.wkb_view.specs.Views.{multi_point_dimension, seen_points}
-use Rattle.wkb_view.proofs.Lawful.{point_is_lawful, line_string_is_lawful, multi_point_is_lawful}
+use Rattle.wkb_geom.specs.Geometries.{point}
+use Rattle.wkb_geom.specs.Parts.{CollectionMeans}
+use Rattle.wkb_view.specs.Fits.{fitted_geometry, fitted_geometries}
+use Rattle.wkb_view.specs.Views.{point_seen, point_dimension, seen_coordinate}
+use Rattle.wkb_view.specs.Lawful.{fitted_geometry-same, point_value, point_item_lawful}
 use Rattle.wkb_view.specs.declared.point.Point.{Point}
 use Rattle.wkb_view.specs.declared.line_string.LineString.{LineString}
 use Rattle.wkb_view.specs.declared.multi_point.MultiPoint.{MultiPoint}
 use Rattle.wkb_read.specs.Views.{IsViewOf}
+use Rattle.wkb_geom.specs.Values as value
 
 pub members_are : (ms : List Item) → map geometry_seen ms ≡ members_seen (values ms)
 members_are [] = refl
@@ -70,92 +63,14 @@ members_together (value.member v vs) = grind (arith, members_together vs)
 pub part_seen : (g : Geometry) (v : Value) → geometry_of v ≡ g → IsGeometry g → g ≡ fitted_geometry (geometry_of v)
 part_seen g v e h = sym (fitted_geometry-same g h) ∙ ap fitted_geometry (sym e)
 
-point_means : (p : Point)
+pub point_means : (p : Point)
     → point (as_dimensions (point_dimension p)) (seen_coordinate p) ≡ geometry_seen (point_seen p)
-point_means p = part_seen _ (point_seen p).value (ap geometry_of (point_value p)) (point_is_lawful p)
-
-line_string_means : (l : LineString)
-    → line_string (as_dimensions (line_string_dimension l)) (seen_coordinates l)
-    ≡ geometry_seen (line_string_seen l)
-line_string_means l = part_seen _ (line_string_seen l).value refl (line_string_is_lawful l)
-
-multi_point_means : (m : MultiPoint)
-    → multi_point (as_dimensions (multi_point_dimension m)) (seen_points m) ≡ geometry_seen (multi_point_seen m)
-multi_point_means m = part_seen _ (multi_point_seen m).value refl (multi_point_is_lawful m)
+point_means p = grind (arith, part_seen, point_value, point_item_lawful)
 
 -- ---- what a view that is the geometry's means is what the geometry means
 
--- what `as_type` returns
-abbrev Part : Type 0 → Type 0 → Type 0 → Type 0
-Part R T N =
-    GeometryType Point LineString (Listed (List (List Coordinate))) MultiPoint (Listed (List (List Coordinate)))
-    (Listed (List (List (List Coordinate)))) Item R T N
-
-module _ {R T N : Type 0} where
-  pub point_told : (w : Item) (part : Part R T N) → IsViewOf w part
-      → PointMeans (record { dimensions = λ p. as_dimensions (point_dimension p); coordinate = seen_coordinate })
-      part (geometry_seen w)
-  point_told w (handed.Point p) e = point_means p.now ∙ ap geometry_seen e
-  point_told w _ e = tt
-
-  pub line_string_told : (w : Item) (part : Part R T N) → IsViewOf w part
-      → LineStringMeans
-      (record {
-        dimensions = λ l. as_dimensions (line_string_dimension l);
-        coordinates = seen_coordinates;
-      }) part (geometry_seen w)
-  line_string_told w (handed.LineString l) e = line_string_means l.now ∙ ap geometry_seen e
-  line_string_told w _ e = tt
-
-  pub polygon_told : (w : Item) (part : Part R T N) → IsViewOf w part
-      → PolygonMeans
-      (record {
-        dimensions = λ p. as_dimensions p.dimension;
-        rings = fitted_parts;
-      }) part (geometry_seen w)
-  polygon_told w (handed.Polygon p) e = ap geometry_seen e
-  polygon_told w _ e = tt
-
-  pub multi_point_told : (w : Item) (part : Part R T N) → IsViewOf w part
-      → MultiPointMeans
-      (record { dimensions = λ m. as_dimensions (multi_point_dimension m); points = seen_points })
-      part (geometry_seen w)
-  multi_point_told w (handed.MultiPoint m) e = multi_point_means m.now ∙ ap geometry_seen e
-  multi_point_told w _ e = tt
-
-  pub multi_line_string_told : (w : Item) (part : Part R T N) → IsViewOf w part
-      → MultiLineStringMeans
-      (record {
-        dimensions = λ m. as_dimensions m.dimension;
-        line_strings = fitted_parts;
-      }) part (geometry_seen w)
-  multi_line_string_told w (handed.MultiLineString m) e = ap geometry_seen e
-  multi_line_string_told w _ e = tt
-
-  pub multi_polygon_told : (w : Item) (part : Part R T N) → IsViewOf w part
-      → MultiPolygonMeans
-      (record {
-        dimensions = λ m. as_dimensions m.dimension;
-        polygons = fitted_members;
-      }) part (geometry_seen w)
-  multi_polygon_told w (handed.MultiPolygon m) e = ap geometry_seen e
-  multi_polygon_told w _ e = tt
-
-  pub collection_told : (w : Item) (part : Part R T N) → IsViewOf w part
-      → CollectionMeans (as_dimensions (value.dimension w.value)) geometry_seen part (geometry_seen w)
-  collection_told w part e = grind (arith, members_are, members_seen, geometries, members_together)
-
-  pub rect_told : (kind : RectMembers R) (w : Item) (part : Part R T N) → IsViewOf w part
-      → RectMeans kind part (geometry_seen w)
-  rect_told kind w (handed.Rect x) e = absurd e
-  rect_told kind w _ e = tt
-
-  pub triangle_told : (kind : TriangleMembers T) (w : Item) (part : Part R T N) → IsViewOf w part
-      → TriangleMeans kind part (geometry_seen w)
-  triangle_told kind w (handed.Triangle x) e = absurd e
-  triangle_told kind w _ e = tt
-
-  pub line_told : (kind : LineMembers N) (w : Item) (part : Part R T N) → IsViewOf w part
-      → LineMeans kind part (geometry_seen w)
-  line_told kind w (handed.Line x) e = absurd e
-  line_told kind w _ e = tt
+pub collection_told : {R T N : Type 0} (w : Item)
+    (part : GeometryType Point LineString (Listed (List (List Coordinate))) MultiPoint (Listed (List (List Coordinate)))
+    (Listed (List (List (List Coordinate)))) Item R T N) → IsViewOf w part
+    → CollectionMeans (as_dimensions (value.dimension w.value)) geometry_seen part (geometry_seen w)
+collection_told w part e = grind (arith, members_are, members_seen, geometries, members_together)

@@ -1,22 +1,22 @@
 -- The bytes of the members of open collections.
 use Rattle.wkb_read.proofs.Prelude.{collection, member_count, listed_count, list_item, collection_with, Head, ◌≡◌, ℕ}
 use Rattle.wkb_read.proofs.Prelude.{◌+◌, ◌-◌, ◌≤◌, List, [], ◌∷◌, ◌++◌, length, take, drop, Ok, Err, refl, sym, ap}
-use Rattle.wkb_read.proofs.Prelude.{subst, ◌∙◌, append_assoc, append-nil, Bool, Option, length-append, length-drop}
-use Rattle.wkb_read.proofs.Prelude.{slice_get, AllByRecursion, ∥∥₁_elim, props, arith, Bor, Layout, any, number, Listed}
-use Rattle.wkb_read.proofs.Prelude.{Values, Item, Reading, body_start, parts_start, consumed, spellings, values, Counts}
-use Rattle.wkb_read.proofs.Prelude.{HasHead, BytesSpell, Wkb, Whole, joined_encodings, parts_in, HoldsMembers}
-use Rattle.wkb_read.proofs.Prelude.{IsCollectionIn, AreMembers, IsMemberAt, geometry_inside, IsFinished, BeginsAs}
-use Rattle.wkb_read.proofs.Prelude.{max_nesting, nest}
-use Rattle.wkb_geom.specs.declared.code.WkbType.TheVariants as kinds
+use Rattle.wkb_read.proofs.Prelude.{subst, ◌∙◌, append_assoc, append-nil, Option, length-append, length-drop}
+use Rattle.wkb_read.proofs.Prelude.{slice_get, AllByRecursion, ∥∥₁_elim, props, arith, Bor, Layout, any, number}
+use Rattle.wkb_read.proofs.Prelude.{Listed, Values, Item, Reading, body_start, parts_start, consumed, spellings}
+use Rattle.wkb_read.proofs.Prelude.{values, Counts, HasHead, BytesSpell, Wkb, Whole, joined_encodings, parts_in}
+use Rattle.wkb_read.proofs.Prelude.{HoldsMembers, IsCollectionIn, AreMembers, IsMemberAt, geometry_inside, IsFinished}
+use Rattle.wkb_read.proofs.Prelude.{BeginsAs, max_nesting, nest}
 use Rattle.wkb_geom.specs.Numbers.{IsNumber}
 use Rattle.wkb_geom.specs.Spellings.{SpellsEach}
 use Rattle.wkb_geom.specs.Values.{count}
-use Rattle.wkb_laws.proofs.Heads.{IsRight, has_srid_in, item_is}
+use Rattle.wkb_laws.proofs.Heads.{IsRight, item_is}
 use Rattle.wkb_laws.proofs.Bodies.{parts_encoding}
 use Rattle.wkb_laws.proofs.OneFront.{one_spelling}
 use Rattle.wkb_laws.proofs.Parts.{drop_front}
 use Rattle.wkb_laws.proofs.Sound.{geometry_says}
 use Rattle.wkb_read.proofs.Bodies.{head_opens}
+use Rattle.wkb_geom.specs.declared.code.WkbType.TheVariants as kinds
 
 joined_encodings-append : (xs ys : List Item) → joined_encodings (xs ++ ys) ≡ joined_encodings xs ++ joined_encodings ys
 joined_encodings-append [] ys = refl
@@ -99,12 +99,8 @@ closed l bytes members rest head counted long behind each =
     (head_opens bytes h head) tt p.whole p.long p.body
     (refl, subst (λ k. IsNumber l.order 4 k field) (counted ∙ sym (count_values members)) p.number)
     all (omega arith) refl refl).spelled ∣₁) in
-    let holds : HoldsMembers l.has_srid encoding members = record {
-      long =
-          omega (arith, ap length p.body, length-drop start encoding, length-append field (joined_encodings members));
-      behind = ap (λ (b : List ℕ). drop 4 b) p.body ∙ drop_front 4 field (joined_encodings members) p.number.len;
-      each = each;
-    } in
+    let holds : HoldsMembers l.has_srid encoding members =
+    grind (arith, length-drop, length-append, drop_front) in
     record { collection = (holds, spelled); whole = p.whole }
 
 -- ---- the members of a collection that was read
@@ -112,11 +108,7 @@ closed l bytes members rest head counted long behind each =
 pub are_members : (whole : Listed Values) (found : List Item) (l : Layout) (members : List Item) (encoding : List ℕ)
     → parts_in l members encoding ≡ whole → found ≡ members → HoldsMembers l.has_srid encoding members
     → AreMembers whole found
-are_members whole found l members encoding is same h = rw (← is, same) (record {
-  bytes = subst (λ (b : Bool). HoldsMembers b encoding members) (has_srid_in l.order l.has_srid encoding) h;
-  spelled = refl;
-  value = refl;
-})
+are_members whole found l members encoding is same h = grind arith
 
 -- members with the same bytes, spellings and values are the same
 same_members : (xs ys : List Item) → AllByRecursion BytesSpell xs → AllByRecursion BytesSpell ys
@@ -142,7 +134,4 @@ same_members (x ∷ xs) (y ∷ ys) a b s v t =
 pub is_member_at : (whole : Listed Values) (members : List Item) (i : ℕ) (found : Option Item)
     → AreMembers whole members → found ≡ slice_get members i
     → IsMemberAt whole i found
-is_member_at whole members i found a e = λ others b.
-    let same = same_members members others a.bytes.each b.bytes.each (a.spelled ∙ sym b.spelled) (a.value ∙ sym b.value)
-    (sym a.bytes.behind ∙ b.bytes.behind) in
-    e ∙ ap (λ (ms : List Item). slice_get ms i) same
+is_member_at whole members i found a e = grind (arith, same_members)

@@ -1,15 +1,16 @@
 -- The result of reading, from what is read from left to right.
-use Rattle.wkb_read.specs.Prelude.read_errors
 use Rattle.wkb_read.proofs.Prelude.{◌≡◌, ℕ, ◌+◌, ◌*◌, ◌≤◌, List, length, Result, Ok, Err, ap, ◌∙◌, subst, arith, Cause}
 use Rattle.wkb_read.proofs.Prelude.{Some, cause_of, ReadError, WkbError, max_nesting, Item, Cost, Reading, geometry_at}
 use Rattle.wkb_read.proofs.Prelude.{Refuses, any, Tells, TellsReadError, Agrees, geometry_agrees_lem, Counts, IsCause}
-use Rattle.wkb_read.proofs.Prelude.{Spent, AtMost, Stops, Wkb, IsNotMemory, IsFront, IsOnlyFront, HasNoFront, IsRefusal}
-use Rattle.wkb_read.proofs.Prelude.{TellsEach, IfRefused, IfMemory, CountsValue, CountsRefusal, CountsAtMost, ReadsAs}
-use Rattle.wkb_read.specs.Reads.{TakesNoMemory, Reads, Costs}
-use Rattle.wkb_geom.specs.declared.error.WkbError.TheVariants as errors
+use Rattle.wkb_read.proofs.Prelude.{Spent, AtMost, Stops, Wkb, IsNotMemory, IsFront, IsOnlyFront, HasNoFront}
+use Rattle.wkb_read.proofs.Prelude.{IsRefusal, TellsEach, IfRefused, IfMemory, CountsValue, CountsRefusal}
+use Rattle.wkb_read.proofs.Prelude.{CountsAtMost, ReadsAs, TakesNoMemory}
+use Rattle.wkb_read.specs.Reads.{Reads, Costs}
 use Rattle.wkb_laws.proofs.GeometryAt.{front_is_read_lem, refusal_is_read_lem, reading_is_bounded_lem}
 use Rattle.wkb_laws.proofs.OneFront.{one_front_lem}
 use Rattle.wkb_laws.proofs.Outcomes.{never_both_lem, one_refusal_lem}
+use Rattle.wkb_read.specs.Prelude.read_errors
+use Rattle.wkb_geom.specs.declared.error.WkbError.TheVariants as errors
 
 abbrev reading_of : List ℕ → Reading Item
 reading_of buf = geometry_at max_nesting buf
@@ -21,10 +22,7 @@ zero_counts = record { turns = 0; slots = 0 }
 
 counted_of : (whole : Reading Item) (r : Result Wkb ReadError) (old new : Counts) → ReadsAs whole r old new
     → AtMost old new whole.0
-counted_of whole (Ok w) old new h = record { turns = omega arith; slots = omega arith }
-counted_of whole (Err (read_errors.Cause cause)) old new h =
-    record { turns = omega arith; slots = omega arith }
-counted_of whole (Err read_errors.Memory) old new h = h
+counted_of whole r old new h = grind arith
 
 pub count_bounded : (buf : List ℕ) (r : Result Wkb ReadError) (new : Counts)
     → ReadsAs (reading_of buf) r zero_counts new → (4 * new.turns ≤ length buf + 4) × (new.slots ≤ 15 * length buf)
@@ -72,13 +70,9 @@ of_cause : (buf : List ℕ) (e : WkbError) (cause : Cause) (new : Counts)
     → Refuses max_nesting any buf cause new.turns new.slots → Tells e cause → IsRefusedWith buf e new
 of_cause buf e cause new refuses tells = record {
   refusal = record { cause = cause; turns = new.turns; slots = new.slots; refuses = refuses; tells = tells };
-  one_cause =
-      λ other turns slots q. subst (Tells e)
-      (one_refusal_lem buf cause other new.turns turns new.slots slots refuses q).0 tells;
+  one_cause = grind (arith, one_refusal_lem);
   no_front = λ s t rest f. never_both_lem buf s t rest cause new.turns new.slots f refuses;
-  counts =
-      λ other turns slots q. let one =
-      one_refusal_lem buf cause other new.turns turns new.slots slots refuses q in (one.1, one.2);
+  counts = grind (arith, one_refusal_lem);
 }
 
 refused_by : (buf : List ℕ) (r : Reading Item) → Agrees buf r → (cause : Cause) (new : Counts)
@@ -86,11 +80,7 @@ refused_by : (buf : List ℕ) (r : Reading Item) → Agrees buf r → (cause : C
     → Spent zero_counts new r.0
     → Refuses max_nesting any buf cause new.turns new.slots
 refused_by buf (c, Ok x) h cause new is spent = absurd cc
-refused_by buf (c, Err e) h cause new is spent =
-    let same : e.cause ≡ cause = cc in
-    let turns : c.turns ≡ new.turns = omega arith in
-    let slots : c.slots ≡ new.slots = omega arith in
-    rw (← same, ← turns, ← slots) h
+refused_by buf (c, Err e) h cause new is spent = grind arith
 
 -- what holds of each error of the refusal holds of the result
 if_refused : (P : WkbError → Type 0) (buf : List ℕ) (e : WkbError) (error : ReadError) (new : Counts)
@@ -113,46 +103,25 @@ at_most buf new h = record {
 }
 
 if_memory : (e : WkbError) (P : Type 0) → P → IfMemory (Err e) P
-if_memory (errors.Memory x) P p = p
-if_memory _ P p = tt
+if_memory e P p = grind arith
 
 memory_counted : (buf : List ℕ) (e : WkbError) (error : ReadError) (new : Counts)
     → Stops error (reading_of buf) zero_counts new
     → IfMemory (Err e) (CountsAtMost buf new)
-memory_counted buf e error new h =
-    if_memory e (CountsAtMost buf new) (at_most buf new (counted_of (reading_of buf) (Err error) zero_counts new h))
+memory_counted buf e error new h = grind (arith, if_memory, at_most, counted_of)
 
 -- the error of a fault is no allocation failure
 is_not_memory : (e : WkbError) (error : ReadError) → TellsReadError e error → IsCause error → IsNotMemory e
-is_not_memory (errors.Memory x) (read_errors.Cause cause) tells fault = absurd tells
-is_not_memory (errors.Memory x) read_errors.Memory tells fault = absurd fault
-is_not_memory _ error tells fault = tt
+is_not_memory e error tells fault = grind arith
 
 -- a result that is the error of a refusal
 module _ (buf : List ℕ) (e : WkbError) (error : ReadError) (new : Counts)
     (stops : Stops error (reading_of buf) zero_counts new)
     (tells : TellsReadError e error) where
   pub refused_as : (TakesNoMemory buf → IsCause error) → Reads buf (Err e)
-  refused_as none = record {
-    front = tt;
-    one_front = tt;
-    lawful = tt;
-    seen = tt;
-    normal = tt;
-    writable = tt;
-    refusal = if_refused (IsRefusal buf) buf e error new stops tells (λ t. t.refusal);
-    one_cause = if_refused (TellsEach buf) buf e error new stops tells (λ t. t.one_cause);
-    no_front = if_refused (λ e. HasNoFront buf) buf e error new stops tells (λ t. t.no_front);
-    no_memory = λ takes. is_not_memory e error tells (none takes);
-  }
+  refused_as none = grind (arith, if_refused, is_not_memory)
 
   pub refused_at : Costs buf (Err e) new
   refused_at =
       let bound = count_bounded buf (Err error) new stops in
-      record {
-        counts = tt;
-        refusal_counts = if_refused (λ e. CountsRefusal buf new) buf e error new stops tells (λ t. t.counts);
-        memory_counts = memory_counted buf e error new stops;
-        turns_bounded = bound.0;
-        slots_bounded = bound.1;
-      }
+      grind (arith, if_refused, memory_counted)

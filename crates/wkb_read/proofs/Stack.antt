@@ -1,18 +1,15 @@
 -- Open collections, as a part of one is finished.
-use Rattle.wkb_read.specs.Prelude.read_errors
-use Rattle.wkb_read.proofs.Prelude.{◌≡◌, ℕ, suc, ◌+◌, ◌≤◌, List, [], ◌∷◌, ◌++◌, length, Ok, Err, sym, ap, subst}
-use Rattle.wkb_read.proofs.Prelude.{◌∙◌, append_assoc, length-append, arith, Bor, Item, Cost, one_turn, Reading}
-use Rattle.wkb_read.proofs.Prelude.{costs, done, and_then, consumed, Layout, BytesSpell, ReadError}
-use Rattle.wkb_read.proofs.Prelude.{Counts, AtMost, Wkb, Open, Whole, Opened, IsCollectionIn}
-use Rattle.wkb_read.proofs.Prelude.{closing, list_item, collection_with, geometry_inside, after_member, in_collection}
-use Rattle.wkb_read.proofs.Prelude.{outward, first_member, cost_of, IsOpen, AreOpen, IsFinished, BeginsAs}
-use Rattle.wkb_read.proofs.Prelude.{ReadsAs, cause_of, Result, ◌<◌, max_nesting, nest, nest_each, values}
+use Rattle.wkb_read.proofs.Prelude.{◌≡◌, ℕ, suc, ◌+◌, ◌≤◌, List, [], ◌∷◌, ◌++◌, length, Ok, sym, ap, ◌∙◌}
+use Rattle.wkb_read.proofs.Prelude.{append_assoc, length-append, arith, Bor, Item, Cost, one_turn, Reading, costs}
+use Rattle.wkb_read.proofs.Prelude.{and_then, consumed, Layout, BytesSpell, Counts, AtMost, Wkb, Open, Whole}
+use Rattle.wkb_read.proofs.Prelude.{IsCollectionIn, closing, list_item, collection_with, geometry_inside, after_member}
+use Rattle.wkb_read.proofs.Prelude.{in_collection, outward, cost_of, IsOpen, AreOpen, IsFinished, BeginsAs, ◌<◌}
+use Rattle.wkb_read.proofs.Prelude.{max_nesting, nest, nest_each, values, next_turn, entries}
 use Rattle.std.specs.Prelude.{max}
-use Rattle.wkb_view.specs.Outcome.{next_turn}
-use Rattle.wkb_view.proofs.Algebra.{and_then-costs, and_then-assoc, and_then-same}
-use Rattle.wkb_view.proofs.Algebra.{done_then, repeated_more, repeated_none, turn_begins, spent_in_all, at_most_in_all}
+use Rattle.wkb_view.proofs.Algebra.{and_then-costs, and_then-assoc, and_then-same, done_then, repeated_more}
+use Rattle.wkb_view.proofs.Algebra.{repeated_none, turn_begins}
 use Rattle.wkb_read.proofs.Places.{Closed, closed, one_more, part_read}
-use Rattle.wkb_view.specs.Entries.{entries, capacity}
+use Rattle.wkb_view.specs.Entries.{capacity}
 use Rattle.wkb_view.proofs.Members.{all_more}
 
 -- what is being read inside these collections, and what comes of it in all
@@ -33,26 +30,6 @@ moved : (os : List Open) (old new : Cost) (before after whole : Reading Item) �
     → costs old (and_then before (outward os)) ≡ whole → costs new (and_then after (outward os)) ≡ whole
 moved os old new before after whole e so_far = grind (arith, and_then-costs)
 
--- a collection is opened, and its first member begins
-pub enters : (o : Open) (os : List Open) (rest : Bor (List ℕ)) (bytes : List ℕ) (mid new after : Counts)
-    (whole : Reading Item) → Reaches os bytes mid whole
-    → BeginsAs geometry_inside (length os) bytes (Ok (Opened o rest)) mid new
-    → after ≡ next_turn new
-    → Reaches (o ∷ os) rest.now after whole
-enters o os rest bytes mid new after whole r b turn =
-    let member = geometry_inside (suc (length os)) rest.now in
-    let inside = in_collection (length os) o in
-    record {
-      so_far =
-          turn_begins new after (and_then member (outward (o ∷ os))) turn
-          ∙ ap (λ (s : Reading Item). costs (cost_of new) s)
-          (ap (λ (s : Reading Item). costs one_turn s) (sym (and_then-assoc member inside (outward os)))
-          ∙ sym (and_then-costs one_turn (and_then member inside) (outward os)))
-          ∙ moved os (cost_of mid) (cost_of new) (geometry_inside (length os) bytes)
-          (first_member (length os) o rest.now) whole b.0 r.so_far;
-      stand = (b.3, rw b.1 r.stand);
-    }
-
 -- a whole part was read
 pub finishes : (w : Wkb) (os : List Open) (rest : Bor (List ℕ)) (bytes : List ℕ) (mid new : Counts)
     (whole : Reading Item) → Reaches os bytes mid whole
@@ -60,33 +37,13 @@ pub finishes : (w : Wkb) (os : List Open) (rest : Bor (List ℕ)) (bytes : List 
     → Finishes os w rest.now new whole
 finishes w os rest bytes mid new whole r b =
     let p = part_read w rest bytes (length os) mid new b in
-    record {
-      so_far = ap (λ (s : Reading Item). costs (cost_of new) s) (sym (done_then w rest.now (outward os)))
-          ∙ moved os (cost_of mid) (cost_of new) (geometry_inside (length os) bytes)
-          (done w rest.now) whole b.0 r.so_far;
-      stand = subst (AreOpen os) p.whole r.stand;
-      part = p.part;
-    }
+    grind (arith, done_then, moved)
 
 -- what was counted before a turn is among the whole
 pub at_most_turn : (os : List Open) (bytes : List ℕ) (old new after : Counts) (whole : Reading Item)
     → Reaches os bytes after (costs (cost_of old) whole)
     → after ≡ next_turn new → AtMost old new whole.0
-at_most_turn os bytes old new after whole r turn =
-    at_most_in_all _ whole old after new r.so_far
-    (record {
-      turns = omega (arith, ap (λ (c : Counts). c.turns) turn);
-      slots = omega (arith, ap (λ (c : Counts). c.slots) turn);
-    })
-
--- what this reading leads to is what is read
-pub reads_on : (result : Result Wkb ReadError) (r whole : Reading Item) (old mid new : Counts)
-    → costs (cost_of mid) r ≡ costs (cost_of old) whole → ReadsAs r result mid new → ReadsAs whole result old new
-reads_on (Ok w) r whole old mid new e h =
-    ((h.0.0, sym (ap (λ (s : Reading Item). s.1) e) ∙ h.0.1), spent_in_all r whole old mid new e h.1)
-reads_on (Err (read_errors.Cause cause)) r whole old mid new e h =
-    (sym (ap (λ (s : Reading Item). cause_of s.1) e) ∙ h.0, spent_in_all r whole old mid new e h.1)
-reads_on (Err read_errors.Memory) r whole old mid new e h = at_most_in_all r whole old mid new e h
+at_most_turn os bytes old new after whole r turn = grind arith
 
 -- ---- a part is finished
 
@@ -102,13 +59,11 @@ member_more : (member : List ℕ → Reading Item) (l : Layout) (bytes : List �
     (rest : List ℕ)
     → after_member member l bytes (suc n) front m rest
     ≡ costs one_turn (and_then (member rest) (after_member member l bytes n (front ++ m ∷ [])))
-member_more member l bytes n front m rest =
-    grind (arith, and_then-same, repeated_more, append_assoc)
+member_more member l bytes n front m rest = grind (arith, and_then-same, repeated_more, append_assoc)
 
 goes_on : (o next : Open) (os : List Open) (m : Item) (rest : List ℕ) → IsNext o next m
     → outward (o ∷ os) m rest ≡ costs one_turn (and_then (geometry_inside (suc (length os)) rest) (outward (next ∷ os)))
-goes_on o next os m rest n =
-    grind (arith, and_then-assoc, and_then-costs, member_more)
+goes_on o next os m rest n = grind (arith, and_then-assoc, and_then-costs, member_more)
 
 -- with one member more, the list is nested as deep as it was, or as that member
 nest_more : (xs : List Item) (m : Item)
@@ -118,18 +73,7 @@ nest_more (x ∷ xs) m = omega (arith, nest_more xs m)
 
 more_open : (depth : ℕ) (o next : Open) (m : Item) (rest : List ℕ) → IsNext o next m
     → IsOpen depth o (m.encoding ++ rest) → IsFinished (suc depth) m → IsOpen depth next rest
-more_open depth o next m rest n h part =
-    let longer : length (entries next.members) ≡ length (entries o.members) + 1 =
-    ap length n.items ∙ length-append (entries o.members) (m ∷ []) in
-    record {
-      head = rw (n.layout, n.bytes) h.head;
-      count = rw (n.layout, n.bytes) (h.count ∙ omega arith);
-      behind = rw (n.layout, n.bytes, n.items) (h.behind ∙ sym (one_more (entries o.members) m rest));
-      each = rw n.items (all_more BytesSpell (entries o.members) m h.each part.spelled);
-      within = rw (n.layout, n.bytes) (omega (arith, part.long, length-append m.encoding rest));
-      room = rw (n.layout, n.bytes) (omega arith);
-      shallow = rw n.items (omega (arith, nest_more (entries o.members) m, part.shallow));
-    }
+more_open depth o next m rest n h part = grind (arith, length-append, one_more, all_more, nest_more)
 
 -- the next member begins
 pub next_begins : (o next : Open) (os : List Open) (m : Item) (rest : List ℕ) (spent after : Counts)
@@ -137,11 +81,8 @@ pub next_begins : (o next : Open) (os : List Open) (m : Item) (rest : List ℕ) 
     → Finishes (o ∷ os) m rest spent whole → after ≡ next_turn spent
     → Reaches (next ∷ os) rest after whole
 next_begins o next os m rest spent after whole n f turn =
-    let r = and_then (geometry_inside (suc (length os)) rest) (outward (next ∷ os)) in
     record {
-      so_far =
-          turn_begins spent after r turn
-          ∙ ap (λ (s : Reading Item). costs (cost_of spent) s) (sym (goes_on o next os m rest n)) ∙ f.so_far;
+      so_far = grind (arith, turn_begins, goes_on);
       stand = (more_open (length os) o next m rest n f.stand.0 f.part, rw n.bytes f.stand.1);
     }
 
@@ -172,17 +113,4 @@ completes o os m members rest spent whole none is f =
     let out =
     ap (λ (r : Reading Item). and_then r (outward os)) last
     ∙ done_then (list_item o.layout collection_with members encoding) rest (outward os) in
-    record {
-      collection = c.collection;
-      shallow = omega arith;
-      finishes = record {
-        so_far = ap (λ (r : Reading Item). costs (cost_of spent) r) (sym out) ∙ f.so_far;
-        stand = subst (AreOpen os) c.whole f.stand.1;
-        part =
-            record {
-              spelled = c.collection.1;
-              long = omega arith;
-              shallow = omega arith;
-            };
-      };
-    }
+    grind arith

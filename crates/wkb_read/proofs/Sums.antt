@@ -1,19 +1,17 @@
 -- Sums over parts are below the number of bytes.
-use Rattle.wkb_read.proofs.Prelude.{◌≡◌, ℕ, ◌+◌, ◌≤◌, List, [], ◌∷◌, length, refl}
-use Rattle.wkb_read.proofs.Prelude.{arith, Item, values, BytesSpell, Layout, list_item, collection_with}
-use Rattle.std.proofs.Common.{sum_by}
+use Rattle.wkb_read.proofs.Prelude.{◌≡◌, ℕ, ◌+◌, ◌≤◌, List, [], ◌∷◌, length, refl, arith, Item, values, BytesSpell}
+use Rattle.wkb_read.proofs.Prelude.{Layout, list_item, collection_with, rules, sum_by, coordinates_inside}
+use Rattle.wkb_read.proofs.Prelude.{parts_inside}
 use Rattle.std.proofs.lemmas.List.Sums.{sum_by-cons}
 use Rattle.wkb_geom.specs.Counted.{coordinate_count, coordinate_count_each}
 use Rattle.wkb_geom.specs.Values.{member_count, member_count_each}
 use Rattle.wkb_laws.proofs.Counts.{counts_within}
 use Rattle.wkb_laws.proofs.Spelled.{in_full_lem}
-use Rattle.wkb_read.specs.Contents.{coordinates_inside, parts_inside}
 
 -- a geometry has fewer coordinates and parts than bytes
 pub bytes_counted : (w : Item) → BytesSpell w
     → coordinate_count w.value + (1 + member_count w.value) ≤ length w.encoding
-bytes_counted w spells =
-    counts_within w.spelled w.value w.encoding (in_full_lem w.spelled w.value w.encoding spells)
+bytes_counted w spells = grind (arith, counts_within, in_full_lem)
 
 -- the numbers of members, one member after another
 pub coordinates_summed : (ms : List Item) → coordinate_count_each (values ms) ≡ sum_by coordinates_inside ms
@@ -29,5 +27,4 @@ pub collection_counted : (l : Layout) (ms : List Item) (encoding : List ℕ)
     → BytesSpell (list_item l collection_with ms encoding)
     → sum_by coordinates_inside ms + (1 + sum_by parts_inside ms) ≤ length encoding
 collection_counted l ms encoding spells =
-    let within = bytes_counted (list_item l collection_with ms encoding) spells in
-    omega (arith, coordinates_summed ms, members_summed ms)
+    search (rules, bytes_counted, list_item, collection_with, coordinates_summed, members_summed)

@@ -1,6 +1,5 @@
-use Rattle.std.proofs.Common.{length, arith}
+use Rattle.wkb_read.proofs.Prelude.{length, arith, sum_more}
 use Rattle.wkb_read.specs.Prelude.{multi_line_string_seen}
-use Rattle.wkb_laws.proofs.Sums.{sum_more}
 use Rattle.wkb_read.proofs.Sums.{bytes_counted}
 use Rattle.wkb_read.proofs.contents.of_line_strings.Goals as goal
 

@@ -1,4 +1,4 @@
-use Rattle.std.proofs.Common.{◌≡◌, ◌+◌, drop, length, sum_by}
+use Rattle.wkb_read.proofs.Prelude.{◌≡◌, ◌+◌, drop, length, sum_by}
 use Rattle.wkb_read.proofs.contents.of_line_strings.Given as goal
 
 abbrev pub invariant-loop-i : goal.invariant-loop-i

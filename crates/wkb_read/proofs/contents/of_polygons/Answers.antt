@@ -1,9 +1,8 @@
-use Rattle.std.proofs.Common.{◌≤◌, length, arith, ◌+◌, sum_by, ap, List}
-use Rattle.wkb_read.specs.Prelude.{multi_polygon_seen, Coordinate}
-use Rattle.wkb_laws.proofs.Sums.{sum_more}
+use Rattle.wkb_read.proofs.Prelude.{◌≤◌, length, arith, ◌+◌, sum_by, ap, List, rules, Coordinate, sum_more}
+use Rattle.wkb_read.specs.Prelude.{multi_polygon_seen}
 use Rattle.wkb_read.proofs.Sums.{bytes_counted}
-use Rattle.wkb_read.proofs.contents.of_polygons.Goals as goal
 use Rattle.wkb_read.proofs.contents.of_polygons.Goals.{After-num_rings}
+use Rattle.wkb_read.proofs.contents.of_polygons.Goals as goal
 
 pub overflow_add-coordinates : goal.overflow_add-coordinates
 overflow_add-coordinates c =
@@ -25,8 +24,7 @@ parts_fit c =
     omega (arith, bytes_counted (multi_polygon_seen m) c.buf-bytes.ensures.spells)
 
 pub overflow_add-members-in-loop-i : goal.overflow_add-members-in-loop-i
-overflow_add-members-in-loop-i c =
-    omega (arith, parts_fit (goal.at.overflow_add-members-in-loop-i c).After-num_rings)
+overflow_add-members-in-loop-i c = search (rules, parts_fit)
 
 pub overflow_add-members : goal.overflow_add-members
 overflow_add-members c = omega (arith, parts_fit (goal.at.overflow_add-members c).After-num_rings)

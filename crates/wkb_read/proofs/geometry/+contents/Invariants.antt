@@ -1,5 +1,4 @@
-use Rattle.std.proofs.Common.{◌≡◌, ◌+◌, drop, sum_by}
-use Rattle.wkb_read.specs.Contents.{coordinates_inside, parts_inside}
+use Rattle.wkb_read.proofs.Prelude.{◌≡◌, ◌+◌, drop, sum_by, coordinates_inside, parts_inside}
 use Rattle.wkb_read.proofs.geometry.+contents.Given as goal
 
 abbrev pub invariant-GeometryCollection::contents-loop-member : goal.invariant-GeometryCollection::contents-loop-member

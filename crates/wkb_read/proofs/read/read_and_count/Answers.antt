@@ -6,9 +6,7 @@ use Rattle.wkb_read.proofs.Results.{count_bounded, is_read, refused_as, refused_
 use Rattle.wkb_read.proofs.read.read_and_count.Goals as goal
 
 pub read_geometry-requires : goal.read_geometry-requires
-read_geometry-requires c =
-    let b = reading_is_bounded_lem c.args.buf.now in
-    record { fits = record { turns = omega arith; slots = omega arith } }
+read_geometry-requires c = grind (arith, reading_is_bounded_lem)
 
 pub returns-in-Ok-clause-reads : goal.returns-in-Ok-clause-reads
 returns-in-Ok-clause-reads c =
@@ -37,13 +35,7 @@ returns-in-Ok-clause-costs c =
     let new = c.read_geometry.new.counts in
     let r = is_read c.args.buf.now c.in-Ok.whole new c.in-Ok.ensures.reads in
     let bound = count_bounded c.args.buf.now (Ok c.in-Ok.whole) new c.in-Ok.ensures.reads in
-    record {
-      counts = r.counts;
-      refusal_counts = tt;
-      memory_counts = tt;
-      turns_bounded = bound.0;
-      slots_bounded = bound.1;
-    }
+    grind arith
 
 pub returns-in-Err-clause-reads : goal.returns-in-Err-clause-reads
 returns-in-Err-clause-reads c =
@@ -51,6 +43,4 @@ returns-in-Err-clause-reads c =
     c.into.ensures (λ none. c.in-Err.ensures.no_memory (without_memory c.args.buf.now none))
 
 pub returns-in-Err-clause-costs : goal.returns-in-Err-clause-costs
-returns-in-Err-clause-costs c =
-    refused_at c.args.buf.now c.into.result c.in-Err.error c.read_geometry.new.counts c.in-Err.ensures.reads
-    c.into.ensures
+returns-in-Err-clause-costs c = grind (arith, refused_at)

@@ -1,13 +1,12 @@
 use Rattle.wkb_read.proofs.Prelude.{◌≡◌, ◌+◌, ◌-◌, ◌<◌, ◌≤◌, ℕ, suc, List, [], length, refl, sym, arith, ap, ◌∙◌}
 use Rattle.wkb_read.proofs.Prelude.{drop-drop, Item, Reading, Layout, Counts, Stops, max_nesting, body_start}
-use Rattle.wkb_read.proofs.Prelude.{collection_inside, cost_of}
+use Rattle.wkb_read.proofs.Prelude.{collection_inside, cost_of, entries}
 use Rattle.wkb_geom.specs.declared.error.ReadError.{ReadError}
 use Rattle.std.proofs.lemmas.Result.{err_from_is_err_and}
 use Rattle.wkb_view.proofs.Lists.{parts_length, entries_within, list_refused}
-use Rattle.wkb_view.specs.Entries.{entries, entries_asked, HasNoList}
+use Rattle.wkb_view.specs.Entries.{entries_asked, HasNoList}
 use Rattle.wkb_read.proofs.Places.{closed, front_taken}
-use Rattle.wkb_read.proofs.Opens.{opens, without_members, first_begins, too_many_around}
-use Rattle.wkb_read.proofs.NoMemory.{none_asked}
+use Rattle.wkb_read.proofs.Opens.{opens, without_members, first_begins}
 use Rattle.wkb_read.proofs.read.stack.begin_collection.Goals as goal
 unfoldable use Rattle.wkb_geom.specs.Reading.{collection_at}
 
@@ -33,8 +32,7 @@ returns-clause-begins c =
     let bytes = c.args.bytes.now in
     let items = c.in_ok-count.ensures.empty in
     let back = rw c.header_length.ensures at c.split_at.ensures.back in
-    let behind : length c.split_at.result.1.now + (body_start l.has_srid + 4) ≡ length bytes =
-    omega arith in
+    let behind : length c.split_at.result.1.now + (body_start l.has_srid + 4) ≡ length bytes = grind arith in
     let none : length (entries c.in_ok-count.members) ≡ 0 = ap length items in
     rw (c.counted_list.ensures.turns, c.counted_list.ensures.slots) (
       opens l bytes c.args.depth c.in_ok-count.count (cost_of c.args.counts.now) _ _
@@ -69,12 +67,6 @@ invariant_of-whole c =
       omega arith,
     )
 
-pub returns-then-depth-ge-MAX_WKB_NESTING_DEPTH-clause-begins :
-    goal.returns-then-depth-ge-MAX_WKB_NESTING_DEPTH-clause-begins
-returns-then-depth-ge-MAX_WKB_NESTING_DEPTH-clause-begins c =
-    too_many_around c.args.layout c.args.bytes.now c.args.depth c.args.counts.now
-    c.if-depth-ge-MAX_WKB_NESTING_DEPTH.true
-
 module _ (l : Layout) (bytes : List ℕ) where
   within : (member : List ℕ → Reading Item) → entries_asked 9 l bytes ≤ (collection_at member l bytes).0.slots
   unfolding collection_at
@@ -98,18 +90,7 @@ module _ (l : Layout) (bytes : List ℕ) where
     members_refused error old new none turns slots = rw level (refused _ error old new none turns slots)
 
 pub counted_list-requires-clause-fits : goal.counted_list-requires-clause-fits
-counted_list-requires-clause-fits c =
-    omega (arith, members_within c.args.layout c.args.bytes.now c.args.depth c.if-depth-ge-MAX_WKB_NESTING_DEPTH.false)
+counted_list-requires-clause-fits c = grind (arith, members_within)
 
 pub returns-in_err-count-clause-begins : goal.returns-in_err-count-clause-begins
-returns-in_err-count-clause-begins c =
-    let stopped = err_from_is_err_and c.from_residual.result c.from_residual.ensures.1 in
-    rw (stopped.1, stopped.2)
-    (members_refused c.args.layout c.args.bytes.now c.args.depth c.if-depth-ge-MAX_WKB_NESTING_DEPTH.false
-    c.in_err-count.field-0.0 c.args.counts.now c.counted_list.new.counts
-    c.in_err-count.ensures.no_list c.counted_list.ensures.turns c.counted_list.ensures.slots)
-
-pub returns-in_err-count-clause-no_memory : goal.returns-in_err-count-clause-no_memory
-returns-in_err-count-clause-no_memory c = λ none.
-    let stopped = err_from_is_err_and c.from_residual.result c.from_residual.ensures.1 in
-    rw (stopped.1, stopped.2) (c.in_err-count.ensures.no_memory (none_asked c.args.layout c.args.bytes.now none))
+returns-in_err-count-clause-begins c = grind (arith, err_from_is_err_and, members_refused)

@@ -1,20 +1,14 @@
-use Rattle.wkb_read.proofs.Prelude.{◌≡◌, ◌<◌, ◌-◌, ℕ, ◌∷◌, [], ◌++◌, length, reverse, length-append}
-use Rattle.wkb_read.proofs.Prelude.{length-reverse, length-set, refl, sym, ap, ◌∙◌, arith, vec_len, List, slice_set}
-use Rattle.wkb_read.proofs.Prelude.{Item, Reading, costs, Open, cost_of, outward}
-use Rattle.std.proofs.Common.{true, false}
+use Rattle.wkb_read.proofs.Prelude.{◌≡◌, ◌<◌, ◌-◌, ℕ, ◌∷◌, [], ◌++◌, length, reverse, length-append, length-reverse}
+use Rattle.wkb_read.proofs.Prelude.{length-set, refl, sym, ap, ◌∙◌, arith, vec_len, List, slice_set, Item, Reading}
+use Rattle.wkb_read.proofs.Prelude.{costs, Open, cost_of, outward, true, false, entries, next_turn}
 use Rattle.std.proofs.lemmas.Bool.{false≢true}
-use Rattle.wkb_view.specs.Entries.{entries}
-use Rattle.wkb_view.specs.Outcome.{next_turn}
 use Rattle.wkb_read.proofs.LastItem.{Top, top, popped}
 use Rattle.wkb_read.proofs.Stack.{Reaches, Finishes, Completes, next_begins, completes}
-use Rattle.wkb_read.proofs.read.stack.close_finished.Goals as goal
 use Rattle.wkb_read.proofs.read.stack.close_finished.Goals.{After-push}
+use Rattle.wkb_read.proofs.read.stack.close_finished.Goals as goal
 
 on_top : (c : After-push) → Top c.loop-top.stack.items (vec_len c.loop-top.stack - 1) c.in-Some.top.now
-on_top c =
-    top c.loop-top.stack.items (vec_len c.loop-top.stack - 1) c.in-Some.top.now
-    (omega (arith, c.in-Some.ensures.variant.0 refl))
-    c.in-Some.ensures.value
+on_top c = grind (arith, top)
 
 -- the top with the finished part, and this number of members after it
 abbrev filled : After-push → ℕ → Open
@@ -52,12 +46,7 @@ begins c more =
     }) (finishes c) refl
 
 pub overflow_add-counts : goal.overflow_add-counts
-overflow_add-counts c =
-    omega (
-      arith,
-      ap (λ (s : Reading Item). s.0.turns)
-          (begins (goal.at.overflow_add-counts c).After-push c.if-top-gt0.true).so_far,
-    )
+overflow_add-counts c = grind (arith, begins (goal.at.overflow_add-counts c).After-push c.if-top-gt0.true)
 
 pub returns-then-top-gt0 : goal.returns-then-top-gt0
 returns-then-top-gt0 c =
@@ -65,10 +54,7 @@ returns-then-top-gt0 c =
     let r = begins p c.if-top-gt0.true in
     let top_left = filled p (c.in-Some.top.now.left - 1) in
     let as_many = length-set c.loop-top.stack.items (vec_len c.loop-top.stack - 1) top_left in
-    record {
-      settles = rw ((on_top p).set_is _) (r.so_far, r.stand);
-      fewer = omega arith;
-    }
+    grind (arith, on_top)
 
 -- what is taken off is the top, now with all its members
 taken_off : (c : After-push) (ys : List Open) (z : Open)
@@ -88,8 +74,7 @@ all_in c z members same is none =
 pub slice_bounds-finished-count : goal.slice_bounds-finished-count
 slice_bounds-finished-count c =
     let p = (goal.at.slice_bounds-finished-count c).After-push in
-    rw (sym (taken_off p _ _ c.in-Some-pop.ensures.items).0)
-    (omega (arith, (finishes p).stand.0.within, length-append c.loop-top.finished.encoding c.args.rest.now))
+    grind (arith, finishes p, length-append, taken_off p _ _ c.in-Some-pop.ensures.items)
 
 pub invariant_of-finished : goal.invariant_of-finished
 invariant_of-finished c =
@@ -121,13 +106,4 @@ none_in [] n is some = refl
 none_in (o ∷ os) n is some = absurd (false≢true (some (omega arith)))
 
 pub returns-in_default : goal.returns-in_default
-returns-in_default c =
-    let s = c.loop-top.stack in
-    let none = ap reverse (none_in s.items (vec_len s) (omega arith) c.in_default.ensures.variant.1) in
-    record { settles = (none, (rw none at c.loop-top.invariant.finishes).so_far); fewer = c.loop-top.invariant.fewer }
-
-pub loop-top-smaller : goal.loop-top-smaller
-loop-top-smaller c =
-    let p = (goal.at.loop-top-smaller c).After-push in
-    let off = taken_off p _ _ c.in-Some-pop.ensures.items in
-    omega (arith, ap length off.1, length-reverse c.pop.new.self.items, (on_top p).count)
+returns-in_default c = grind (arith, none_in)
