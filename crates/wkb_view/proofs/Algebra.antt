@@ -1,19 +1,17 @@
 -- Readings one after the other, and their costs.
-use Rattle.std.proofs.Common.{◌≡◌, ◌+◌, ◌≤◌, ℕ, suc, List, [], ◌∷◌, Ok, refl, ap, add_assoc, zero-add}
-use Rattle.std.proofs.Common.{arith}
+use Rattle.wkb_view.proofs.Prelude.{◌≡◌, ◌+◌, ◌≤◌, ℕ, suc, List, [], ◌∷◌, Ok, refl, arith, one_turn, Reading, costs}
+use Rattle.wkb_view.proofs.Prelude.{done, and_then, repeated, ReadError, Counts, Spent, CanCount, Stops, next_turn}
+use Rattle.wkb_view.proofs.Prelude.{cost_of}
+use Rattle.std.proofs.Common.{add_assoc}
 use Rattle.wkb_geom.specs.Reading.{◌⊕◌}
-use Rattle.wkb_view.specs.Prelude.{Cost, free, one_turn, Reading, costs, done, and_then, repeated, ReadError}
-use Rattle.wkb_view.specs.declared.counts.Counts.{Counts}
-use Rattle.wkb_view.specs.Outcome.{Spent, AtMost, CanCount, Stops, next_turn, cost_of}
+use Rattle.wkb_view.specs.Prelude.{Cost}
+use Rattle.wkb_view.specs.Outcome.{AtMost}
 
 pub cost_is : (a b : Cost) → a.turns ≡ b.turns → a.slots ≡ b.slots → a ≡ b
 cost_is a b t s = rw (t, s) refl
 
 pub costs-costs : {A : Type 0} (a b : Cost) (r : Reading A) → costs a (costs b r) ≡ costs (a ⊕ b) r
 costs-costs a b r = grind (arith, add_assoc, cost_is)
-
-free-costs : {A : Type 0} (r : Reading A) → costs free r ≡ r
-free-costs r = ap (λ (c : Cost). (c, r.1)) (cost_is _ _ (zero-add r.0.turns) (zero-add r.0.slots))
 
 pub and_then-costs : {A B : Type 0} (c : Cost) (r : Reading A) (g : A → List ℕ → Reading B)
     → and_then (costs c r) g ≡ costs c (and_then r g)
@@ -29,7 +27,7 @@ and_then-same r f g h = grind (arith, h)
 
 pub done_then : {A B : Type 0} (x : A) (rest : List ℕ) (f : A → List ℕ → Reading B)
     → and_then (done x rest) f ≡ f x rest
-done_then x rest f = free-costs (f x rest)
+done_then x rest f = grind (arith, cost_is)
 
 -- what the first of two costs is among what both cost
 pub and_then-least : {A B : Type 0} (r : Reading A) (g : A → List ℕ → Reading B)

@@ -1,13 +1,10 @@
 -- How many coordinates the rings of a view have.
-use Rattle.std.proofs.Common.{◌≡◌, ℕ, ◌+◌, ◌-◌, ◌*◌, ◌/◌, List, [], ◌∷◌, length, sum_by, sym, arith, ap}
-use Rattle.std.proofs.Common.{◌∙◌}
+use Rattle.wkb_view.proofs.Prelude.{◌≡◌, ℕ, ◌+◌, ◌-◌, ◌*◌, ◌/◌, List, [], ◌∷◌, length, sum_by, sym, arith, ap, ◌∙◌}
+use Rattle.wkb_view.proofs.Prelude.{rings_size, Dimension, width, as_dimensions, Layout, Listed, Coordinate, AreBytes}
+use Rattle.wkb_view.proofs.Prelude.{BytesSpell, body_start, polygon_laid, polygon_seen}
 use Rattle.std.proofs.lemmas.List.Sums.{sum_by-cons}
 use Rattle.std.proofs.Math.Nat.{mul-div_cancel_left, mul-add}
-use Rattle.wkb_geom.specs.Sizes.{rings_size}
 use Rattle.wkb_geom.specs.Dimensions.{size}
-use Rattle.wkb_view.specs.Prelude.{Dimension, width, as_dimensions, Layout, Listed, Coordinate, AreBytes, BytesSpell}
-use Rattle.wkb_view.specs.Prelude.{body_start}
-use Rattle.wkb_view.specs.Members.{polygon_laid, polygon_seen}
 use Rattle.wkb_view.proofs.Sizes.{polygon_size, rings_same}
 use Rattle.wkb_view.specs.Lawful.{named_size}
 use Rattle.wkb_view.proofs.Items.{width-within}
@@ -29,10 +26,7 @@ module _ (w : ℕ) where
 
 pub rings_counted : (d : Dimension) (rs : List (List (List ℕ)))
     → rings_size (as_dimensions d) rs ≡ 4 + 4 * length rs + 8 * width d * sum_by length rs
-rings_counted d rs =
-    let same = summed (size (as_dimensions d)) rs in
-    let wide = ap (λ w. 4 * length rs + 8 * w * sum_by length rs) (named_size d) in
-    ap (λ n. 4 + n) (same ∙ wide) ∙ omega arith
+rings_counted d rs = grind (arith, summed (size (as_dimensions d)) rs, named_size d)
 
 pub coordinates_counted : (d : Dimension) (n k s : ℕ) → n ≡ 4 + 4 * k + 8 * width d * s
     → (n - 4 - 4 * k) / (8 * width d) ≡ s

@@ -1,12 +1,11 @@
 -- Bytes that are read as coordinates in an order are what is written of these coordinates in that order.
-use Rattle.std.proofs.Common.{◌≡◌, ℕ, zero, suc, ◌+◌, ◌*◌, ◌≤◌, List, length, take, drop, refl, sym, ◌∙◌, arith}
-use Rattle.std.proofs.Common.{length-drop, take_all, take-add}
+use Rattle.wkb_view.proofs.Prelude.{◌≡◌, ℕ, zero, suc, ◌+◌, ◌*◌, ◌≤◌, List, length, take, drop, refl, sym, ◌∙◌, arith}
+use Rattle.wkb_view.proofs.Prelude.{length-drop, take_all, Endianness, Dimension, AreBytes, number, width, items}
+use Rattle.wkb_view.proofs.Prelude.{coordinate, coordinates, ring_in, AreBytes-take, AreBytes-drop}
+use Rattle.std.proofs.Common.{take-add}
 use Rattle.std.specs.List.{flat_map}
 use Rattle.wkb_geom.specs.Numbers.{number_bytes}
 use Rattle.wkb_geom.specs.Encodings.{words_encoding}
-use Rattle.wkb_view.specs.Prelude.{Endianness, Dimension, AreBytes, number, width, items}
-use Rattle.wkb_view.specs.Prelude.{coordinate, coordinates, ring_in}
-use Rattle.wkb_view.specs.Lawful.{AreBytes-take, AreBytes-drop}
 use Rattle.wkb_laws.proofs.EncodingBytes.{number_is_bytes}
 use Rattle.wkb_laws.proofs.OneEncoding.{number_fixed}
 use Rattle.wkb_laws.proofs.Parts.{field_taken as number_taken}

@@ -1,26 +1,23 @@
 -- Views whose bytes are what is written of them.
-use Rattle.std.proofs.Common.{◌≡◌, ℕ, ◌+◌, ◌≤◌, List, [], ◌∷◌, length, map, take, drop, None, Some, false}
-use Rattle.std.proofs.Common.{refl, sym, ap, ◌∙◌, subst, arith}
-use Rattle.std.specs.Prelude.{slice_get, option_map, Bool, true}
-use Rattle.std.specs.Borrow.{Bor}
+use Rattle.wkb_view.proofs.Prelude.{◌≡◌, ℕ, ◌+◌, ◌≤◌, List, [], ◌∷◌, length, map, take, drop, None, Some, false, refl}
+use Rattle.wkb_view.proofs.Prelude.{sym, ap, ◌∙◌, arith, slice_get, option_map, Bool, true, Bor, take_all, length-map}
+use Rattle.wkb_view.proofs.Prelude.{slice_get-map, get_or_from_slice_get, geometry_of, fault, in_full_lem}
+use Rattle.wkb_view.proofs.Prelude.{spelled_good, lawful-geometry_of, Endianness, Dimension, number, Layout, Item}
+use Rattle.wkb_view.proofs.Prelude.{Spelling, spellings, as_dimensions, list_of_spellings, BytesSpell}
+use Rattle.wkb_view.proofs.Prelude.{fitted_geometry-same}
 use Rattle.std.specs.Bool.{then_some}
-use Rattle.std.proofs.lemmas.List.{take_all, take_more_same, length-map}
-use Rattle.std.proofs.lemmas.Option.{slice_get-map, slice_get_within, get_or_from_slice_get}
+use Rattle.std.proofs.lemmas.List.{take_more_same}
+use Rattle.std.proofs.lemmas.Option.{slice_get_within}
 use Rattle.wkb_geom.specs.declared.common.Form.{Form}
 use Rattle.wkb_geom.specs.Values.{Value}
 use Rattle.wkb_geom.specs.Spellings.{node, spelling}
-use Rattle.wkb_geom.specs.Geometries.{Geometry, geometry_of}
-use Rattle.wkb_geom.specs.Encodings.{form_srid, inner, form_with_flags, code_of, encoding, fault, IsForm}
+use Rattle.wkb_geom.specs.Geometries.{Geometry}
+use Rattle.wkb_geom.specs.Encodings.{inner, form_with_flags, code_of, encoding, IsForm}
 use Rattle.wkb_laws.specs.Written.{written, written_header, each_spelling}
-use Rattle.wkb_laws.proofs.Spelled.{in_full_lem}
 use Rattle.wkb_laws.proofs.EncodingBytes.{as_written}
-use Rattle.wkb_laws.proofs.Values.{spelled_good, lawful-geometry_of}
-use Rattle.wkb_view.specs.Prelude.{Endianness, Dimension, number, Layout, Item, Spelling, Spellings, spellings}
-use Rattle.wkb_view.specs.Prelude.{spelled_in}
+use Rattle.wkb_view.specs.Prelude.{Spellings, spelled_in, spelling_at, members_spelled}
 use Rattle.wkb_geom.specs.Dimensions.{written_dimension}
-use Rattle.wkb_view.specs.Prelude.{as_dimensions, spelling_at, list_of_spellings, members_spelled, BytesSpell}
 use Rattle.wkb_view.specs.Fits.{fitted_geometry}
-use Rattle.wkb_view.specs.Lawful.{fitted_geometry-same}
 use Rattle.wkb_view.specs.BytesAsWritten.{IsSpelledAsWritten, LendsEncoding}
 use Rattle.wkb_view.proofs.Members.{spelled_each}
 
@@ -41,11 +38,7 @@ module _ (order : Endianness) (form : Form) (has_flags : Bool) (form_is : form �
 
   -- what is spelled is lawful, so fitting leaves it as it is
   pub is_encoded_fitted : IsEncoded i.encoding order form (fitted_geometry (geometry_of i.value))
-  is_encoded_fitted =
-      let full = in_full_lem i.spelled i.value i.encoding spells in
-      let good = spelled_good i.spelled i.value i.encoding is.bytes full in
-      subst (IsEncoded i.encoding order form)
-      (sym (fitted_geometry-same (geometry_of i.value) (lawful-geometry_of i.value good.0))) is_encoded
+  is_encoded_fitted = grind (arith, in_full_lem, spelled_good, fitted_geometry-same, lawful-geometry_of, is_encoded)
 
 -- what is lent where a test holds
 pub exposes : {order : Endianness} {form : Form} {g : Geometry} (test : Bool) (buf : Bor (List ℕ))
@@ -60,9 +53,6 @@ pub record HasWrittenHeader (k : ℕ) (l : Layout) (bytes : List ℕ) (order : E
   pub order_is : l.order ≡ order
   pub plain : l.has_srid ≡ false
   pub code : number order 4 (drop 1 bytes) ≡ code_of (form_with_flags has_flags) k l.dimension
-
-no_srid : (has_flags : Bool) → form_srid (form_with_flags has_flags) ≡ None
-no_srid has_flags = grind arith
 
 -- the spelling of a geometry with that header and these members
 pub header_spelled : (k : ℕ) (l : Layout) (bytes : List ℕ) (order : Endianness) (has_flags : Bool) (ss : Spellings)

@@ -1,8 +1,6 @@
 -- What is asked for after a count, and what is returned where the count, or what it counts, is missing.
-use Rattle.std.proofs.Common.{◌≡◌, ◌/◌, min, [], ◌∷◌}
-use Rattle.std.proofs.Common.{◌++◌, refl}
+use Rattle.wkb_view.proofs.Prelude.{◌≡◌, ◌/◌, min, [], ◌∷◌, ◌++◌, refl, pieces}
 use Rattle.wkb_view.proofs.Hex.{hex}
-use Rattle.wkb_view.specs.Pieces.{pieces}
 
 -- ---- lists, whose entries are asked for at once
 

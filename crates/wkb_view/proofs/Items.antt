@@ -1,16 +1,14 @@
 -- Words and coordinates at their offsets.
-use Rattle.std.proofs.Common.{◌≡◌, ℕ, zero, suc, ◌+◌, ◌-◌, ◌*◌, ◌≤◌, ◌<◌, List, length, take, drop, Some, refl, sym, ap}
-use Rattle.std.proofs.Common.{◌∙◌, get_or, arith, Bool, rules}
-use Rattle.std.specs.Prelude.{slice_get, is_none}
-use Rattle.std.proofs.lemmas.List.{drop-drop, drop-take}
-use Rattle.std.proofs.lemmas.Option.{get_or_from_slice_get}
+use Rattle.wkb_view.proofs.Prelude.{◌≡◌, ℕ, zero, suc, ◌+◌, ◌-◌, ◌*◌, ◌≤◌, ◌<◌, List, length, take, drop, Some, refl}
+use Rattle.wkb_view.proofs.Prelude.{sym, ap, ◌∙◌, get_or, arith, Bool, rules, slice_get, drop-drop, drop-take}
+use Rattle.wkb_view.proofs.Prelude.{get_or_from_slice_get, Endianness, Dimension, number, width, number-take}
+use Rattle.wkb_view.proofs.Prelude.{length-items, items, coordinate, coordinates, body_start, ring_in, Layout, is_nan}
+use Rattle.wkb_view.proofs.Prelude.{all_nan, point_of, point_item, srid_in}
+use Rattle.std.specs.Prelude.{is_none}
 use Rattle.std.proofs.Math.Nat.{mul-le-mul_right}
 use Rattle.wkb_geom.specs.Spellings.{header}
 use Rattle.wkb_geom.specs.Reading.{point_words_in}
-use Rattle.wkb_view.specs.Prelude.{Endianness, Dimension, number, width, number-take, length-items}
-use Rattle.wkb_view.specs.Prelude.{items, coordinate, coordinates, body_start}
 use Rattle.wkb_view.specs.Coords.{coordinate_encoding}
-use Rattle.wkb_view.specs.Prelude.{ring_in, Layout, is_nan, all_nan, point_of, point_item, point_item_of, srid_in}
 
 pub items_at : {A : Type 0} (size : ℕ) (item : List ℕ → A) (n i : ℕ) (xs : List ℕ) → i < n
     → slice_get (items size item n xs) i ≡ Some (item (drop (size * i) xs))
@@ -82,7 +80,3 @@ point_encoding_is l encoding = grind arith
 pub srid_is : (l : Layout) (encoding : List ℕ)
     → (header (point_item l encoding).spelled).srid ≡ srid_in l.order l.has_srid encoding
 srid_is l encoding = grind arith
-
-pub coordinate_is : (l : Layout) (encoding : List ℕ) (b : Bool) → b ≡ all_nan (point_words_in l encoding)
-    → point_of (point_item_of l encoding (point_words_in l encoding) b).value ≡ point_of (point_item l encoding).value
-coordinate_is l encoding b h = grind arith

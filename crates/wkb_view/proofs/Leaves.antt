@@ -1,12 +1,13 @@
 -- Points, line strings and rings: what an encoding that was cut after them says, and what they cost.
-use Rattle.std.proofs.Common.{◌≡◌, ℕ, zero, suc, ◌-◌, ◌+◌, ◌≤◌, List, [], ◌∷◌, length}
-use Rattle.std.proofs.Common.{take, drop, Option, Some, None, Ok, refl, sym, ap, ◌∙◌, length-take, length-drop, arith}
+use Rattle.wkb_view.proofs.Prelude.{◌≡◌, ℕ, zero, suc, ◌-◌, ◌+◌, ◌≤◌, List, [], ◌∷◌, length, take, drop, Option, Some}
+use Rattle.wkb_view.proofs.Prelude.{None, Ok, refl, sym, ap, ◌∙◌, length-take, length-drop, arith, Endianness}
+use Rattle.wkb_view.proofs.Prelude.{Dimension, Layout, number, number-take, Item, Outcome, Reading, head_at, consumed}
+use Rattle.wkb_view.proofs.Prelude.{member_layout, member_at, then_body, IsEncoding, IsMemberOfKind, member_item}
+use Rattle.wkb_view.proofs.Prelude.{Passed}
 use Rattle.wkb_geom.specs.Reading.{order_of_byte, head_by_order}
-use Rattle.wkb_view.specs.Prelude.{Endianness, Dimension, Layout, number, number-take, ring_end, Item, Outcome, Reading}
-use Rattle.wkb_view.specs.Prelude.{head_at, consumed, member_layout}
-use Rattle.wkb_view.specs.Prelude.{member_body, member_at, then_body}
-use Rattle.wkb_view.specs.Members.{item_of, IsEncoding, IsMemberOfKind, layout_said, member_item}
-use Rattle.wkb_view.specs.Pieces.{Passed, IsRingPart}
+use Rattle.wkb_view.specs.Prelude.{ring_end, member_body}
+use Rattle.wkb_view.specs.Members.{item_of, layout_said}
+use Rattle.wkb_view.specs.Pieces.{IsRingPart}
 use Rattle.wkb_view.proofs.Pieces.{drop-of-take}
 
 -- a number within the encoding that was taken
@@ -42,11 +43,10 @@ pub ring_passed : (order : Endianness) (d : Dimension) (bytes rest : List ℕ) (
     → end ≡ ring_end d n → end ≤ length bytes
     → rest ≡ drop end bytes → Passed 4 (IsRingPart order d) bytes rest
 ring_passed order d bytes rest n end n-is end-is le rest-is =
-    let same : number order 4 (take end bytes) ≡ number order 4 bytes = number-take order 4 end bytes (omega arith) in
     passed_by 4 bytes rest end (omega arith) le rest-is
     (record {
       counted = omega (arith, length-take end bytes);
-      whole = rw (same, ← n-is) (omega (arith, length-take end bytes));
+      whole = grind (arith, length-take, number-take);
     })
 
 -- ---- members

@@ -1,3 +1,4 @@
+pub mod Prelude
 pub mod Algebra
 pub mod Items
 pub mod Lawful

@@ -1,18 +1,16 @@
 -- Parts read one after the other, as a loop does, and lists of them after a count.
-use Rattle.std.proofs.Common.{◌≡◌, ℕ, suc, ◌+◌, ◌-◌, ◌≤◌, ◌<◌, List, [], ◌∷◌, ◌++◌, Ok, refl, sym, ap, ◌∙◌}
-use Rattle.std.proofs.Common.{append_assoc, arith, Bool, cond, length, drop, ltb}
-use Rattle.std.proofs.lemmas.List.{append-nil}
-use Rattle.wkb_view.specs.Prelude.{refused, end_of_input, Cause, ReadError, free, one_turn, Outcome}
-use Rattle.wkb_view.specs.Prelude.read_errors
-use Rattle.wkb_view.specs.Prelude.{Reading, costs, done, count_in, and_then, repeated, Layout, Item, number}
-use Rattle.wkb_view.specs.Prelude.{multi_point_end, slots_asked, consumed, body_start, parts_start, list_at}
-use Rattle.wkb_view.specs.Prelude.{list_item, member_at, multi_point_with}
-use Rattle.wkb_view.specs.declared.counts.Counts.{Counts}
-use Rattle.wkb_view.specs.Outcome.{Spent, next_turn, cost_of, CanCount, Stops}
+use Rattle.wkb_view.proofs.Prelude.{◌≡◌, ℕ, suc, ◌+◌, ◌-◌, ◌≤◌, ◌<◌, List, [], ◌∷◌, ◌++◌, Ok, refl, ap, arith, Bool}
+use Rattle.wkb_view.proofs.Prelude.{length, drop, append-nil, Cause, ReadError, one_turn, Outcome, Reading, costs}
+use Rattle.wkb_view.proofs.Prelude.{done, count_in, and_then, repeated, Layout, Item, number, multi_point_end}
+use Rattle.wkb_view.proofs.Prelude.{slots_asked, consumed, body_start, parts_start, list_item, member_at}
+use Rattle.wkb_view.proofs.Prelude.{multi_point_with, Counts, Spent, next_turn, cost_of, CanCount, Stops}
+use Rattle.wkb_view.proofs.Prelude.{entries_asked, HasNoList}
+use Rattle.std.proofs.Common.{append_assoc, cond, ltb}
+use Rattle.wkb_view.specs.Prelude.{refused, end_of_input, free, list_at}
 use Rattle.wkb_view.specs.Members.{parts_behind}
-use Rattle.wkb_view.specs.Entries.{entries_asked, HasNoList}
-use Rattle.wkb_view.proofs.Algebra.{repeated_more, repeated_none, turn_begins}
-use Rattle.wkb_view.proofs.Algebra.{all_read, part_within, part_counted, part_leads, part_stops}
+use Rattle.wkb_view.proofs.Algebra.{repeated_more, repeated_none, turn_begins, all_read, part_within, part_counted}
+use Rattle.wkb_view.proofs.Algebra.{part_leads, part_stops}
+use Rattle.wkb_view.specs.Prelude.read_errors
 unfoldable use Rattle.wkb_geom.specs.Reading.{multi_point_at, multi_polygon_at}
 
 -- what costs nothing spends nothing
@@ -51,10 +49,7 @@ module _ {A : Type 0} {start : Counts} {whole : Reading (List A)} {part : List �
         and_then (repeated n part r) (λ xs after. done (front ++ x ∷ xs) after))) =
         λ j. costs one_turn (and_then (part rest) (λ x r.
         and_then (repeated n part r) (λ xs after. done (append_assoc front (x ∷ []) xs j) after))) in
-        turn_begins old (next_turn old) (and_then (part rest) (with_next part n front)) refl
-        ∙ ap (λ (r : Reading (List A)). costs (cost_of old) r)
-        (same ∙ sym (repeated_more n part rest (λ xs after. done (front ++ xs) after)))
-        ∙ (rw k at loop.leads)
+        grind (arith, turn_begins, repeated_more)
 
     -- what the next part costs is among the cost of the whole
     pub part_costs : (old.turns + 1 + (part rest).0.turns ≤ start.turns + whole.0.turns)

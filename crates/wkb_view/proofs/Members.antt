@@ -1,21 +1,18 @@
 -- Members in lists.
-use Rattle.std.proofs.Common.{◌≡◌, ℕ, zero, suc, List, [], ◌∷◌, ◌++◌, map, Option, Some, None, refl, sym, ap, ◌∙◌}
-use Rattle.std.proofs.Common.{subst, ◌+◌, ◌-◌, ◌*◌, ◌≤◌, ◌<◌, length, Bor}
-use Rattle.std.proofs.Common.{take, drop, false, Result, Ok, length-drop, length-take, arith}
-use Rattle.std.specs.Prelude.{slice_get, option_map, IsOk, IfSome}
+use Rattle.wkb_view.proofs.Prelude.{◌≡◌, ℕ, zero, suc, List, [], ◌∷◌, ◌++◌, map, Option, Some, None, refl, ap, ◌∙◌}
+use Rattle.wkb_view.proofs.Prelude.{subst, ◌+◌, ◌-◌, ◌*◌, ◌≤◌, ◌<◌, length, Bor, take, drop, false, Ok, length-drop}
+use Rattle.wkb_view.proofs.Prelude.{length-take, arith, rules, slice_get, option_map, IfSome, slice_get-map}
+use Rattle.wkb_view.proofs.Prelude.{length-map, polygon, Dimension, as_dimensions, Spelling, Coordinate, Listed, Item}
+use Rattle.wkb_view.proofs.Prelude.{spellings, polygon_of, Layout, multi_point_end, body_start, point_of, consumed}
+use Rattle.wkb_view.proofs.Prelude.{member_layout, list_of_spellings, fitted_parts, fitted_line_strings, polygon_items}
+use Rattle.wkb_view.proofs.Prelude.{IsEncoding, IsMemberOfKind, member_item, members_in, point_ends, points_in, pieces}
+use Rattle.wkb_view.proofs.Prelude.{Passed, member_dimension}
+use Rattle.std.specs.Prelude.{IsOk}
 use Rattle.std.specs.List.{AllByRecursion}
-use Rattle.std.proofs.lemmas.Option.{slice_get-map}
-use Rattle.std.proofs.lemmas.List.{length-map}
-use Rattle.wkb_geom.specs.Values.{polygon}
-use Rattle.wkb_view.specs.Prelude.{Dimension, as_dimensions, Spelling, Coordinate, Listed, whole_of, Item, spellings}
-use Rattle.wkb_view.specs.Prelude.{polygon_of, Layout, Head, Cause, multi_point_end, body_start, point_of}
-use Rattle.wkb_view.specs.Prelude.{consumed, laid, layout_wanted, member_layout, list_of_spellings}
+use Rattle.wkb_view.specs.Prelude.{whole_of, laid}
 use Rattle.wkb_plain.proofs.Lookups.{IsAnswered, copied_is}
-use Rattle.wkb_view.specs.Fits.{fitted_parts, fitted_line_strings, fitted_polygons}
-use Rattle.wkb_view.specs.Members.{polygon_items, IsEncoding, IsMemberOfKind, AreMembersOfKind, member_item, members_in}
-use Rattle.wkb_view.specs.Members.{pieces_behind, every, stride, point_ends, points_in}
-use Rattle.wkb_view.specs.Pieces.{pieces, Passed}
-use Rattle.wkb_view.specs.Lawful.{member_dimension}
+use Rattle.wkb_view.specs.Fits.{fitted_polygons}
+use Rattle.wkb_view.specs.Members.{AreMembersOfKind, pieces_behind, every, stride}
 use Rattle.wkb_view.proofs.Pieces.{parts_counted, pieces_past, piece_form, piece_seen, last_end}
 
 -- the spellings of members, one by one
@@ -35,9 +32,7 @@ module _ (k : ℕ) (l : Layout) (ends encoding : List ℕ) (i : ℕ) where
       → Some t ≡ slice_get (pieces_behind l ends encoding) i
       → member_layout k l.dimension t ≡ Ok m → IsEncoding k m t
   member_encoding t m are e is =
-      let member = piece_form (IsMemberOfKind k l.dimension) (body_start l.has_srid + 4) ends encoding i t are e in
-      let same : member.layout ≡ m = cc in
-      subst (λ n. IsEncoding k n t) same member.encoding_is
+      grind (arith, piece_form (IsMemberOfKind k l.dimension) (body_start l.has_srid + 4) ends encoding i t are e)
 
   -- and has a layout
   pub member_there : (t : List ℕ) → AreMembersOfKind k l ends encoding
@@ -98,15 +93,11 @@ pub polygon_there : (d : Dimension) (ps : List (Listed (List (List Coordinate)))
 polygon_there d ps i o got all =
     let part = seen_at (λ m. polygon_of m.value) ps i o got in
     let same = dimension_at d ps i o got all in
-    let fitted =
-    slice_get-map (fitted_line_strings (as_dimensions d)) (map (λ m. polygon_of m.value) (polygon_items ps)) i in
     record {
       part = part;
       dimension = same;
-      value = fitted_at d o same ∙ ap (option_map (fitted_line_strings (as_dimensions d))) part ∙ sym fitted;
-      spelled =
-          seen_at (λ m. m.spelled) ps i o got
-          ∙ sym (ap (λ (ss : List Spelling). slice_get ss i) (spelled_each (polygon_items ps)));
+      value = grind (arith, fitted_at, seen_at, dimension_at, slice_get-map);
+      spelled = search (rules, seen_at, spelled_each);
     }
 
 -- ---- the members of a multi point, which have one size
@@ -132,9 +123,6 @@ every_at start size (suc n) zero encoding lt = grind arith
 every_at start size (suc n) (suc i) encoding lt = grind (arith, every_at (start + size) size n i encoding (omega arith))
 
 -- ---- a member has no SRID, so that it has the size of all
-
-no_srid : (d : Dimension) (r : Result Head Cause) (l : Layout) → layout_wanted 1 d r ≡ Ok l → l.has_srid ≡ false
-no_srid d r l e = grind arith
 
 -- the layout of a member has the dimension that is wanted
 pub member_laid : (k : ℕ) (d : Dimension) (bytes : List ℕ) (l : Layout) → member_layout k d bytes ≡ Ok l
@@ -162,9 +150,7 @@ ends_next l i bytes rest after rest-is within passed =
     let size = member_size l.dimension (consumed rest after) passed.form in
     let shorter = passed.shorter in
     let one : i + 1 ≡ suc i = omega arith in
-    ap (point_ends l) one
-    ∙ every-next start (stride l.dimension) i (length bytes - length after)
-    (omega (arith, length-take (length rest - length after) rest))
+    grind (arith, every-next, length-take)
 
 -- where the last of them ends
 pub points_end : (l : Layout) (i : ℕ) (bytes rest : List ℕ)

@@ -1,14 +1,12 @@
 -- Parts of one form one after another, by the offsets at which they end.
-use Rattle.std.proofs.Common.{◌≡◌, ℕ, suc, zero, Option, ◌-◌, ◌+◌, ◌≤◌, ◌<◌, List, [], ◌∷◌, length, take, drop, map}
-use Rattle.std.proofs.Common.{Some, None, refl, sym, ap, subst, ◌∙◌}
-use Rattle.std.proofs.Common.{get_or, arith, Bool, ◌/◌, ◌*◌, ◌++◌, Ok, length-append, length-drop, length-take}
-use Rattle.std.specs.Prelude.{slice_get, option_map}
-use Rattle.std.proofs.lemmas.List.{length-map, drop-drop, drop-take, take-take}
-use Rattle.std.proofs.lemmas.Option.{slice_get_past, slice_get-map}
-use Rattle.wkb_view.specs.Prelude.{Reading, consumed, body_start, parts_start, repeated}
-use Rattle.wkb_view.specs.Pieces.{pieces, ArePieces, AreInOrder, IsPiece, Passed}
-use Rattle.wkb_view.specs.declared.counts.Counts.{Counts}
-use Rattle.wkb_view.specs.Outcome.{Spent, next_turn}
+use Rattle.wkb_view.proofs.Prelude.{◌≡◌, ℕ, suc, zero, Option, ◌-◌, ◌+◌, ◌≤◌, ◌<◌, List, [], ◌∷◌, length, take, drop}
+use Rattle.wkb_view.proofs.Prelude.{map, Some, None, refl, sym, ap, subst, ◌∙◌, get_or, arith, ◌/◌, ◌*◌, ◌++◌, Ok}
+use Rattle.wkb_view.proofs.Prelude.{length-append, length-drop, length-take, slice_get, option_map, length-map}
+use Rattle.wkb_view.proofs.Prelude.{drop-drop, drop-take, slice_get-map, Reading, consumed, pieces, Passed, Counts}
+use Rattle.wkb_view.proofs.Prelude.{Spent, next_turn}
+use Rattle.std.proofs.lemmas.List.{take-take}
+use Rattle.std.proofs.lemmas.Option.{slice_get_past}
+use Rattle.wkb_view.specs.Pieces.{ArePieces, AreInOrder, IsPiece}
 use Rattle.wkb_view.proofs.Lists.{Loop, next_part, parts_end}
 
 -- ---- the part at an index
@@ -28,9 +26,7 @@ between start (x ∷ ends) encoding (suc i) h lt = grind (arith, between x ends 
 pub part_is : (start : ℕ) (ends encoding : List ℕ) (i s : ℕ) → AreInOrder start ends encoding → i < length ends
     → s ≡ get_or (start ∷ ends) i 0
     → Between start ends encoding i s (get_or ends i 0)
-part_is start ends encoding i s stand lt s-is =
-    subst (λ (k : ℕ). Between start ends encoding i k (get_or ends i 0)) (sym s-is)
-    (between start ends encoding i stand lt)
+part_is start ends encoding i s stand lt s-is = grind (arith, between start ends encoding i stand lt)
 
 pieces_counted : (start : ℕ) (ends encoding : List ℕ) → length (pieces start ends encoding) ≡ length ends
 pieces_counted start [] encoding = refl
@@ -93,9 +89,7 @@ ArePieces-push P start (x ∷ ends) end encoding h r = (h.0, ArePieces-push P x 
 -- ---- the same over the encoding that was taken
 
 pub drop-of-take : (start n : ℕ) (xs : List ℕ) → start ≤ n → drop start (take n xs) ≡ take (n - start) (drop start xs)
-drop-of-take start n xs h =
-    let e : start + (n - start) ≡ n = omega arith in
-    subst (λ (k : ℕ). drop start (take k xs) ≡ take (n - start) (drop start xs)) e (drop-take start (n - start) xs)
+drop-of-take start n xs h = grind (arith, drop-take start (n - start) xs)
 
 start-le-last_end : (P : List ℕ → Type 0) (start : ℕ) (ends encoding : List ℕ) → ArePieces P start ends encoding
     → start ≤ last_end start ends
@@ -119,14 +113,6 @@ pub record SoFar {A : Type 0} (least : ℕ) (P : List ℕ → Type 0) (seen : Li
   pub within : last_end start ends ≤ length bytes
   pub taken_in_all : least * length ends + length rest + start ≤ length bytes
   pub as_many : length ends ≡ i
-
--- before the first of them
-pub pieces_begin : {A : Type 0} {least : ℕ} {P : List ℕ → Type 0} {seen : List ℕ → A} {part : List ℕ → Reading A}
-    (srid : Bool) (count : ℕ) (bytes rest : List ℕ) (began : Counts) → body_start srid + 4 ≤ length bytes
-    → rest ≡ parts_start srid bytes
-    → SoFar least P seen part (body_start srid + 4) count 0 bytes [] rest began began
-    (repeated count part (parts_start srid bytes))
-pieces_begin {part = part} srid count bytes rest began whole rest-is = grind arith
 
 module _ {A : Type 0} {least : ℕ} {P : List ℕ → Type 0} {seen : List ℕ → A} {part : List ℕ
     → Reading A} {start count : ℕ} {bytes : List ℕ}
@@ -170,8 +156,7 @@ module _ {A : Type 0} {least : ℕ} {P : List ℕ → Type 0} {seen : List ℕ �
       × ArePieces P start ends (consumed bytes rest)
   pieces_read le so_far =
       let last = last_end start ends in
-      let cut : length bytes - length rest ≡ last =
-      omega (arith, ap length so_far.rest_is ∙ length-drop last bytes) in
+      let cut : length bytes - length rest ≡ last = grind (arith, length-drop) in
       let end = parts_end le so_far.left in
       let taken_out = pieces-take P start ends last bytes so_far.stand (omega arith) in
       (rw (cut, taken_out.0) end.0, end.1, rw cut taken_out.1)

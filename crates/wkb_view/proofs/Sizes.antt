@@ -1,17 +1,15 @@
 -- How many bytes of a view come after its header.
-use Rattle.std.proofs.Common.{◌≡◌, ℕ, ◌-◌, ap, List, length, None, arith, is_some}
-use Rattle.wkb_geom.specs.Sizes.{rings_size}
-use Rattle.wkb_geom.specs.Encodings.{fault}
+use Rattle.wkb_view.proofs.Prelude.{◌≡◌, ℕ, ◌-◌, ap, List, length, None, arith, rings_size, fault, in_full_lem}
+use Rattle.wkb_view.proofs.Prelude.{spelled_good, lawful-geometry_of, AreBytes, Layout, Coordinate, Listed, body_start}
+use Rattle.wkb_view.proofs.Prelude.{srid_in, as_dimensions, BytesSpell, fitted_parts, polygon_laid, polygon_seen}
+use Rattle.std.proofs.Common.{is_some}
 use Rattle.wkb_geom.specs.Refusals.{srid_size}
 use Rattle.wkb_laws.proofs.Heads.{has_srid_in}
 use Rattle.wkb_laws.proofs.Lengths.{srid_size_is}
-use Rattle.wkb_laws.proofs.Spelled.{in_full_lem, size_of_spelled_lem}
-use Rattle.wkb_laws.proofs.Values.{Good, spelled_good, lawful-geometry_of}
-use Rattle.wkb_view.specs.Prelude.{AreBytes, Layout, Coordinate, Listed, body_start, srid_in, as_dimensions}
-use Rattle.wkb_view.specs.Prelude.{BytesSpell}
-use Rattle.wkb_view.specs.Fits.{fitted_parts, fitted_polygon}
+use Rattle.wkb_laws.proofs.Spelled.{size_of_spelled_lem}
+use Rattle.wkb_laws.proofs.Values.{Good}
+use Rattle.wkb_view.specs.Fits.{fitted_polygon}
 use Rattle.wkb_view.specs.Lawful.{line_strings_fit}
-use Rattle.wkb_view.specs.Members.{polygon_laid, polygon_seen}
 
 -- a polygon, by what its view means
 module _ (l : Layout) (ends bytes : List ℕ) (p : Listed (List (List Coordinate))) (view : polygon_laid l ends bytes ≡ p)

@@ -1,17 +1,16 @@
 -- What was read is spelled by its bytes.
-use Rattle.std.proofs.Common.{rules}
-use Rattle.std.proofs.Common.{◌≡◌, ℕ, ◌≤◌, List, length, take, drop, Result, Ok, Err, ap, subst, length-take, arith}
-use Rattle.wkb_geom.specs.declared.code.WkbType.TheVariants as kinds
+use Rattle.wkb_view.proofs.Prelude.{rules, ◌≡◌, ℕ, ◌≤◌, List, length, take, drop, Ok, subst, length-take, arith, Cause}
+use Rattle.wkb_view.proofs.Prelude.{Layout, number, Item, Reading, head_at, then_body, body_start, point_item}
+use Rattle.wkb_view.proofs.Prelude.{BytesSpell, IsEncoding}
+use Rattle.std.proofs.Common.{Result, Err}
 use Rattle.wkb_geom.specs.Spellings.{Wanted, any}
 use Rattle.wkb_geom.specs.Reading.{body_at, too_deep, layout_of}
 use Rattle.wkb_laws.proofs.Heads.{IsRight}
 use Rattle.wkb_laws.proofs.Sound.{geometry_says}
-use Rattle.wkb_view.specs.Prelude.{Cause, Head, Layout, number, point_end, line_string_end, Item, Reading, head_at}
-use Rattle.wkb_view.specs.Prelude.{then_body, body_start}
-use Rattle.wkb_view.specs.Prelude.{point_at, line_string_at, point_item, line_string_item, BytesSpell}
+use Rattle.wkb_view.specs.Prelude.{Head, point_end, line_string_end, point_at, line_string_at, line_string_item}
 use Rattle.wkb_view.specs.Headers.{HasHead}
-use Rattle.wkb_view.specs.Members.{IsEncoding}
 use Rattle.wkb_view.proofs.Leaves.{number_within}
+use Rattle.wkb_geom.specs.declared.code.WkbType.TheVariants as kinds
 unfoldable use Rattle.wkb_geom.specs.Reading.{by_type, geometry_at}
 
 says_spelled : (w : Wanted) (bytes : List ℕ) (r : Reading Item) → IsRight 0 w bytes r → (i : Item) (rest : List ℕ)
@@ -37,10 +36,7 @@ pub point_encoding : (l : Layout) (bytes buf : List ℕ) (end : ℕ) → HasHead
     → end ≤ length bytes → buf ≡ take end bytes
     → point_at l bytes ≡ Ok (point_item l (take end bytes), drop end bytes) → IsEncoding 1 l buf
 point_encoding l bytes buf end head end-is long buf-is read =
-    record {
-      whole = omega (arith, ap length buf-is, length-take end bytes);
-      spells = rw buf-is (body_spelled bytes _ _ _ head read);
-    }
+    grind (arith, length-take end bytes, body_spelled bytes _ _ _ head read)
 
 -- and of a line string
 pub line_string_is_encoding : (l : Layout) (bytes buf : List ℕ) (n end : ℕ) → HasHead (λ d. kinds.LineString d) l bytes
@@ -49,9 +45,7 @@ pub line_string_is_encoding : (l : Layout) (bytes buf : List ℕ) (n end : ℕ) 
     → (line_string_at l bytes).1 ≡ Ok (line_string_item l (take end bytes), drop end bytes) → IsEncoding 2 l buf
 line_string_is_encoding l bytes buf n end head n-is end-is long buf-is read =
     record {
-      whole =
-          rw (buf-is, number_within l.order (body_start l.has_srid) end bytes (omega arith), ← n-is)
-          (omega (arith, length-take end bytes));
+      whole = grind (arith, number_within, length-take);
       spells =
           rw buf-is (body_spelled bytes
           (record { order = l.order; wkb_type = kinds.LineString l.dimension; has_srid = l.has_srid }) _ _ head read);

@@ -52,6 +52,7 @@ fn bounded_capacity(count: u32, remaining: usize, least: usize) -> usize
 
 /// The count at the beginning of a body, and a list for its parts, each of at least `least` bytes. The entries that the
 /// list asks for are counted as slots before it asks.
+#[tactic(auto, using(crate::proofs::Lists::parts_length))]
 #[inline]
 pub fn counted_list<T>(
     alloc: Global,

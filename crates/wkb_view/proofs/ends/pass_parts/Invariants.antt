@@ -1,6 +1,4 @@
-use Rattle.std.proofs.Common.{◌+◌, ◌/◌, ◌≤◌, min, length}
-use Rattle.wkb_view.specs.Prelude.{body_start, parts_start}
-use Rattle.wkb_view.specs.Entries.{entries, capacity}
+use Rattle.wkb_view.proofs.Prelude.{◌+◌, ◌/◌, ◌≤◌, min, length, body_start, parts_start, entries, capacity}
 use Rattle.wkb_view.specs.Ends.{parts_at}
 use Rattle.wkb_view.proofs.Pieces.{SoFar}
 use Rattle.wkb_view.proofs.ends.pass_parts.Given as goal

@@ -1,16 +1,13 @@
-use Rattle.std.proofs.Common.{◌≡◌, ℕ, List, ◌-◌, ◌+◌, ◌≤◌, ◌∙◌, ap, length, sym, arith}
-use Rattle.std.proofs.lemmas.Result.{err_from_is_err_and}
-use Rattle.wkb_view.specs.Prelude.{Layout, ReadError, body_start, parts_start, count_in, slots_asked}
-use Rattle.wkb_view.specs.Prelude.read_errors
-use Rattle.wkb_view.specs.declared.counts.Counts.{Counts}
+use Rattle.wkb_view.proofs.Prelude.{◌≡◌, ℕ, List, ◌-◌, ◌+◌, ◌≤◌, ◌∙◌, ap, length, sym, arith, rules}
+use Rattle.wkb_view.proofs.Prelude.{err_from_is_err_and, Layout, ReadError, body_start, parts_start, count_in}
+use Rattle.wkb_view.proofs.Prelude.{slots_asked, Counts, entries_asked, HasNoList, Stops}
 use Rattle.wkb_view.specs.Ends.{PartsOf, whole_at}
-use Rattle.wkb_view.specs.Entries.{entries_asked, HasNoList}
-use Rattle.wkb_view.specs.Outcome.{Stops}
-use Rattle.wkb_view.proofs.Lists.{IsList, list_here, list_fits, list_reads, list_stops, entries_within}
-use Rattle.wkb_view.proofs.Lists.{list_refused, parts_length}
+use Rattle.wkb_view.proofs.Lists.{IsList, list_here, list_fits, list_reads, list_stops, entries_within, list_refused}
+use Rattle.wkb_view.proofs.Lists.{parts_length}
 use Rattle.wkb_view.proofs.ends.read_ends.Given.{Over}
-use Rattle.wkb_view.proofs.ends.read_ends.Goals as goal
 use Rattle.wkb_view.proofs.ends.read_ends.Goals.{In_ok-count}
+use Rattle.wkb_view.specs.Prelude.read_errors
+use Rattle.wkb_view.proofs.ends.read_ends.Goals as goal
 
 -- the list that was asked for
 here : (g : Over) (c : In_ok-count g)
@@ -31,12 +28,7 @@ here g c =
 module _ {least : ℕ} (parts : Layout → PartsOf least) (l : Layout) (bytes : List ℕ) where
   asked : entries_asked least l bytes
       ≤ slots_asked (parts l).kind (count_in l bytes) (length (parts_start l.has_srid bytes))
-  asked =
-      let n = count_in l bytes in
-      omega (
-        arith,
-        sym ((parts l).slots n _) ∙ ap (slots_asked (parts l).kind n) (sym (parts_length l.has_srid bytes)),
-      )
+  asked = grind (arith, parts_length)
 
   within : entries_asked least l bytes ≤ (whole_at parts l bytes).0.slots
   within = entries_within least l bytes _ (omega (arith, asked))
@@ -46,26 +38,14 @@ module _ {least : ℕ} (parts : Layout → PartsOf least) (l : Layout) (bytes : 
   refused = list_refused least l bytes _ (omega (arith, asked))
 
 pub counted_list-requires-clause-fits : goal.counted_list-requires-clause-fits
-counted_list-requires-clause-fits g c =
-    rw c.MIN_SIZE.ensures (omega (arith, within g.P.Parts.parts c.args.layout c.args.bytes.now))
+counted_list-requires-clause-fits g c = search (rules, within)
 
 pub returns-in_err-count-clause-answer : goal.returns-in_err-count-clause-answer
-returns-in_err-count-clause-answer g c =
-    let stopped = err_from_is_err_and c.from_residual.result c.from_residual.ensures.1 in
-    rw (stopped.1, stopped.2)
-    (refused g.P.Parts.parts c.args.layout c.args.bytes.now c.in_err-count.field-0.0 _ _ c.in_err-count.ensures.no_list
-    c.counted_list.ensures.turns (rw c.MIN_SIZE.ensures at c.counted_list.ensures.slots))
+returns-in_err-count-clause-answer g c = search (rules, err_from_is_err_and, refused)
 
 pub returns-in_err-count-clause-no_memory : goal.returns-in_err-count-clause-no_memory
-returns-in_err-count-clause-no_memory g c = λ none.
-    let stopped = err_from_is_err_and c.from_residual.result c.from_residual.ensures.1 in
-    rw (stopped.1, stopped.2) (rw c.MIN_SIZE.ensures at c.in_err-count.ensures.no_memory
-    (omega (arith, within g.P.Parts.parts c.args.layout c.args.bytes.now)))
-
-pub pass_parts-requires-clause-room : goal.pass_parts-requires-clause-room
-pass_parts-requires-clause-room g c =
-    rw (parts_length c.args.layout.has_srid c.args.bytes.now, ← c.MIN_SIZE.ensures)
-    (omega (arith, c.in_ok-count.ensures.room, c.in_ok-count.ensures.count))
+returns-in_err-count-clause-no_memory g c =
+    grind (arith, err_from_is_err_and, within g.P.Parts.parts c.args.layout c.args.bytes.now)
 
 pub pass_parts-requires-clause-fits : goal.pass_parts-requires-clause-fits
 pass_parts-requires-clause-fits g c =

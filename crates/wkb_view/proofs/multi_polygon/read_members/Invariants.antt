@@ -1,7 +1,5 @@
-use Rattle.std.proofs.Common.{◌≡◌, ◌+◌, ◌*◌, ◌/◌, ◌≤◌, min, length}
-use Rattle.wkb_view.specs.Prelude.{parts_start, member_at}
-use Rattle.wkb_view.specs.Entries.{entries, capacity}
-use Rattle.wkb_view.specs.Members.{members_behind, polygon_items, AreOfDimension}
+use Rattle.wkb_view.proofs.Prelude.{◌≡◌, ◌+◌, ◌*◌, ◌/◌, ◌≤◌, min, length, parts_start, member_at, entries, capacity}
+use Rattle.wkb_view.proofs.Prelude.{members_behind, polygon_items, AreOfDimension}
 use Rattle.wkb_view.proofs.Lists.{Loop}
 use Rattle.wkb_view.proofs.multi_polygon.read_members.Given as goal
 

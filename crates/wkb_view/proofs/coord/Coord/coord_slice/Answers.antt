@@ -1,8 +1,6 @@
-use Rattle.std.proofs.Common.{◌*◌, subst, arith}
-use Rattle.std.proofs.lemmas.List.{take_all}
+use Rattle.wkb_view.proofs.Prelude.{◌*◌, subst, arith, take_all, width, coordinate}
 use Rattle.wkb_geom.specs.Spellings.{SpellsCoordinate}
 use Rattle.wkb_laws.proofs.Bodies.{coordinate_is}
-use Rattle.wkb_view.specs.Prelude.{width, coordinate}
 use Rattle.wkb_view.proofs.coord.Coord.coord_slice.Goals as goal
 
 pub returns-clause-spells : goal.returns-clause-spells

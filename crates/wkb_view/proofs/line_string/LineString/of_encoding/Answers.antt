@@ -1,9 +1,4 @@
-use Rattle.std.proofs.Common.{arith}
 use Rattle.wkb_view.proofs.line_string.LineString.of_encoding.Goals as goal
-
-pub invariant_of-result-clause-whole : goal.invariant_of-result-clause-whole
-invariant_of-result-clause-whole c =
-    rw (rw c.header_length.ensures at c.u32_at.ensures) (omega arith)
 
 pub invariant_of-result-clause-in_range : goal.invariant_of-result-clause-in_range
 invariant_of-result-clause-in_range c = λ i. (c.type_inv.buf i).fits

@@ -1,4 +1,4 @@
-use Rattle.wkb_view.specs.Views.{line_string_seen}
+use Rattle.wkb_view.proofs.Prelude.{line_string_seen}
 use Rattle.wkb_view.proofs.Encodings.{is_encoded, exposes}
 use Rattle.wkb_view.proofs.line_string.LineStringGeometryTrait.as_written.Goals as goal
 

@@ -1,10 +1,5 @@
-use Rattle.wkb_view.specs.Coords.{coord_dimension}
-use Rattle.wkb_view.proofs.Lawful.{dimensions_told}
+use Rattle.wkb_view.proofs.Prelude.{arith}
 use Rattle.wkb_view.proofs.line_string.LineStringLineStringTrait.TheImpl.Goals as goal
 
 pub coord-tells : goal.coord-tells
-coord-tells g _ _ c =
-    record {
-      value = c.ensures.value;
-      dimensions = dimensions_told coord_dimension c.result _ c.ensures.dimension;
-    }
+coord-tells g _ _ c = grind arith

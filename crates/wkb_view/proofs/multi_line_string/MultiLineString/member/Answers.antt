@@ -1,29 +1,20 @@
-use Rattle.std.proofs.Common.{◌∙◌, Some, ap}
-use Rattle.wkb_view.specs.Prelude.{Item, Layout, line_string_of}
-use Rattle.wkb_view.specs.Members.{IsMemberOfKind}
-use Rattle.wkb_view.specs.Lawful.{member_dimension}
+use Rattle.wkb_view.proofs.Prelude.{◌∙◌, Some, ap, arith, Item, member_dimension}
+use Rattle.wkb_view.specs.Prelude.{line_string_of}
 use Rattle.wkb_view.proofs.Leaves.{member_seen}
 use Rattle.wkb_view.proofs.Members.{member_encoding, member_there, members_seen, spelling_seen}
 use Rattle.wkb_view.proofs.Pieces.{in_order}
 use Rattle.wkb_view.proofs.multi_line_string.MultiLineString.member.Goals as goal
 
 pub part_at-requires : goal.part_at-requires
-part_at-requires c =
-    let p = c.self.inside in
-    rw (c.header_length.ensures, c.deref.ensures.value)
-    (in_order (IsMemberOfKind 2 p.layout.dimension) _ p.ends.items p.buf.now c.self.invariant.1)
+part_at-requires c = grind (arith, in_order)
 
 pub of_known_member-layout-requires : goal.of_known_member-layout-requires
-of_known_member-layout-requires c =
-    let p = c.self.inside in
-    member_there 2 p.layout p.ends.items p.buf.now c.args.i _ c.self.invariant.1
-    (rw (c.header_length.ensures, c.deref.ensures.value) at c.in_ok-buf.ensures.part)
+of_known_member-layout-requires c = grind (arith, member_there)
 
 pub of_encoding-requires : goal.of_encoding-requires
 of_encoding-requires c =
     let p = c.self.inside in
-    member_encoding 2 p.layout p.ends.items p.buf.now c.args.i _ _ c.self.invariant.1
-    (rw (c.header_length.ensures, c.deref.ensures.value) at c.in_ok-buf.ensures.part) c.of_known_member-layout.ensures
+    grind (arith, member_encoding 2 p.layout p.ends.items p.buf.now c.args.i)
 
 pub returns : goal.returns
 returns c =
@@ -34,9 +25,7 @@ returns c =
     rw (← c.self.view_is) (record {
       value = ap (λ (m : Item). Some (line_string_of m.value)) item
           ∙ members_seen 2 p.layout p.ends.items p.buf.now c.args.i (λ m. line_string_of m.value) _ part;
-      dimension =
-          ap (λ (l : Layout). l.dimension) c.of_encoding.ensures.layout
-          ∙ member_dimension 2 p.layout.dimension _ _ known;
+      dimension = grind (arith, member_dimension);
       spelled = ap (λ (m : Item). Some m.spelled) item
           ∙ spelling_seen 2 p.layout p.ends.items p.buf.now c.args.i _ part;
     })

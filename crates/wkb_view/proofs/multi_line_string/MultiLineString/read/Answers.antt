@@ -1,4 +1,4 @@
-use Rattle.std.proofs.Common.{◌-◌, length, length-take, arith}
+use Rattle.wkb_view.proofs.Prelude.{◌-◌, length, length-take, arith}
 use Rattle.wkb_view.proofs.Spells.{body_spelled}
 use Rattle.wkb_view.proofs.multi_line_string.MultiLineString.read.Goals as goal
 unfoldable use Rattle.wkb_geom.specs.Reading.{multi_line_string_at}

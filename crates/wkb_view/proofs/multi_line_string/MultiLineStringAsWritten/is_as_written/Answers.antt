@@ -1,7 +1,5 @@
-use Rattle.std.proofs.Common.{refl, ap, arith, map, length, ◌≤◌}
-use Rattle.wkb_geom.specs.Values.{line_string}
+use Rattle.wkb_view.proofs.Prelude.{refl, ap, arith, map, length, ◌≤◌, line_string, members_in}
 use Rattle.wkb_view.specs.Prelude.{line_string_of}
-use Rattle.wkb_view.specs.Members.{members_in}
 use Rattle.wkb_view.specs.Views.{seen_coordinates}
 use Rattle.wkb_view.proofs.Encodings.{HasWrittenHeader, one_more_written, all_written}
 use Rattle.wkb_view.proofs.multi_line_string.MultiLineStringAsWritten.is_as_written.Goals as goal
@@ -11,11 +9,8 @@ loop-i-preserved c =
     let l = c.unwrap.result in
     let is = c.if-not-is_as_written.ensures refl in
     let dimension = rw c.unwrap.ensures at c.member.ensures.dimension in
-    record {
-      so_far =
-          one_more_written c.loop-i.invariant.so_far is (ap (λ d. line_string d (seen_coordinates l)) dimension)
-          (rw c.unwrap.ensures at c.member.ensures.spelled) (rw c.unwrap.ensures at c.member.ensures.value);
-    }
+    one_more_written c.loop-i.invariant is (ap (λ d. line_string d (seen_coordinates l)) dimension)
+    (rw c.unwrap.ensures at c.member.ensures.spelled) (rw c.unwrap.ensures at c.member.ensures.value)
 
 pub returns : goal.returns
 returns c =
@@ -24,10 +19,8 @@ returns c =
     let header : HasWrittenHeader 5 m.layout m.buf.now c.args.order c.args.has_flags =
     record { order_is = is.order refl; plain = is.plain refl; code = is.code refl } in
     let members = members_in 2 m.layout m.ends.items m.buf.now in
-    let counted = rw (← c.self.view_is) at c.num_members-i-end.ensures in
-    let all : length (map (λ i. line_string_of i.value) members) ≤ c.loop-i.i =
-    omega arith in
-    let so_far = rw (← c.self.view_is) at c.loop-i.invariant.so_far in
+    let all : length (map (λ i. line_string_of i.value) members) ≤ c.loop-i.i = grind arith in
+    let so_far = rw (← c.self.view_is) at c.loop-i.invariant in
     rw (← c.self.view_is) (λ _. record {
       bytes = is.bytes;
       same = all_written (λ i. line_string_of i.value) members header all so_far;

@@ -1,4 +1,4 @@
-use Rattle.std.specs.List.{each_same}
+use Rattle.wkb_view.proofs.Prelude.{each_same}
 use Rattle.wkb_view.proofs.multi_line_string.MultiLineStringClone.clone.Goals as goal
 
 pub invariant_of-result : goal.invariant_of-result

@@ -1,4 +1,4 @@
-use Rattle.std.proofs.Common.{rules}
+use Rattle.wkb_view.proofs.Prelude.{rules}
 use Rattle.wkb_view.proofs.multi_line_string.MultiLineStringGeometryTrait.TheImpl.Goals as goal
 
 pub as_type-tells : goal.as_type-tells

@@ -1,4 +1,5 @@
-use Rattle.wkb_view.specs.Members.{multi_line_string_seen, line_strings_laid}
+use Rattle.wkb_view.proofs.Prelude.{multi_line_string_seen}
+use Rattle.wkb_view.specs.Members.{line_strings_laid}
 use Rattle.wkb_view.proofs.Encodings.{is_encoded_fitted, exposes}
 use Rattle.wkb_view.proofs.multi_line_string.MultiLineStringGeometryTrait.as_written.Goals as goal
 

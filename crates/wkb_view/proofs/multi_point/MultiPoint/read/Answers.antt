@@ -1,13 +1,12 @@
-use Rattle.std.proofs.Common.{rules, ◌-◌, length, length-take, arith}
-use Rattle.std.proofs.lemmas.Result.{err_from_is_err_and}
+use Rattle.wkb_view.proofs.Prelude.{length-take, arith, err_from_is_err_and, list_item, member_at}
+use Rattle.wkb_view.proofs.Prelude.{multi_point_with, AreBytes-take}
 use Rattle.wkb_geom.specs.declared.code.TheConstants.{POINT}
-use Rattle.wkb_view.specs.Prelude.{list_item, member_at, multi_point_with, multi_point_at}
-use Rattle.wkb_view.specs.Prelude.read_errors
-use Rattle.wkb_view.specs.Lawful.{AreBytes-take}
+use Rattle.wkb_view.specs.Prelude.{multi_point_at}
 use Rattle.wkb_view.proofs.Lists.{IsList, points_here, list_fits, list_reads, list_stops}
 use Rattle.wkb_view.proofs.Spells.{body_spelled}
-use Rattle.wkb_view.proofs.multi_point.MultiPoint.read.Goals as goal
 use Rattle.wkb_view.proofs.multi_point.MultiPoint.read.Goals.{In_ok-count}
+use Rattle.wkb_view.specs.Prelude.read_errors
+use Rattle.wkb_view.proofs.multi_point.MultiPoint.read.Goals as goal
 
 -- the list that its points are
 here : (c : In_ok-count)
@@ -24,13 +23,12 @@ pass_points-requires-clause-fits c =
 
 pub invariant_of-result : goal.invariant_of-result
 invariant_of-result c =
-    let bytes = c.args.bytes.now in
     let e = c.in_ok-rest.ensures.points in
     let read = list_reads (here (goal.at.invariant_of-result c).In_ok-count) _ _ _ e.0 e.1 in
     record {
-      whole = omega (arith, c.in_ok-rest.ensures.end, length-take (length bytes - length c.in_ok-rest.rest.now) bytes);
-      in_range = AreBytes-take _ bytes (λ i. search rules);
-      spells = body_spelled bytes _ _ _ c.requires.head read.0;
+      whole = grind (arith, length-take);
+      in_range = grind (arith, AreBytes-take);
+      spells = body_spelled c.args.bytes.now _ _ _ c.requires.head read.0;
       each = ∣ c.in_ok-rest.ensures.each ∣₁;
     }
 

@@ -1,4 +1,4 @@
-use Rattle.wkb_view.specs.Views.{multi_point_seen}
+use Rattle.wkb_view.proofs.Prelude.{multi_point_seen}
 use Rattle.wkb_view.proofs.Encodings.{is_encoded, exposes}
 use Rattle.wkb_view.proofs.multi_point.MultiPointGeometryTrait.as_written.Goals as goal
 

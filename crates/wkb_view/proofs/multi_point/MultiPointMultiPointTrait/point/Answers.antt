@@ -1,10 +1,7 @@
-use Rattle.std.proofs.Common.{◌∙◌, Some, None, ap, take, drop, arith}
+use Rattle.wkb_view.proofs.Prelude.{◌∙◌, Some, None, ap, arith, Item, point_of, point_ends, member_dimension}
 use Rattle.std.proofs.Math.Logic.{∥∥₁_elim}
 use Rattle.std.proofs.Props.{props}
-use Rattle.wkb_view.specs.Prelude.{Item, Layout, point_of}
-use Rattle.wkb_view.specs.Members.{point_ends, stride}
-use Rattle.wkb_view.specs.Lawful.{member_dimension}
-use Rattle.wkb_view.proofs.Items.{next_within, point_encoding_is}
+use Rattle.wkb_view.proofs.Items.{point_encoding_is}
 use Rattle.wkb_view.proofs.Leaves.{member_seen}
 use Rattle.wkb_view.proofs.Members.{member_encoding, member_there, members_seen, spelling_seen, point_encoding}
 use Rattle.wkb_view.proofs.Members.{point_past}
@@ -53,19 +50,8 @@ returns c =
     record {
       value = ap (λ (p : Item). Some (point_of p.value)) item
           ∙ members_seen 1 m.layout ends m.buf.now c.args.i (λ p. point_of p.value) _ encoding;
-      dimension =
-          ap (λ (l : Layout). l.dimension) c.of_encoding.ensures.layout
-          ∙ member_dimension 1 m.layout.dimension _ _ known;
+      dimension = grind (arith, member_dimension);
       spelled = ap (λ (p : Item). Some p.spelled) item
           ∙ spelling_seen 1 m.layout ends m.buf.now c.args.i _ encoding;
-      bytes = ap (λ (p : Item). p.encoding) c.of_encoding.ensures.item ∙ point_encoding_is _ _ ∙ bytes
-          ∙ ap (λ n. take (stride m.layout.dimension) (drop n m.buf.now)) c.point_offset-start.ensures;
+      bytes = grind (arith, point_encoding_is);
     }
-
-pub subslice-buf-requires : goal.subslice-buf-requires
-subslice-buf-requires c =
-    let m = c.args.self.now in
-    rw c.coordinate_size-member.ensures (omega (
-      arith,
-      next_within (stride m.layout.dimension) c.args.i m.count c.if-i-self.false,
-    ))

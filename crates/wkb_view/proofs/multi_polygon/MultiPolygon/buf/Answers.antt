@@ -1,11 +1,7 @@
-use Rattle.std.proofs.Common.{arith, refl, subst}
-use Rattle.wkb_view.specs.Lends.{Lends}
-use Rattle.wkb_view.specs.Members.{multi_polygon_seen}
+use Rattle.wkb_view.proofs.Prelude.{arith, refl, multi_polygon_seen}
 use Rattle.wkb_view.proofs.Lends.{lends}
 use Rattle.wkb_view.proofs.multi_polygon.MultiPolygon.buf.Goals as goal
 
 pub returns : goal.returns
 returns c =
-    let spells = c.self.invariant.2 in
-    subst (λ p. Lends (multi_polygon_seen p) c.self.inside.buf.now) c.self.view_is
-    (lends (multi_polygon_seen _) _ refl spells (omega arith) c.are_bytes.ensures)
+    rw (← c.self.view_is) (lends (multi_polygon_seen _) _ refl c.self.invariant.2 (omega arith) c.are_bytes.ensures)

@@ -1,12 +1,11 @@
-use Rattle.std.proofs.Common.{subst, sym, ◌-◌, length, length-take, arith}
-use Rattle.std.proofs.lemmas.Result.{err_from_is_err_and}
-use Rattle.wkb_view.specs.Prelude.{member_at, list_item, multi_polygon_with}
-use Rattle.wkb_view.specs.Members.{AreOfDimension}
-use Rattle.wkb_view.proofs.Lists.{IsList, parts_length, list_here, list_fits, list_costs, list_reads, list_stops}
-use Rattle.wkb_view.proofs.Lists.{polygons_within, list_refused}
+use Rattle.wkb_view.proofs.Prelude.{subst, sym, ◌-◌, length, length-take, arith, err_from_is_err_and, member_at}
+use Rattle.wkb_view.proofs.Prelude.{list_item, AreOfDimension}
+use Rattle.wkb_view.specs.Prelude.{multi_polygon_with}
+use Rattle.wkb_view.proofs.Lists.{IsList, parts_length, list_here, list_fits, list_reads, list_stops, polygons_within}
+use Rattle.wkb_view.proofs.Lists.{list_refused}
 use Rattle.wkb_view.proofs.Spells.{body_spelled}
-use Rattle.wkb_view.proofs.multi_polygon.MultiPolygon.read.Goals as goal
 use Rattle.wkb_view.proofs.multi_polygon.MultiPolygon.read.Goals.{In_ok-count}
+use Rattle.wkb_view.proofs.multi_polygon.MultiPolygon.read.Goals as goal
 unfoldable use Rattle.wkb_geom.specs.Reading.{multi_polygon_at}
 
 -- the list that was asked for
@@ -38,9 +37,7 @@ invariant_of-multi_polygon c =
     )
 
 pub read_members-requires-clause-room : goal.read_members-requires-clause-room
-read_members-requires-clause-room c =
-    rw (parts_length c.args.layout.has_srid c.args.bytes.now)
-    (omega (arith, c.in_ok-count.ensures.room, c.in_ok-count.ensures.count))
+read_members-requires-clause-room c = grind arith
 
 pub read_members-requires-clause-fits : goal.read_members-requires-clause-fits
 read_members-requires-clause-fits c =
@@ -51,32 +48,14 @@ returns-in_err-members c =
     let p = err_from_is_err_and c.from_residual-in_err-members.result c.from_residual-in_err-members.ensures.1 in
     let list = here (goal.at.returns-in_err-members c).In_ok-count in
     let stops = c.in_err-members.ensures in
-    let costs = list_costs list in
-    rw (p.1, p.2) (record {
-      answer = list_stops list c.in_err-members.field-0.0 _ stops.polygons;
-      shorter = tt;
-      no_memory = λ none. stops.no_memory (omega arith);
-    })
+    rw (p.1, p.2) (grind (arith, list_stops))
 
 pub counted_list-requires-clause-fits : goal.counted_list-requires-clause-fits
-counted_list-requires-clause-fits c =
-    omega (arith, polygons_within c.args.layout c.args.bytes.now)
+counted_list-requires-clause-fits c = grind (arith, polygons_within)
 
 pub returns-in_err-count : goal.returns-in_err-count
 unfolding multi_polygon_at
-returns-in_err-count c =
-    let stopped = err_from_is_err_and c.from_residual.result c.from_residual.ensures.1 in
-    let list = c.counted_list.ensures in
-    let none = c.in_err-count.ensures in
-    rw (stopped.1, stopped.2) (record {
-      answer =
-          list_refused 9 c.args.layout c.args.bytes.now _
-          (omega (arith, parts_length c.args.layout.has_srid c.args.bytes.now))
-          c.in_err-count.field-0.0 _ _ none.no_list list.turns list.slots;
-      shorter = tt;
-      no_memory = λ no_slots. none.no_memory (omega (arith, polygons_within c.args.layout c.args.bytes.now));
-    })
+returns-in_err-count c = grind (arith, err_from_is_err_and, list_refused, parts_length, polygons_within)
 
 pub slice_bounds-multi_polygon-length : goal.slice_bounds-multi_polygon-length
-slice_bounds-multi_polygon-length c =
-    omega (arith, length-take (length c.args.bytes.now - length c.in_ok-members.rest.now) c.args.bytes.now)
+slice_bounds-multi_polygon-length c = grind (arith, length-take)

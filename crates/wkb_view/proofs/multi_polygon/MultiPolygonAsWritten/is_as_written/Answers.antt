@@ -1,9 +1,5 @@
-use Rattle.std.proofs.Common.{refl, ap, arith, map, length, ◌≤◌}
-use Rattle.std.proofs.lemmas.List.{length-map}
-use Rattle.wkb_geom.specs.Values.{polygon}
-use Rattle.wkb_view.specs.Prelude.{polygon_of, as_dimensions}
-use Rattle.wkb_view.specs.Members.{polygon_items}
-use Rattle.wkb_view.specs.Fits.{fitted_line_strings}
+use Rattle.wkb_view.proofs.Prelude.{refl, ap, arith, map, length, ◌≤◌, length-map, polygon, polygon_of}
+use Rattle.wkb_view.proofs.Prelude.{polygon_items}
 use Rattle.wkb_view.proofs.Encodings.{HasWrittenHeader, one_more_written, all_written}
 use Rattle.wkb_view.proofs.multi_polygon.MultiPolygonAsWritten.is_as_written.Goals as goal
 
@@ -12,11 +8,8 @@ loop-i-preserved c =
     let p = c.unwrap.result.now in
     let is = c.if-not-is_as_written.ensures refl in
     let dimension = rw c.unwrap.ensures at c.polygon.ensures.dimension in
-    record {
-      so_far =
-          one_more_written c.loop-i.invariant.so_far is (ap (λ d. polygon d p.parts) dimension)
-          (rw c.unwrap.ensures at c.polygon.ensures.spelled) (rw c.unwrap.ensures at c.polygon.ensures.part);
-    }
+    one_more_written c.loop-i.invariant is (ap (λ d. polygon d p.parts) dimension)
+    (rw c.unwrap.ensures at c.polygon.ensures.spelled) (rw c.unwrap.ensures at c.polygon.ensures.part)
 
 pub returns : goal.returns
 returns c =
@@ -26,10 +19,8 @@ returns c =
     record { order_is = is.order refl; plain = is.plain refl; code = is.code refl } in
     let members = polygon_items m.members.items in
     let parts = map (λ i. polygon_of i.value) members in
-    let counted = rw (← c.self.view_is) at c.num_polygons-i-end.ensures in
-    let all : length parts ≤ c.loop-i.i =
-    omega (arith, length-map parts (fitted_line_strings (as_dimensions m.layout.dimension))) in
-    let so_far = rw (← c.self.view_is) at c.loop-i.invariant.so_far in
+    let all : length parts ≤ c.loop-i.i = grind (arith, length-map) in
+    let so_far = rw (← c.self.view_is) at c.loop-i.invariant in
     rw (← c.self.view_is) (λ _. record {
       bytes = is.bytes;
       same = all_written (λ i. polygon_of i.value) members header all so_far;

@@ -1,4 +1,5 @@
-use Rattle.wkb_view.specs.Members.{multi_polygon_seen, polygons_laid}
+use Rattle.wkb_view.proofs.Prelude.{multi_polygon_seen}
+use Rattle.wkb_view.specs.Members.{polygons_laid}
 use Rattle.wkb_view.proofs.Encodings.{is_encoded_fitted, exposes}
 use Rattle.wkb_view.proofs.multi_polygon.MultiPolygonGeometryTrait.as_written.Goals as goal
 

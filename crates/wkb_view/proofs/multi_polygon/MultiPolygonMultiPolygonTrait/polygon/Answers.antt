@@ -1,3 +1,4 @@
+use Rattle.wkb_view.proofs.Prelude.{arith}
 use Rattle.wkb_view.proofs.Members.{polygon_there}
 use Rattle.wkb_view.proofs.multi_polygon.MultiPolygonMultiPolygonTrait.polygon.Goals as goal
 
@@ -7,9 +8,4 @@ returns c =
     let got = rw c.deref.ensures.value at c.get.ensures.lookup in
     let there =
     polygon_there m.layout.dimension m.members.items c.args.i c.get.result (got.0, got.1) c.self.invariant.1 in
-    rw (← c.self.view_is) (record {
-      value = there.value;
-      part = there.part;
-      dimension = there.dimension;
-      spelled = there.spelled;
-    })
+    grind arith

@@ -1,7 +1,4 @@
-use Rattle.std.proofs.Common.{subst}
-use Rattle.wkb_geom.specs.Geometries.{geometry_of}
-use Rattle.wkb_view.specs.Views.{point_seen}
-use Rattle.wkb_view.specs.Lawful.{point_value}
+use Rattle.wkb_view.proofs.Prelude.{subst, geometry_of, point_seen, point_value}
 use Rattle.wkb_view.proofs.Items.{point_encoding_is}
 use Rattle.wkb_view.proofs.Encodings.{IsEncoded, is_encoded, exposes}
 use Rattle.wkb_view.proofs.point.PointGeometryTrait.as_written.Goals as goal

@@ -1,4 +1,5 @@
-use Rattle.std.proofs.Common.{◌-◌, length, length-take, map-id, arith}
+use Rattle.wkb_view.proofs.Prelude.{◌-◌, length, length-take, arith}
+use Rattle.std.proofs.Common.{map-id}
 use Rattle.wkb_view.proofs.Spells.{body_spelled}
 use Rattle.wkb_view.proofs.polygon.Polygon.read.Goals as goal
 unfoldable use Rattle.wkb_geom.specs.Reading.{polygon_at}

@@ -1,20 +1,12 @@
-use Rattle.std.proofs.Common.{Some, ap, ◌∙◌}
-use Rattle.wkb_view.specs.Prelude.{ring_in}
-use Rattle.wkb_view.specs.Pieces.{IsRingPart}
+use Rattle.wkb_view.proofs.Prelude.{Some, ap, ◌∙◌, arith, ring_in}
 use Rattle.wkb_view.proofs.Pieces.{in_order, piece_form, piece_seen}
 use Rattle.wkb_view.proofs.polygon.Polygon.ring.Goals as goal
 
 pub part_at-requires : goal.part_at-requires
-part_at-requires c =
-    let p = c.self.inside in
-    rw (c.header_length.ensures, c.deref.ensures.value)
-    (in_order (IsRingPart p.layout.order p.layout.dimension) _ p.ends.items p.buf.now c.self.invariant.1)
+part_at-requires c = grind (arith, in_order)
 
 pub of_encoding-requires : goal.of_encoding-requires
-of_encoding-requires c =
-    let p = c.self.inside in
-    piece_form (IsRingPart p.layout.order p.layout.dimension) _ p.ends.items p.buf.now c.args.i _ c.self.invariant.1
-    (rw (c.header_length.ensures, c.deref.ensures.value) at c.in_ok-bytes.ensures.part)
+of_encoding-requires c = grind (arith, piece_form)
 
 pub returns-clause-value : goal.returns-clause-value
 returns-clause-value c =

@@ -1,4 +1,4 @@
-use Rattle.wkb_view.specs.Members.{polygon_seen, polygon_laid}
+use Rattle.wkb_view.proofs.Prelude.{polygon_seen, polygon_laid}
 use Rattle.wkb_view.proofs.Encodings.{is_encoded_fitted, exposes}
 use Rattle.wkb_view.proofs.polygon.PolygonGeometryTrait.as_written.Goals as goal
 
