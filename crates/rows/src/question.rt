@@ -4,7 +4,9 @@ use crate::command::show_run;
 use crate::line::Line;
 use crate::members::show_members;
 use crate::notation::bytes;
-use crate::reading::{show_counts, show_error, show_geometry, show_iso_size, show_reading};
+use crate::reading::{
+    show_counts, show_error, show_front, show_geometry, show_reading, show_sizes,
+};
 use crate::rewriting::{show_comparison, show_encoding, show_there_and_back};
 use crate::view::show_view;
 use std::alloc::Global;
@@ -33,9 +35,8 @@ fn show_of_geometry(line: &mut Line, question: &str, wkb: &Wkb<'_>) {
         "geometry" => show_geometry(line, wkb),
         "view" => show_view(line, wkb),
         "counts" => show_counts(line, wkb),
-        "front" => line.show_bytes("", wkb.buf()),
         "members" => show_members(line, wkb),
-        "iso size" => show_iso_size(line, wkb),
+        "sizes" => show_sizes(line, wkb),
         _ => line.say("no such question"),
     }
 }
@@ -56,6 +57,7 @@ fn show_of_bytes(line: &mut Line, alloc: Global, question: &str, input: &[u8]) {
     match question {
         "read" => show_reading(line, alloc, input),
         "be then le" => show_there_and_back(line, alloc, input),
+        "front" => show_front(line, alloc, input),
         "own srid le" => {
             show_encoding(line, with_own_srid(alloc, input, Endianness::LittleEndian))
         }

@@ -3,10 +3,10 @@
 use crate::line::Line;
 use std::alloc::Global;
 use wkb::error::WkbError;
-use wkb::geom::{GeometryTrait, GeometryType};
+use wkb::geom::{GeometryTrait, GeometryType, PolygonTrait};
 use wkb::reader::Wkb;
 use wkb::writer::geometry_wkb_size;
-use wkb_cases::reading::{Outcome, answer_to, are_same, counts, tried, view_size};
+use wkb_cases::reading::{Outcome, answer_to, are_same, counts, read, tried, view_size};
 use wkb_check::{Refused, Summary, check};
 use wkb_geom::Cause;
 
@@ -105,11 +105,33 @@ pub fn show_counts(line: &mut Line, wkb: &Wkb<'_>) {
     }
 }
 
-/// Shows how many bytes a geometry is written to in ISO codes.
-pub fn show_iso_size(line: &mut Line, wkb: &Wkb<'_>) {
+/// Shows how many bytes a geometry is written to in ISO codes, and what its views tell of that.
+pub fn show_sizes(line: &mut Line, wkb: &Wkb<'_>) {
     match geometry_wkb_size(wkb) {
         Ok(size) => line.show("", size),
         Err(error) => show_error(line, &error),
+    }
+    line.show(", told ", wkb.byte_size());
+    if let GeometryType::Polygon(polygon) = wkb.as_type() {
+        line.show(", rings ", polygon.rings_size());
+    }
+}
+
+/// Shows the bytes that the geometry at the start of some bytes borrows. If they are read otherwise, it shows how.
+pub fn show_front(line: &mut Line, alloc: Global, input: &[u8]) {
+    let front = match read(alloc, input) {
+        Ok(wkb) => wkb.buf(),
+        Err(error) => return show_error(line, &error),
+    };
+    line.show_bytes("", front);
+    match read(alloc, front) {
+        Ok(again) if again.buf() == front => {}
+        Ok(again) => line.show_bytes(", but again ", again.buf()),
+        Err(error) => line.show(", but again ", &error),
+    }
+    match are_same(alloc, input, front) {
+        Ok(true) => {}
+        other => line.show(", but the same ", other),
     }
 }
 

@@ -23,6 +23,14 @@ fn split_at_colon(text: &str) -> (&str, &str) {
     (part.trim(), rest.trim())
 }
 
+/// A question, and the input that it is asked of: its own, in brackets, or that of its paragraph.
+fn asked<'t>(question: &'t str, input: &'t str) -> (&'t str, &'t str) {
+    match question.split_once('(') {
+        Some((question, own)) => (question.trim(), own.strip_suffix(')').unwrap_or(own)),
+        None => (question, input),
+    }
+}
+
 impl Rows {
     /// No rows yet.
     pub fn new(alloc: Global) -> Rows {
@@ -54,7 +62,8 @@ impl Rows {
         let mut expected = Line::new(rt.alloc());
         write_out(&mut expected, answer);
         let mut answered = Line::new(rt.alloc());
-        show_answer(&mut answered, rt.alloc(), question, self.input.as_str());
+        let (asked, input) = asked(question, self.input.as_str());
+        show_answer(&mut answered, rt.alloc(), asked, input);
         let (expected, answered) = (expected.as_str(), answered.as_str());
         self.count = self.count.saturating_add(1);
         if expected == answered {

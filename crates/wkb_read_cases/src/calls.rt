@@ -57,27 +57,10 @@ fn hex_calls(rt: HostRuntime) -> Result<(), Fail> {
     Ok(())
 }
 
-/// A point with an SRID.
-const POINT: &str = "01e9030020e6100000000000000000f03f00000000000000400000000000000840";
-
-// Whether its SRID is found, and goes into this encoding under EWKB.
-fn has_srid(alloc: Global, expected: &Spelled) -> Result<bool, HexFault> {
-    Ok(
-        srid_hex(alloc, POINT)? == Some(4326)
-            && is_ewkb(alloc, POINT, Endianness::BigEndian, expected)?,
-    )
-}
-
-// The cases srid-word and ewkb-point.
-#[test]
-fn point_srid(rt: HostRuntime) -> Result<(), Fail> {
-    let expected = bytes("00a0000001000010e63ff000000000000040000000000000004008000000000000")?;
-    assert!(rt; has_srid(rt.alloc(), &expected)?);
-    Ok(())
-}
-
-/// A point of 1.0 and 2.0.
+/// A point of 1.0 and 2.0, and one with an SRID.
 const BARE_POINT: &str = "0101000000000000000000f03f0000000000000040";
+
+const POINT: &str = "01e9030020e6100000000000000000f03f00000000000000400000000000000840";
 
 /// A polygon of one ring, and the same big endian with an SRID.
 const POLYGON: &str = "01030000000100000001000000000000000000f03f0000000000000040";
@@ -85,18 +68,14 @@ const POLYGON: &str = "01030000000100000001000000000000000000f03f000000000000004
 const POLYGON_WITH_SRID: &str =
     "0020000003000010e600000001000000013ff00000000000004000000000000000";
 
-/// A point of two zeros, and one of a zero and a negative zero.
-const ZEROS: &str = "010100000000000000000000000000000000000000";
-
-const NEGATIVE_ZERO: &str = "010100000000000000000000000000000000000080";
-
-// The cases same-polygons, zero-signs and srid-word.
+// The cases same-polygons, srid-word and ewkb-point.
 #[test]
 fn values_and_srids(rt: HostRuntime) -> Result<(), Fail> {
-    assert!(rt; same_hex(rt.alloc(), POLYGON, POLYGON_WITH_SRID)?);
-    assert!(rt; !same_hex(rt.alloc(), ZEROS, NEGATIVE_ZERO)?);
-    assert!(rt; srid_hex(rt.alloc(), POLYGON)?.is_none());
-    assert!(rt; srid_hex(rt.alloc(), POLYGON_WITH_SRID)? == Some(4326));
-    assert!(rt; srid_hex(rt.alloc(), BARE_POINT)?.is_none());
+    let alloc = rt.alloc();
+    assert!(rt; same_hex(alloc, POLYGON, POLYGON_WITH_SRID)?);
+    assert!(rt; srid_hex(alloc, POINT)? == Some(4326));
+    assert!(rt; srid_hex(alloc, BARE_POINT)?.is_none());
+    let expected = bytes("00a0000001000010e63ff000000000000040000000000000004008000000000000")?;
+    assert!(rt; is_ewkb(alloc, POINT, Endianness::BigEndian, &expected)?);
     Ok(())
 }

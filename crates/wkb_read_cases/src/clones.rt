@@ -1,78 +1,43 @@
 //! Each clone. If a clone fails, its source is as before.
 
 use crate::cases::{CASES, Case, case_at};
-use std::alloc::Global;
+use std::alloc::{AllocError, Global};
 use std::test::Fail;
-use wkb::reader::{GeometryType, Wkb};
-use wkb_cases::reading::{as_multi_line_string, as_multi_polygon, as_polygon, read, view_size};
+use wkb::geom::{GeometryTrait, GeometryType};
+use wkb::reader::Wkb;
+use wkb_cases::reading::{read, view_size};
 
 // Whether a geometry is that of the case.
 fn is_case(wkb: &Wkb<'_>, case: &Case) -> bool {
     wkb.buf() == case.input.as_slice() && view_size(wkb) == case.input.len() as u64
 }
 
-fn whole_is_cloned(wkb: &Wkb<'_>, case: &Case) -> Result<bool, Fail> {
-    let copy = wkb.clone();
-    if !is_case(wkb, case) {
+// The bytes of a clone of the view, if that keeps a list.
+fn view_cloned<'a>(wkb: &Wkb<'a>) -> Result<&'a [u8], AllocError> {
+    match wkb.as_type() {
+        GeometryType::Polygon(view) => Ok(view.clone()?.buf()),
+        GeometryType::MultiLineString(view) => Ok(view.clone()?.buf()),
+        GeometryType::MultiPolygon(view) => Ok(view.clone()?.buf()),
+        _ => match wkb.as_geometry_collection() {
+            Some(view) => Ok(Wkb::from(view.clone()?).buf()),
+            None => Ok(&[]),
+        },
+    }
+}
+
+fn is_cloned(alloc: Global, case: &Case) -> Result<bool, Fail> {
+    let wkb = read(alloc, case.input.as_slice())?;
+    let (whole, view) = (wkb.clone(), view_cloned(&wkb));
+    if !is_case(&wkb, case) {
         return Ok(false);
     }
-    Ok(is_case(&copy?, case))
-}
-
-fn collection_is_cloned(wkb: &Wkb<'_>, case: &Case) -> Result<bool, Fail> {
-    let copy = wkb.as_geometry_collection().ok_or("no collection")?.clone();
-    if !is_case(wkb, case) {
-        return Ok(false);
-    }
-    Ok(is_case(&Wkb::from(copy?), case))
-}
-
-fn polygon_is_cloned(wkb: &Wkb<'_>, case: &Case) -> Result<bool, Fail> {
-    let copy: Result<_, _> = as_polygon(wkb)?.clone();
-    if !is_case(wkb, case) {
-        return Ok(false);
-    }
-    Ok(copy?.buf() == wkb.buf())
-}
-
-fn line_strings_are_cloned(wkb: &Wkb<'_>, case: &Case) -> Result<bool, Fail> {
-    let copy: Result<_, _> = as_multi_line_string(wkb)?.clone();
-    if !is_case(wkb, case) {
-        return Ok(false);
-    }
-    Ok(copy?.buf() == wkb.buf())
-}
-
-fn polygons_are_cloned(wkb: &Wkb<'_>, case: &Case) -> Result<bool, Fail> {
-    let copy: Result<_, _> = as_multi_polygon(wkb)?.clone();
-    if !is_case(wkb, case) {
-        return Ok(false);
-    }
-    Ok(copy?.buf() == wkb.buf())
-}
-
-fn view_is_cloned(wkb: &Wkb<'_>, case: &Case) -> Result<bool, Fail> {
-    match wkb.geometry_type() {
-        GeometryType::Polygon => polygon_is_cloned(wkb, case),
-        GeometryType::MultiLineString => line_strings_are_cloned(wkb, case),
-        GeometryType::MultiPolygon => polygons_are_cloned(wkb, case),
-        _ => collection_is_cloned(wkb, case),
-    }
-}
-
-fn is_cloned(wkb: &Wkb<'_>, case: &Case) -> Result<bool, Fail> {
-    Ok(whole_is_cloned(wkb, case)? && view_is_cloned(wkb, case)?)
-}
-
-fn case_is_cloned(alloc: Global, number: usize) -> Result<bool, Fail> {
-    let case = case_at(number)?;
-    is_cloned(&read(alloc, case.input.as_slice())?, &case)
+    Ok(is_case(&whole?, case) && view? == case.input.as_slice())
 }
 
 #[test]
 fn each_view(rt: HostRuntime) -> Result<(), Fail> {
     for number in 0..CASES {
-        assert!(rt; case_is_cloned(rt.alloc(), number)?, "{number}");
+        assert!(rt; is_cloned(rt.alloc(), &case_at(number)?)?, "{number}");
     }
     Ok(())
 }

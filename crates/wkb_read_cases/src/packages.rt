@@ -26,82 +26,81 @@ fn outcome(alloc: Global, text: &str) -> Result<u8, Fail> {
     }
 }
 
-// A point (1 2): in an envelope from (1 2) to (1 2), without one, and in one whose z nothing is said of. An empty point
-// and an empty polygon, in envelopes of NaNs.
+/// An empty polygon in an envelope of NaNs.
+const EMPTY_POLYGON: &str =
+    "47500013 e6100000 000000000000f87f 000000000000f87f 000000000000f87f 000000000000f87f
+    01 03000000 00000000";
+
+/// A point without an envelope, in big endian.
+const BARE_POINT: &str = "47500000 000010e6 01 01000000 P";
+
+// Blobs, and what is returned for them: a point (1 2) in an envelope from (1 2) to (1 2), without one, and in one whose
+// z nothing is said of; an empty point and an empty polygon, in envelopes of NaNs; another letter, another version, a
+// bit of a later use, an envelope of no kind, one that is cut; one from x 2 on, one of a NaN, one of zeros around an
+// empty geometry; EWKB with an SRID; and a geometry without its last byte.
+const BLOBS: [(&str, u8); 15] = [
+    (
+        "47500003 e6100000 000000000000f03f 000000000000f03f 0000000000000040 0000000000000040
+        01 01000000 P",
+        1,
+    ),
+    (BARE_POINT, 10),
+    (
+        "47500005 e6100000 000000000000f0bf 000000000000f03f 0000000000000040 0000000000000840
+        0000000000000000 0000000000000000 01 01000000 P",
+        2,
+    ),
+    (
+        "47500013 e6100000 000000000000f87f 000000000000f87f 000000000000f87f 000000000000f87f
+        01 01000000 000000000000f87f 000000000000f87f",
+        1,
+    ),
+    (EMPTY_POLYGON, 1),
+    ("47510001 e6100000 01 01000000 P", 20),
+    ("47500101 e6100000 01 01000000 P", 20),
+    ("47500021 e6100000 01 01000000 P", 20),
+    ("4750000b e6100000 01 01000000 P", 20),
+    ("47500003 e6100000 01 01000000 P", 20),
+    (
+        "47500003 e6100000 0000000000000040 0000000000000840 0000000000000040 0000000000000040
+        01 01000000 P",
+        30,
+    ),
+    (
+        "47500003 e6100000 000000000000f87f 000000000000f03f 0000000000000040 0000000000000040
+        01 01000000 P",
+        30,
+    ),
+    (
+        "47500013 e6100000 0000000000000000 0000000000000000 0000000000000000 0000000000000000
+        01 03000000 00000000",
+        30,
+    ),
+    ("47500001 e6100000 01 01000020 e6100000 P", 50),
+    (
+        "47500001 e6100000 01 01000000 000000000000f03f 00000000000000",
+        40,
+    ),
+];
+
 #[test]
 fn packages_read(rt: HostRuntime) -> Result<(), Fail> {
-    let alloc = rt.alloc();
-    let tight =
-        "47500003 e6100000 000000000000f03f 000000000000f03f 0000000000000040 0000000000000040 01 01000000 P";
-    assert!(rt; outcome(alloc, tight)? == 1);
-    assert!(rt; outcome(alloc, "47500000 000010e6 01 01000000 P")? == 10);
-    let with_z =
-        "47500005 e6100000 000000000000f0bf 000000000000f03f 0000000000000040 0000000000000840
-        0000000000000000 0000000000000000 01 01000000 P";
-    assert!(rt; outcome(alloc, with_z)? == 2);
-    let point =
-        "47500013 e6100000 000000000000f87f 000000000000f87f 000000000000f87f 000000000000f87f
-        01 01000000 000000000000f87f 000000000000f87f";
-    assert!(rt; outcome(alloc, point)? == 1);
-    let polygon =
-        "47500013 e6100000 000000000000f87f 000000000000f87f 000000000000f87f 000000000000f87f
-        01 03000000 00000000";
-    assert!(rt; outcome(alloc, polygon)? == 1);
+    for (text, expected) in BLOBS {
+        assert!(rt; outcome(rt.alloc(), text)? == expected, "{text}");
+    }
     Ok(())
 }
 
-/// Whether a blob's package is written as the blob.
-fn is_again(alloc: Global, text: &str) -> Result<bool, Fail> {
-    let blob = bytes(text)?;
-    let Ok(package) = read(alloc, blob.as_slice()) else {
-        return Ok(false);
-    };
-    match write(alloc, &package) {
-        Ok(Some(written)) => Ok(written.as_slice() == blob.as_slice()),
-        Ok(None) => Ok(false),
-        Err(error) => Err(Fail::new(error)),
-    }
-}
-
-// A point (1 2) without an envelope, in big endian; an empty polygon in an envelope of NaNs.
 #[test]
 fn packages_written(rt: HostRuntime) -> Result<(), Fail> {
-    let alloc = rt.alloc();
-    assert!(rt; is_again(alloc, "47500000 000010e6 01 01000000 P")?);
-    let polygon =
-        "47500013 e6100000 000000000000f87f 000000000000f87f 000000000000f87f 000000000000f87f
-        01 03000000 00000000";
-    assert!(rt; is_again(alloc, polygon)?);
-    Ok(())
-}
-
-// Another letter, another version, a bit of a later use, an envelope of no kind, one that is cut; one from x 2 on, one
-// of a NaN, one of zeros around an empty geometry; EWKB with an SRID; and a geometry without its last byte.
-#[test]
-fn packages_refused(rt: HostRuntime) -> Result<(), Fail> {
-    let alloc = rt.alloc();
-    assert!(rt; outcome(alloc, "47510001 e6100000 01 01000000 P")? == 20);
-    assert!(rt; outcome(alloc, "47500101 e6100000 01 01000000 P")? == 20);
-    assert!(rt; outcome(alloc, "47500021 e6100000 01 01000000 P")? == 20);
-    assert!(rt; outcome(alloc, "4750000b e6100000 01 01000000 P")? == 20);
-    assert!(rt; outcome(alloc, "47500003 e6100000 01 01000000 P")? == 20);
-    let late =
-        "47500003 e6100000 0000000000000040 0000000000000840 0000000000000040 0000000000000040 01 01000000 P";
-    assert!(rt; outcome(alloc, late)? == 30);
-    let nan =
-        "47500003 e6100000 000000000000f87f 000000000000f03f 0000000000000040 0000000000000040 01 01000000 P";
-    assert!(rt; outcome(alloc, nan)? == 30);
-    let zeros =
-        "47500013 e6100000 0000000000000000 0000000000000000 0000000000000000 0000000000000000
-        01 03000000 00000000";
-    assert!(rt; outcome(alloc, zeros)? == 30);
-    assert!(rt; outcome(alloc, "47500001 e6100000 01 01000020 e6100000 P")? == 50);
-    assert!(rt;
-        outcome(
-            alloc,
-            "47500001 e6100000 01 01000000 000000000000f03f 00000000000000"
-        )? == 40
-    );
+    for text in [BARE_POINT, EMPTY_POLYGON] {
+        let blob = bytes(text)?;
+        let Ok(package) = read(rt.alloc(), blob.as_slice()) else {
+            return Err(Fail::new("not read"));
+        };
+        let written = write(rt.alloc(), &package)?.ok_or("not written")?;
+        assert!(rt; written.as_slice() == blob.as_slice(), "{text}");
+    }
     Ok(())
 }
 
@@ -125,23 +124,13 @@ fn rows_in_a_box(rt: HostRuntime) -> Result<(), Fail> {
         count: 2,
     };
     let empty = bytes("01 03000000 00000000")?;
-    match found_in(
-        rt.alloc(),
-        &BoundingBox { x: all, y: all },
-        &[empty.as_slice()],
-    ) {
-        Ok(found) => assert!(rt; found.len() == 0),
-        Err(error) => return Err(Fail::new(error)),
-    }
+    let whole = BoundingBox { x: all, y: all };
+    let found = found_in(rt.alloc(), &whole, &[empty.as_slice()])?;
+    assert!(rt; found.len() == 0);
     let window = BoundingBox { x: side, y: side };
     let rows = [outside.as_slice(), line.as_slice(), &[], corner.as_slice()];
-    match found_in(rt.alloc(), &window, &rows) {
-        Ok(found) => {
-            assert!(rt; found.len() == 2);
-            assert!(rt; found[0] == line.as_slice());
-            assert!(rt; found[1] == corner.as_slice());
-            Ok(())
-        }
-        Err(error) => Err(Fail::new(error)),
-    }
+    let found = found_in(rt.alloc(), &window, &rows)?;
+    assert!(rt; found.len() == 2);
+    assert!(rt; found[0] == line.as_slice() && found[1] == corner.as_slice());
+    Ok(())
 }

@@ -8,10 +8,7 @@ use std::io;
 use std::test::Fail;
 use wkb::Endianness;
 use wkb::error::WkbResult;
-use wkb::geom::{
-    Coord, Dimensioned, Dimensions, Geometry, GeometryCollection, LineString, MultiLineString,
-    Point, Rect,
-};
+use wkb::geom::{Dimensions, Geometry, GeometryCollection, MultiLineString, Point, Rect};
 use wkb::writer::{
     Form, Sink, WriteOptions, geometry_collection_wkb_size, geometry_wkb_size_with,
     line_string_wkb_size, line_wkb_size, multi_line_string_wkb_size, multi_point_wkb_size,
@@ -112,21 +109,12 @@ pub struct Corner<'w> {
 }
 
 impl<'w> Corner<'w> {
-    fn coord(self) -> Result<Coord<'w>, Fail> {
-        coord_of(self.dim, self.words)
-    }
-
-    fn point(self) -> Result<Point<'w>, Fail> {
-        point_of(self.dim, self.words)
-    }
-
-    fn line_string(self) -> Result<LineString<'w>, Fail> {
-        line_string_of(self.dim, self.words)
-    }
-
     /// A rectangle from the origin.
     pub fn rect(self) -> Result<Rect<'w>, Fail> {
-        rect_of(coord_of(self.dim, self.origin)?, self.coord()?)
+        rect_of(
+            coord_of(self.dim, self.origin)?,
+            coord_of(self.dim, self.words)?,
+        )
     }
 }
 
@@ -172,120 +160,6 @@ fn told(size: WkbResult<usize>, written: WkbResult<()>) -> Answers {
     }
 }
 
-// What size function and writer return for a geometry of each kind, little endian, whose parts are this corner, twice
-// if it has several.
-
-fn point<S: Sink>(sink: &mut S, corner: Corner<'_>) -> Result<Answers, Fail>
-    requires working { S.has_failed sink.old ≡ false }
-{
-    let point = corner.point()?;
-    Ok(told(
-        point_wkb_size(point.dim()),
-        put_point(sink, &point, &LITTLE),
-    ))
-}
-
-fn line_string<S: Sink>(sink: &mut S, corner: Corner<'_>) -> Result<Answers, Fail>
-    requires working { S.has_failed sink.old ≡ false }
-{
-    let line = corner.line_string()?;
-    Ok(told(
-        line_string_wkb_size(&line),
-        write_line_string(sink, &line, &LITTLE),
-    ))
-}
-
-fn polygon<S: Sink>(sink: &mut S, corner: Corner<'_>) -> Result<Answers, Fail>
-    requires working { S.has_failed sink.old ≡ false }
-{
-    let rings = [corner.line_string()?; 2];
-    let polygon = polygon_of(corner.dim, &rings)?;
-    Ok(told(
-        polygon_wkb_size(&polygon),
-        write_polygon(sink, &polygon, &LITTLE),
-    ))
-}
-
-fn multi_point<S: Sink>(sink: &mut S, corner: Corner<'_>) -> Result<Answers, Fail>
-    requires working { S.has_failed sink.old ≡ false }
-{
-    let points = [corner.point()?; 2];
-    let multi = multi_point_of(corner.dim, &points)?;
-    Ok(told(
-        multi_point_wkb_size(&multi),
-        write_multi_point(sink, &multi, &LITTLE),
-    ))
-}
-
-fn multi_line_string<S: Sink>(sink: &mut S, corner: Corner<'_>) -> Result<Answers, Fail>
-    requires working { S.has_failed sink.old ≡ false }
-{
-    let line_strings = [corner.line_string()?; 2];
-    let multi = multi_line_string_of(corner.dim, &line_strings)?;
-    Ok(told(
-        multi_line_string_wkb_size(&multi),
-        put_multi_line_string(sink, &multi, &LITTLE),
-    ))
-}
-
-fn multi_polygon<S: Sink>(sink: &mut S, corner: Corner<'_>) -> Result<Answers, Fail>
-    requires working { S.has_failed sink.old ≡ false }
-{
-    let rings = [corner.line_string()?; 2];
-    let polygons = [polygon_of(corner.dim, &rings)?; 2];
-    let multi = multi_polygon_of(corner.dim, &polygons)?;
-    Ok(told(
-        multi_polygon_wkb_size(&multi),
-        write_multi_polygon(sink, &multi, &LITTLE),
-    ))
-}
-
-fn rect<S: Sink>(sink: &mut S, corner: Corner<'_>) -> Result<Answers, Fail>
-    requires working { S.has_failed sink.old ≡ false }
-{
-    let rect = corner.rect()?;
-    Ok(told(rect_wkb_size(&rect), write_rect(sink, &rect, &LITTLE)))
-}
-
-fn triangle<S: Sink>(sink: &mut S, corner: Corner<'_>) -> Result<Answers, Fail>
-    requires working { S.has_failed sink.old ≡ false }
-{
-    let coord = corner.coord()?;
-    let triangle = triangle_of(coord, coord, coord)?;
-    Ok(told(
-        triangle_wkb_size(&triangle),
-        write_triangle(sink, &triangle, &LITTLE),
-    ))
-}
-
-fn line<S: Sink>(sink: &mut S, corner: Corner<'_>) -> Result<Answers, Fail>
-    requires working { S.has_failed sink.old ≡ false }
-{
-    let coord = corner.coord()?;
-    let line = line_of(coord, coord)?;
-    Ok(told(line_wkb_size(&line), write_line(sink, &line, &LITTLE)))
-}
-
-fn collection_answers<S: Sink>(sink: &mut S, it: &GeometryCollection<'_>) -> Answers
-    requires working { S.has_failed sink.old ≡ false }
-{
-    told(
-        geometry_collection_wkb_size(it),
-        write_geometry_collection(sink, it, &LITTLE),
-    )
-}
-
-fn collection<S: Sink>(alloc: Global, sink: &mut S, corner: Corner<'_>) -> Result<Answers, Fail>
-    requires working { S.has_failed sink.old ≡ false }
-{
-    let point = Geometry::Point(corner.point()?);
-    let line_string = Geometry::LineString(corner.line_string()?);
-    match &collection_of_two(alloc, corner.dim, point, line_string)? {
-        Geometry::GeometryCollection(it) => Ok(collection_answers(sink, it)),
-        _ => Err(Fail::new("no collection")),
-    }
-}
-
 /// What `geometry_wkb_size_with` and `write_geometry` return for any geometry, little endian.
 pub fn any<S: Sink>(sink: &mut S, geometry: &Geometry<'_>) -> Answers
     requires working { S.has_failed sink.old ≡ false }
@@ -296,12 +170,17 @@ pub fn any<S: Sink>(sink: &mut S, geometry: &Geometry<'_>) -> Answers
     )
 }
 
-fn any_point<S: Sink>(sink: &mut S, corner: Corner<'_>) -> Result<Answers, Fail>
+fn collection<S: Sink>(sink: &mut S, it: &GeometryCollection<'_>) -> Answers
     requires working { S.has_failed sink.old ≡ false }
 {
-    Ok(any(sink, &Geometry::Point(corner.point()?)))
+    told(
+        geometry_collection_wkb_size(it),
+        write_geometry_collection(sink, it, &LITTLE),
+    )
 }
 
+// What size function and writer return for a geometry of the kind, whose parts are this corner, twice if it has
+// several; of a collection the second is a line string.
 fn put_corner<S: Sink>(
     alloc: Global,
     sink: &mut S,
@@ -310,19 +189,64 @@ fn put_corner<S: Sink>(
 ) -> Result<Answers, Fail>
     requires working { S.has_failed sink.old ≡ false }
 {
-    match kind {
-        Kind::Point => point(sink, corner),
-        Kind::LineString => line_string(sink, corner),
-        Kind::Polygon => polygon(sink, corner),
-        Kind::MultiPoint => multi_point(sink, corner),
-        Kind::MultiLineString => multi_line_string(sink, corner),
-        Kind::MultiPolygon => multi_polygon(sink, corner),
-        Kind::GeometryCollection => collection(alloc, sink, corner),
-        Kind::Rect => rect(sink, corner),
-        Kind::Triangle => triangle(sink, corner),
-        Kind::Line => line(sink, corner),
-        Kind::Any => any_point(sink, corner),
-    }
+    let dim = corner.dim;
+    let coord = coord_of(dim, corner.words)?;
+    let point = point_of(dim, corner.words)?;
+    let line_string = line_string_of(dim, corner.words)?;
+    let (points, rings) = ([point; 2], [line_string; 2]);
+    Ok(match kind {
+        Kind::Point => told(point_wkb_size(dim), put_point(sink, &point, &LITTLE)),
+        Kind::LineString => told(
+            line_string_wkb_size(&line_string),
+            write_line_string(sink, &line_string, &LITTLE),
+        ),
+        Kind::Polygon => {
+            let it = polygon_of(dim, &rings)?;
+            told(polygon_wkb_size(&it), write_polygon(sink, &it, &LITTLE))
+        }
+        Kind::MultiPoint => {
+            let it = multi_point_of(dim, &points)?;
+            told(
+                multi_point_wkb_size(&it),
+                write_multi_point(sink, &it, &LITTLE),
+            )
+        }
+        Kind::MultiLineString => {
+            let it = multi_line_string_of(dim, &rings)?;
+            told(
+                multi_line_string_wkb_size(&it),
+                put_multi_line_string(sink, &it, &LITTLE),
+            )
+        }
+        Kind::MultiPolygon => {
+            let polygons = [polygon_of(dim, &rings)?; 2];
+            let it = multi_polygon_of(dim, &polygons)?;
+            told(
+                multi_polygon_wkb_size(&it),
+                write_multi_polygon(sink, &it, &LITTLE),
+            )
+        }
+        Kind::GeometryCollection => {
+            let (first, second) = (Geometry::Point(point), Geometry::LineString(line_string));
+            match &collection_of_two(alloc, dim, first, second)? {
+                Geometry::GeometryCollection(it) => collection(sink, it),
+                _ => return Err(Fail::new("no collection")),
+            }
+        }
+        Kind::Rect => {
+            let it = corner.rect()?;
+            told(rect_wkb_size(&it), write_rect(sink, &it, &LITTLE))
+        }
+        Kind::Triangle => {
+            let it = triangle_of(coord, coord, coord)?;
+            told(triangle_wkb_size(&it), write_triangle(sink, &it, &LITTLE))
+        }
+        Kind::Line => {
+            let it = line_of(coord, coord)?;
+            told(line_wkb_size(&it), write_line(sink, &it, &LITTLE))
+        }
+        Kind::Any => any(sink, &Geometry::Point(point)),
+    })
 }
 
 /// Measures and puts a geometry of the kind, little endian. A failed allocation is an error of its own.

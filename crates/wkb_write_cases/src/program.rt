@@ -6,10 +6,8 @@ use std::env::{Env, FillError};
 use std::io;
 use std::io::{Read, Write};
 use std::test::Fail;
-use wkb_cases::spelled::{Spelled, bytes, digits_of};
-use wkb_cases::texts::{
-    MEMBER_WITH_SRID, MIXED_DIMENSIONS, MULTI_LINE_TWO, POLYGON_HOLE, nested_in,
-};
+use wkb_cases::spelled::{Spelled, digits_of};
+use wkb_cases::texts::nested_in;
 use wkb_command::arguments::{ArgumentFailure, read_arguments};
 use wkb_command::program::run;
 
@@ -80,12 +78,6 @@ impl Read for Digits {
     }
 }
 
-fn words_of(alloc: Global, word: &str) -> Result<Vec<String>, AllocError> {
-    let mut words = Vec::with_capacity(alloc, 1)?;
-    words.push(String::from_str(alloc, word)?)?;
-    Ok(words)
-}
-
 /// The status of a run.
 fn status_of<R: Read, W: Write>(
     alloc: Global,
@@ -93,64 +85,47 @@ fn status_of<R: Read, W: Write>(
     input: &mut R,
     out: &mut W,
 ) -> Result<u8, AllocError> {
-    let words = words_of(alloc, word)?;
+    let mut words = Vec::with_capacity(alloc, 1)?;
+    words.push(String::from_str(alloc, word)?)?;
     Ok(run(alloc, words.as_slice(), input, out))
 }
 
-/// The status of a run, and what it wrote; an error if an allocation failed.
-fn outcome<R: Read>(alloc: Global, word: &str, input: &mut R) -> Result<(u8, Spelled), Fail> {
-    let mut out = Spelled::new();
-    let status = status_of(alloc, word, input, &mut out)?;
-    if out.as_slice() == b"out of memory\n".as_slice() {
-        return Err(Fail::new("out of memory"));
-    }
-    Ok((status, out))
-}
-
 // Whether a run ends with this status, and wrote this.
-fn ends<R: Read>(
+fn ends<R: Read + Drop>(
     alloc: Global,
     word: &str,
-    input: &mut R,
+    mut input: R,
     status: u8,
     line: &str,
 ) -> Result<bool, Fail> {
-    let (ended, out) = outcome(alloc, word, input)?;
+    let mut out = Spelled::new();
+    let ended = status_of(alloc, word, &mut input, &mut out)?;
+    if out.as_slice() == b"out of memory\n".as_slice() {
+        return Err(Fail::new("out of memory"));
+    }
     Ok(ended == status && out.as_slice() == line.as_bytes())
 }
 
-// How the program ends behind a reader of digits that ends after `left` of them.
-fn ends_behind(alloc: Global, left: u32, status: u8, line: &str) -> Result<bool, Fail> {
-    let mut digits = Digits {
-        left,
-        after_failure: None,
-    };
-    ends(alloc, "le", &mut digits, status, line)
-}
-
-// Whether a run fails if its reader fails at its second call, and would then have `more` digits.
-fn fails_with_its_reader(alloc: Global, word: &str, more: u32) -> Result<bool, Fail> {
-    let mut digits = Digits {
-        left: 1,
-        after_failure: Some(more),
-    };
-    ends(alloc, word, &mut digits, 3, "")
-}
-
-// Also if the reader would go on: no read is tried again.
-fn fails_at_once(alloc: Global, word: &str) -> Result<bool, Fail> {
-    Ok(fails_with_its_reader(alloc, word, 0)? && fails_with_its_reader(alloc, word, 1)?)
-}
-
-// A reader that fails at its second call; as many digits as are read before the end, and one more. Each of the last two
-// is read digit by digit, so this test takes long.
+// A reader that fails at its second call, also if it would then go on: no read is tried again. As many digits as are
+// read before the end, and one more: each of these is read digit by digit, so this test takes long.
 #[test]
 fn failing_readers(rt: HostRuntime) -> Result<(), Fail> {
     for (word, _input, _line) in ANSWERS {
-        assert!(rt; fails_at_once(rt.alloc(), word)?, "{word}");
+        for more in [0, 1] {
+            let digits = Digits {
+                left: 1,
+                after_failure: Some(more),
+            };
+            assert!(rt; ends(rt.alloc(), word, digits, 3, "")?, "{word} {more}");
+        }
     }
-    assert!(rt; ends_behind(rt.alloc(), MOST_DIGITS, 2, "not hex\n")?);
-    assert!(rt; ends_behind(rt.alloc(), MOST_DIGITS + 1, 3, "")?);
+    for (left, status, line) in [(MOST_DIGITS, 2, "not hex\n"), (MOST_DIGITS + 1, 3, "")] {
+        let digits = Digits {
+            left,
+            after_failure: None,
+        };
+        assert!(rt; ends(rt.alloc(), "le", digits, status, line)?, "{left}");
+    }
     Ok(())
 }
 
@@ -175,17 +150,14 @@ fn is_told(alloc: Global, answer: (&str, &str, &str), room: usize) -> Result<boo
     }
 }
 
-// Whether a failure is told where the writer takes nothing, a byte, or the whole line before it.
-fn is_told_at_each(alloc: Global, answer: (&str, &str, &str)) -> Result<bool, Fail> {
-    let len = answer.2.len();
-    Ok(is_told(alloc, answer, 0)? && is_told(alloc, answer, 1)? && is_told(alloc, answer, len)?)
-}
-
+// A writer that takes nothing, a byte, or the whole line before it fails.
 #[test]
 fn failing_writers(rt: HostRuntime) -> Result<(), Fail> {
     for answer in ANSWERS {
-        let (word, _input, _line) = answer;
-        assert!(rt; is_told_at_each(rt.alloc(), answer)?, "{word}");
+        let (word, _input, line) = answer;
+        for room in [0, 1, line.len()] {
+            assert!(rt; is_told(rt.alloc(), answer, room)?, "{word} {room}");
+        }
     }
     Ok(())
 }
@@ -201,9 +173,9 @@ fn line_of_cut(alloc: Global, len: usize) -> Result<String, AllocError> {
 
 // Whether the first `len` of the bytes that these digits spell are rejected as they should be.
 fn is_refused(alloc: Global, digits: &[u8], len: usize) -> Result<bool, Fail> {
-    let mut reader = digits.get(..len.saturating_mul(2)).ok_or("too few digits")?;
+    let reader = digits.get(..len.saturating_mul(2)).ok_or("too few digits")?;
     let line = line_of_cut(alloc, len)?;
-    ends(alloc, "le", &mut reader, 1, line.as_str())
+    ends(alloc, "le", reader, 1, line.as_str())
 }
 
 // `wkb_read_cases` reads the same prefixes as bytes.
@@ -212,46 +184,6 @@ fn cut_nested(rt: HostRuntime) -> Result<(), Fail> {
     let digits = digits_of(nested_in(128)?.as_slice())?;
     for len in 0..1173usize {
         assert!(rt; is_refused(rt.alloc(), digits.as_slice(), len)?, "{len}");
-    }
-    Ok(())
-}
-
-/// What else is said of an input that is cut short, up to the kind.
-const TOO_SHORT: &str = "refused: General error: Invalid buffer length for ";
-
-// Whether a run returns status 1 on the first `len` bytes of these digits, and says that they are too few.
-fn is_short(alloc: Global, digits: &[u8], len: usize) -> Result<bool, Fail> {
-    let mut reader = digits.get(..len.saturating_mul(2)).ok_or("too few digits")?;
-    let (status, out) = outcome(alloc, "le", &mut reader)?;
-    let line = out.as_slice();
-    Ok(
-        status == 1
-            && (line == b"refused: end of input\n".as_slice()
-                || line.starts_with(TOO_SHORT.as_bytes())),
-    )
-}
-
-// Whether each strict prefix is rejected as too short.
-fn are_short(alloc: Global, text: &str) -> Result<bool, Fail> {
-    let input = bytes(text)?;
-    let digits = digits_of(input.as_slice())?;
-    for len in 0..input.len() {
-        if !is_short(alloc, digits.as_slice(), len)? {
-            return Ok(false);
-        }
-    }
-    Ok(true)
-}
-
-#[test]
-fn cut_others(rt: HostRuntime) -> Result<(), Fail> {
-    for text in [
-        POLYGON_HOLE,
-        MULTI_LINE_TWO,
-        MEMBER_WITH_SRID,
-        MIXED_DIMENSIONS,
-    ] {
-        assert!(rt; are_short(rt.alloc(), text)?, "{text}");
     }
     Ok(())
 }

@@ -7,7 +7,7 @@ use std::io::Write;
 use wkb::writer::Sink;
 use wkb_cases::spelled::Spelled;
 
-/// The text of the error of a sink or a writer that is full.
+/// The text of the error of a sink that is full.
 pub const FULL: &str = "the disk is full";
 
 /// What a sink takes before it fails.
@@ -109,20 +109,6 @@ impl Write for LimitedWriter {
         }
         let n = bytes.len().min(self.most);
         self.taken.write(&bytes[..n])
-    }
-
-    fn flush(&mut self) -> io::Result<()> {
-        Ok(())
-    }
-}
-
-/// A writer that is full from the first byte on.
-#[derive(Clone, Copy)]
-pub struct FullWriter;
-
-impl Write for FullWriter {
-    fn write(&mut self, _bytes: &[u8]) -> io::Result<usize> {
-        Err(io::Error::new(io::ErrorKind::PermissionDenied, FULL))
     }
 
     fn flush(&mut self) -> io::Result<()> {

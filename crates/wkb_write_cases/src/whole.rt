@@ -8,12 +8,12 @@ use std::io;
 use std::test::Fail;
 use wkb::Endianness;
 use wkb::error::WkbResult;
-use wkb::geom::{Dimensions, Geometry, GeometryTrait, GeometryType};
+use wkb::geom::{GeometryTrait, GeometryType};
 use wkb::reader::Wkb;
 use wkb::writer::{WriteOptions, to_vec, write_geometry, write_to_slice};
 use wkb_cases::reading::read;
 use wkb_cases::spelled::{Spelled, bytes};
-use wkb_cases::support::{empty_point_of, iso};
+use wkb_cases::support::iso;
 
 /// More bytes than an encoding here has.
 const ROOM: usize = 2048;
@@ -54,31 +54,23 @@ fn fills(wkb: &Wkb<'_>, options: &WriteOptions, encoding: &[u8], room: usize) ->
         && slice.get(len..) == [OLD; ROOM].get(len..)
 }
 
-// Whether a geometry's encoding is this one in a vector, and in slices that it fits just, with room to spare, and not.
+// Whether an input's encoding is this one in a vector, and in slices that it fits just, with room to spare, and not.
 fn is_written(
     alloc: Global,
-    wkb: &Wkb<'_>,
+    input: &Spelled,
     options: &WriteOptions,
     encoding: &Spelled,
 ) -> Result<bool, Fail> {
+    let wkb = read(alloc, input.as_slice())?;
     let expected = encoding.as_slice();
     let len = expected.len();
-    let written = in_vec(alloc, wkb, options)?;
+    let written = in_vec(alloc, &wkb, options)?;
     Ok(
         written.as_slice() == expected
-            && fills(wkb, options, expected, len)
-            && fills(wkb, options, expected, len.saturating_add(3))
-            && fills(wkb, options, expected, len.saturating_sub(1))
-            && fills(wkb, options, expected, 0),
-    )
-}
-
-// Whether an input is written as these bytes in its own order and form, and as those big endian.
-fn is_written_in_both(alloc: Global, little: &Spelled, big: &Spelled) -> Result<bool, Fail> {
-    let wkb = read(alloc, little.as_slice())?;
-    Ok(
-        is_written(alloc, &wkb, &LITTLE, little)?
-            && is_written(alloc, &wkb, &iso(Endianness::BigEndian), big)?,
+            && fills(&wkb, options, expected, len)
+            && fills(&wkb, options, expected, len.saturating_add(3))
+            && fills(&wkb, options, expected, len.saturating_sub(1))
+            && fills(&wkb, options, expected, 0),
     )
 }
 
@@ -91,40 +83,22 @@ fn seventy_of(header: &str, part: &str) -> Result<Spelled, Fail> {
     Ok(spelled)
 }
 
-// An input that is copied at once, the same in the other order, and a line string that is longer than any block.
+// Inputs of each kind in their own order; a point in the other one, and in both a line string longer than any block.
 #[test]
-fn own_order_and_the_other(rt: HostRuntime) -> Result<(), Fail> {
+fn vectors_and_slices(rt: HostRuntime) -> Result<(), Fail> {
+    let alloc = rt.alloc();
+    for (_kind, text) in ENCODINGS {
+        let little = bytes(text)?;
+        assert!(rt; is_written(alloc, &little, &LITTLE, &little)?, "{text}");
+    }
+    let options = iso(Endianness::BigEndian);
     let little = bytes("01 01000000 P")?;
     let big = bytes("00 00000001 3ff0000000000000 4000000000000000")?;
-    assert!(rt; is_written_in_both(rt.alloc(), &little, &big)?);
+    assert!(rt; is_written(alloc, &little, &options, &big)?);
     let little = seventy_of("01 02000000 46000000", "P")?;
     let big = seventy_of("00 00000002 00000046", "3ff0000000000000 4000000000000000")?;
-    assert!(rt; is_written_in_both(rt.alloc(), &little, &big)?);
-    Ok(())
-}
-
-fn kind_is_written(alloc: Global, text: &str) -> Result<bool, Fail> {
-    let encoding = bytes(text)?;
-    let wkb = read(alloc, encoding.as_slice())?;
-    is_written(alloc, &wkb, &LITTLE, &encoding)
-}
-
-#[test]
-fn kinds_in_vectors_and_slices(rt: HostRuntime) -> Result<(), Fail> {
-    for (_kind, text) in ENCODINGS {
-        assert!(rt; kind_is_written(rt.alloc(), text)?, "{text}");
-    }
-    Ok(())
-}
-
-// What can't be written leaves a slice as it was.
-#[test]
-fn refused_whole(rt: HostRuntime) -> Result<(), Fail> {
-    let point = Geometry::Point(empty_point_of(Dimensions::Unknown(5))?);
-    let mut slice = [OLD; ROOM];
-    let answer = size_answer(&in_slice(&point, &LITTLE, &mut slice));
-    assert!(rt; answer == Answer::UnsupportedDimensions(5) && slice == [OLD; ROOM]);
-    assert!(rt; in_vec(rt.alloc(), &point, &LITTLE).is_err());
+    assert!(rt; is_written(alloc, &little, &LITTLE, &little)?);
+    assert!(rt; is_written(alloc, &little, &options, &big)?);
     Ok(())
 }
 
