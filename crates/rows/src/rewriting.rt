@@ -6,7 +6,7 @@ use crate::reading::{show_error, show_same};
 use std::alloc::Global;
 use wkb::Endianness;
 use wkb::error::WkbResult;
-use wkb_cases::reading::{rewritten, rewritten_as};
+use wkb_cases::reading::rewritten_as;
 use wkb_cases::support::iso;
 
 /// Shows what an input was rewritten to.
@@ -20,7 +20,10 @@ pub fn show_encoding(line: &mut Line, answer: WkbResult<Vec<u8>>) {
 /// Shows what an input that was rewritten big endian is rewritten to, little endian.
 pub fn show_there_and_back(line: &mut Line, alloc: Global, input: &[u8]) {
     match rewritten_as(alloc, input, &iso(Endianness::BigEndian)) {
-        Ok(big) => show_encoding(line, rewritten(alloc, big.as_slice())),
+        Ok(big) => {
+            let options = iso(Endianness::LittleEndian);
+            show_encoding(line, rewritten_as(alloc, big.as_slice(), &options))
+        }
         Err(error) => show_error(line, &error),
     }
 }

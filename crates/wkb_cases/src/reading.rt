@@ -1,17 +1,12 @@
 //! What reading the bytes of a case returns.
 
-use crate::support::iso;
 use std::alloc::Global;
 use std::io;
-use std::test::Fail;
 use wkb::Endianness;
 use wkb::canon::{canonical, canonical_with_srid, same};
 use wkb::error::{General, WkbError, WkbResult};
 use wkb::geom::{CoordTrait, GeometryTrait, GeometryType};
-use wkb::reader::{
-    LineString, MultiLineString, MultiPoint, MultiPolygon, Point, Polygon, Wkb, read_wkb,
-    read_wkb_counted,
-};
+use wkb::reader::{Wkb, read_wkb, read_wkb_counted};
 use wkb::writer::WriteOptions;
 
 /// How a reading ended.
@@ -31,41 +26,16 @@ pub enum Outcome {
     Other,
 }
 
-/// The view that `as_type` returns.
-#[derive(Clone, Copy)]
-enum View<'v, 'a> {
-    Point(&'v Point<'a>),
-    LineString(&'v LineString<'a>),
-    Polygon(&'v Polygon<'a>),
-    MultiPoint(&'v MultiPoint<'a>),
-    MultiLineString(&'v MultiLineString<'a>),
-    MultiPolygon(&'v MultiPolygon<'a>),
-    Other,
-}
-
-fn view_of<'v, 'a>(wkb: &'v Wkb<'a>) -> View<'v, 'a> {
-    match wkb.as_type() {
-        GeometryType::Point(point) => View::Point(point),
-        GeometryType::LineString(line_string) => View::LineString(line_string),
-        GeometryType::Polygon(polygon) => View::Polygon(polygon),
-        GeometryType::MultiPoint(multi_point) => View::MultiPoint(multi_point),
-        GeometryType::MultiLineString(multi) => View::MultiLineString(multi),
-        GeometryType::MultiPolygon(multi) => View::MultiPolygon(multi),
-        GeometryType::GeometryCollection(_) => View::Other,
-        GeometryType::Rect(_) | GeometryType::Triangle(_) | GeometryType::Line(_) => View::Other,
-    }
-}
-
 /// The size that the view of the whole geometry returns.
 pub fn view_size(wkb: &Wkb<'_>) -> u64 {
-    match view_of(wkb) {
-        View::Point(point) => point.size(),
-        View::LineString(line_string) => line_string.size(),
-        View::Polygon(polygon) => polygon.size(),
-        View::MultiPoint(multi_point) => multi_point.size(),
-        View::MultiLineString(multi_line_string) => multi_line_string.size(),
-        View::MultiPolygon(multi_polygon) => multi_polygon.size(),
-        View::Other => match wkb.as_geometry_collection() {
+    match wkb.as_type() {
+        GeometryType::Point(view) => view.size(),
+        GeometryType::LineString(view) => view.size(),
+        GeometryType::Polygon(view) => view.size(),
+        GeometryType::MultiPoint(view) => view.size(),
+        GeometryType::MultiLineString(view) => view.size(),
+        GeometryType::MultiPolygon(view) => view.size(),
+        _ => match wkb.as_geometry_collection() {
             Some(collection) => collection.size(),
             None => 0,
         },
@@ -119,11 +89,6 @@ pub fn rewritten_as(alloc: Global, input: &[u8], options: &WriteOptions) -> WkbR
     canonical(alloc, input, options)
 }
 
-/// The canonical form under ISO, little endian.
-pub fn rewritten(alloc: Global, input: &[u8]) -> WkbResult<Vec<u8>> {
-    canonical(alloc, input, &iso(Endianness::LittleEndian))
-}
-
 /// The canonical form under EWKB with the input's own SRID.
 pub fn with_own_srid(alloc: Global, input: &[u8], order: Endianness) -> WkbResult<Vec<u8>> {
     canonical_with_srid(alloc, input, order)
@@ -137,39 +102,4 @@ pub fn are_same(alloc: Global, first: &[u8], second: &[u8]) -> WkbResult<bool> {
 /// The first three words of a coordinate.
 pub fn words<C: CoordTrait>(coord: &C) -> (Option<u64>, Option<u64>, Option<u64>) {
     (coord.nth(0), coord.nth(1), coord.nth(2))
-}
-
-pub fn as_point<'a>(wkb: &Wkb<'a>) -> Result<Point<'a>, Fail> {
-    match view_of(wkb) {
-        View::Point(point) => Ok(*point),
-        _ => Err(Fail::new("not a point")),
-    }
-}
-
-pub fn as_line_string<'a>(wkb: &Wkb<'a>) -> Result<LineString<'a>, Fail> {
-    match view_of(wkb) {
-        View::LineString(line_string) => Ok(*line_string),
-        _ => Err(Fail::new("not a line string")),
-    }
-}
-
-pub fn as_polygon<'v, 'a>(wkb: &'v Wkb<'a>) -> Result<&'v Polygon<'a>, Fail> {
-    match view_of(wkb) {
-        View::Polygon(polygon) => Ok(polygon),
-        _ => Err(Fail::new("not a polygon")),
-    }
-}
-
-pub fn as_multi_line_string<'v, 'a>(wkb: &'v Wkb<'a>) -> Result<&'v MultiLineString<'a>, Fail> {
-    match view_of(wkb) {
-        View::MultiLineString(multi_line_string) => Ok(multi_line_string),
-        _ => Err(Fail::new("not a multi line string")),
-    }
-}
-
-pub fn as_multi_polygon<'v, 'a>(wkb: &'v Wkb<'a>) -> Result<&'v MultiPolygon<'a>, Fail> {
-    match view_of(wkb) {
-        View::MultiPolygon(multi_polygon) => Ok(multi_polygon),
-        _ => Err(Fail::new("not a multi polygon")),
-    }
 }

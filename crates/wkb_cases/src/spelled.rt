@@ -37,10 +37,6 @@ impl Spelled {
         self.len
     }
 
-    fn push(&mut self, byte: u8) -> Result<(), Fail> {
-        self.extend_from_slice(&[byte])
-    }
-
     pub fn extend_from_slice(&mut self, bytes: &[u8]) -> Result<(), Fail> {
         if self.append(bytes) {
             Ok(())
@@ -72,7 +68,9 @@ impl Spelled {
                 digit => match high {
                     None => high = Some(digit),
                     Some(first) => {
-                        self.push(byte_of([first, digit])?)?;
+                        let mut byte = [0];
+                        hex::decode_to_slice([first, digit].as_slice(), &mut byte)?;
+                        self.extend_from_slice(&byte)?;
                         high = None;
                     }
                 },
@@ -99,12 +97,6 @@ impl Write for Spelled {
     }
 }
 
-fn byte_of(digits: [u8; 2]) -> Result<u8, Fail> {
-    let mut byte = [0];
-    hex::decode_to_slice(digits.as_slice(), &mut byte)?;
-    Ok(byte[0])
-}
-
 /// The bytes that a text spells.
 pub fn bytes(text: &str) -> Result<Spelled, Fail> {
     let mut spelled = Spelled::new();
@@ -121,14 +113,4 @@ pub fn digits_of(bytes: &[u8]) -> Result<Spelled, Fail> {
         digits.extend_from_slice(&pair)?;
     }
     Ok(digits)
-}
-
-/// A text's bytes, as often as said, and then another's.
-pub fn repeated(count: usize, text: &str, end: &str) -> Result<Spelled, Fail> {
-    let mut spelled = Spelled::new();
-    for _time in 0..count {
-        spelled.spell(text)?;
-    }
-    spelled.spell(end)?;
-    Ok(spelled)
 }

@@ -1,6 +1,6 @@
 //! The words of the cases' numbers, the options of writing, and plain geometries.
 
-use std::alloc::{AllocError, Global};
+use std::alloc::Global;
 use std::test::Fail;
 use wkb::Endianness;
 use wkb::error::WkbResult;
@@ -91,14 +91,6 @@ pub fn triangle_of<'w>(
     Ok(Triangle::new(first, second, third).ok_or("no triangle")?)
 }
 
-/// A vector of two.
-fn vec_of_two<T: Drop>(alloc: Global, first: T, second: T) -> Result<Vec<T>, AllocError> {
-    let mut items = Vec::with_capacity(alloc, 2)?;
-    items.push(first)?;
-    items.push(second)?;
-    Ok(items)
-}
-
 /// A collection of two.
 pub fn collection_of_two<'w>(
     alloc: Global,
@@ -106,7 +98,10 @@ pub fn collection_of_two<'w>(
     first: Geometry<'w>,
     second: Geometry<'w>,
 ) -> Result<Geometry<'w>, Fail> {
-    Ok(collection_of(dim, vec_of_two(alloc, first, second)?))
+    let mut members = Vec::with_capacity(alloc, 2)?;
+    members.push(first)?;
+    members.push(second)?;
+    Ok(collection_of(dim, members))
 }
 
 pub fn collection_of<'w>(dim: Dimensions, members: Vec<Geometry<'w>>) -> Geometry<'w> {

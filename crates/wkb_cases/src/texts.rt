@@ -1,6 +1,6 @@
 //! The bytes of cases that several tests read, in hex.
 
-use crate::spelled::{Spelled, repeated};
+use crate::spelled::Spelled;
 use std::test::Fail;
 
 /// A polygon with a hole of no coordinates.
@@ -17,13 +17,12 @@ pub const MEMBER_WITH_SRID: &str = "01 05000000 01000000 01 02000020 e6100000 01
 pub const MIXED_DIMENSIONS: &str = "01 07000000 02000000
     00 000003e9 3ff0000000000000 4000000000000000 4008000000000000 01 03000000 00000000";
 
-/// A collection of one member.
-const ONE_MEMBER: &str = "01 07000000 01000000";
-
-/// A point of two zeros.
-const ZEROS: &str = "01 01000000 0000000000000000 0000000000000000";
-
-/// This many collections, one inside the other, around a point.
+/// This many collections, one inside the other, around a point of two zeros.
 pub fn nested_in(levels: usize) -> Result<Spelled, Fail> {
-    repeated(levels, ONE_MEMBER, ZEROS)
+    let mut spelled = Spelled::new();
+    for _level in 0..levels {
+        spelled.spell("01 07000000 01000000")?;
+    }
+    spelled.spell("01 01000000 0000000000000000 0000000000000000")?;
+    Ok(spelled)
 }

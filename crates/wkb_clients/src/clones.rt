@@ -36,12 +36,7 @@ pub fn with_clone(
     ensures { IfOk result (λ written. written.1.items ≡ written.0.items) }
 {
     let clone = geometry.clone()?;
-    let first = match to_vec(alloc, geometry, options) {
-        Ok(bytes) => bytes,
-        Err(e) => return Err(e),
-    };
-    match to_vec(alloc, &clone, options) {
-        Ok(second) => Ok((first, second)),
-        Err(e) => Err(e),
-    }
+    let first = to_vec(alloc, geometry, options)?;
+    let second = to_vec(alloc, &clone, options)?;
+    Ok((first, second))
 }

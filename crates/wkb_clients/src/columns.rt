@@ -30,10 +30,7 @@ pub fn polygon_of_row(
     ensures floor { IsFloor levels.now Xy (i + 1) floor.new }
 {
     match levels.row(Kind::Polygon, Dimensions::Xy, i, floor) {
-        Some(Row::Single(polygon)) => match to_vec(alloc, &polygon, options) {
-            Ok(bytes) => Ok(Some(bytes)),
-            Err(e) => Err(e),
-        },
+        Some(Row::Single(polygon)) => Ok(Some(to_vec(alloc, &polygon, options)?)),
         Some(Row::MultiPolygon(_)) => unreachable!(),
         None => Ok(None),
     }

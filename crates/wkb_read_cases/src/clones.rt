@@ -27,7 +27,8 @@ fn view_cloned<'a>(wkb: &Wkb<'a>) -> Result<&'a [u8], AllocError> {
 
 fn is_cloned(alloc: Global, case: &Case) -> Result<bool, Fail> {
     let wkb = read(alloc, case.input.as_slice())?;
-    let (whole, view) = (wkb.clone(), view_cloned(&wkb));
+    let whole = wkb.clone();
+    let view = view_cloned(&wkb);
     if !is_case(&wkb, case) {
         return Ok(false);
     }

@@ -7,14 +7,17 @@ use wkb::geom::{
     PolygonTrait,
 };
 use wkb::reader::{Coord, LineString, LinearRing};
-use wkb_cases::reading::{as_line_string, as_multi_line_string, as_point, as_polygon, read, words};
+use wkb_cases::reading::{read, words};
 use wkb_cases::spelled::bytes;
 use wkb_cases::support::{ONE, TWO, written};
 use wkb_cases::texts::{MULTI_LINE_TWO, POLYGON_HOLE};
 
 // The coordinate of the point that a point returns as its type.
 fn of_point<'a>(alloc: Global, input: &'a [u8]) -> Result<Coord<'a>, Fail> {
-    let point = as_point(&read(alloc, input)?)?;
+    let wkb = read(alloc, input)?;
+    let GeometryType::Point(point) = wkb.as_type() else {
+        return Err(Fail::new("no point"));
+    };
     match point.as_type() {
         GeometryType::Point(again) => Ok(again.coord().ok_or("an empty point")?),
         _ => Err(Fail::new("a point that is none")),
@@ -22,18 +25,24 @@ fn of_point<'a>(alloc: Global, input: &'a [u8]) -> Result<Coord<'a>, Fail> {
 }
 
 fn of_line_string<'a>(alloc: Global, input: &'a [u8]) -> Result<Coord<'a>, Fail> {
-    first_of(&as_line_string(&read(alloc, input)?)?)
+    match read(alloc, input)?.as_type() {
+        GeometryType::LineString(view) => first_of(view),
+        _ => Err(Fail::new("no line string")),
+    }
 }
 
 fn exterior<'a>(alloc: Global, input: &'a [u8]) -> Result<LinearRing<'a>, Fail> {
-    let wkb = read(alloc, input)?;
-    Ok(as_polygon(&wkb)?.exterior().ok_or("no exterior")?)
+    match read(alloc, input)?.as_type() {
+        GeometryType::Polygon(view) => Ok(view.exterior().ok_or("no exterior")?),
+        _ => Err(Fail::new("no polygon")),
+    }
 }
 
 fn first_line_string<'a>(alloc: Global, input: &'a [u8]) -> Result<LineString<'a>, Fail> {
-    let wkb = read(alloc, input)?;
-    let lines = as_multi_line_string(&wkb)?;
-    Ok(lines.line_string(0).ok_or("no line string")?)
+    match read(alloc, input)?.as_type() {
+        GeometryType::MultiLineString(view) => Ok(view.line_string(0).ok_or("no line string")?),
+        _ => Err(Fail::new("no multi line string")),
+    }
 }
 
 fn first_of<L: LineStringTrait>(line: &L) -> Result<L::CoordType, Fail> {

@@ -116,6 +116,7 @@ fn each_length(rt: HostRuntime) -> Result<(), Fail> {
 // A sink that is full: its error has its kind and its text.
 #[test]
 fn own_error(rt: HostRuntime) -> Result<(), Fail> {
+    let alloc = rt.alloc();
     let point = point_of(Dimensions::Xy, &[ONE, ONE])?;
     let mut sink = LimitedSink::new(Limits {
         puts: 0,
@@ -124,7 +125,7 @@ fn own_error(rt: HostRuntime) -> Result<(), Fail> {
     });
     match put_point(&mut sink, &point, &LITTLE) {
         Err(WkbError::IOError(error)) => {
-            let printed = format!(in rt.alloc(); "{error}")?;
+            let printed = format!(in alloc; "{error}")?;
             assert!(rt;
                 error.kind() == io::ErrorKind::PermissionDenied && printed.as_str() == FULL
             );
