@@ -66,20 +66,14 @@ fn unknown_dimensions(rt: HostRuntime) -> Result<(), Fail> {
     Ok(())
 }
 
-// What is returned for a collection of two empty points, of which the second can't be written.
-fn two_points<S: Sink>(alloc: Global, sink: &mut S) -> Result<Answers, Fail>
-    requires working { S.has_failed sink.old ≡ false }
-{
-    let first = Geometry::Point(empty_point_of(Dimensions::Xy)?);
-    let second = Geometry::Point(empty_point_of(Dimensions::Unknown(5))?);
-    let geometry = collection_of_two(alloc, Dimensions::Xy, first, second)?;
-    Ok(any(sink, &geometry))
-}
-
+// A collection of two empty points, of which the second can't be written.
 #[test]
 fn unknown_dimensions_in_a_collection(rt: HostRuntime) -> Result<(), Fail> {
+    let first = Geometry::Point(empty_point_of(Dimensions::Xy)?);
+    let second = Geometry::Point(empty_point_of(Dimensions::Unknown(5))?);
+    let geometry = collection_of_two(rt.alloc(), Dimensions::Xy, first, second)?;
     let mut sink = VecSink::new(rt.alloc());
-    let Answers { size, written } = two_points(rt.alloc(), &mut sink)?;
+    let Answers { size, written } = any(&mut sink, &geometry);
     let refusal = Answer::UnsupportedDimensions(5);
     assert!(rt; size == refusal && written == refusal);
     assert!(rt; !sink.failed() && sink.into_vec().is_empty());

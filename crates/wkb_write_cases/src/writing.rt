@@ -2,7 +2,7 @@
 
 use crate::answers::Answer;
 use crate::kinds::{Answers, Corner, Kind, LITTLE, RECT, any_size, put_any, put_kind, put_point};
-use std::alloc::{AllocError, Global};
+use std::alloc::Global;
 use std::test::Fail;
 use wkb::Endianness;
 use wkb::geom::{Dimensions, Geometry, LineString, LineStringTrait};
@@ -154,23 +154,19 @@ fn size_and_encoding(alloc: Global, geometry: Geometry<'_>) -> Result<(usize, Ve
     Ok((size, sink.into_vec()))
 }
 
-// The size and the encoding of a line and a rectangle in a collection.
-fn line_and_rect_written(alloc: Global) -> Result<(usize, Vec<u8>), Fail> {
+// Of the case line-triangle the collection.
+#[test]
+fn line_and_rect_in_a_collection(rt: HostRuntime) -> Result<(), Fail> {
+    let alloc = rt.alloc();
     let origin = coord_of(Dimensions::Xy, &[0, 0])?;
     let corner = coord_of(Dimensions::Xy, &[ONE, TWO])?;
     let line = Geometry::Line(line_of(corner, corner)?);
     let rect = Geometry::Rect(rect_of(origin, corner)?);
-    size_and_encoding(alloc, collection_of_two(alloc, Dimensions::Xy, line, rect)?)
-}
-
-// Of the case line-triangle the collection.
-#[test]
-fn line_and_rect_in_a_collection(rt: HostRuntime) -> Result<(), Fail> {
+    let both = collection_of_two(alloc, Dimensions::Xy, line, rect)?;
+    let (size, encoding) = size_and_encoding(alloc, both)?;
     let mut expected = bytes("01 07000000 02000000 01 02000000 02000000 P P")?;
     expected.spell(RECT)?;
-    let (size, encoding) = line_and_rect_written(rt.alloc())?;
-    assert!(rt; size == 143);
-    assert!(rt; encoding.as_slice() == expected.as_slice());
+    assert!(rt; size == 143 && encoding.as_slice() == expected.as_slice());
     Ok(())
 }
 
@@ -193,27 +189,18 @@ fn line_strings_of_words(rt: HostRuntime) -> Result<(), Fail> {
     Ok(())
 }
 
-// A collection of this one member.
-fn collection_around<'w>(alloc: Global, member: Geometry<'w>) -> Result<Geometry<'w>, AllocError> {
-    let mut members = Vec::with_capacity(alloc, 1)?;
-    members.push(member)?;
-    Ok(collection_of(Dimensions::Xy, members))
-}
-
-// The size and the encoding of `levels` collections, one inside the other, around a point.
-fn nested_written(alloc: Global, levels: usize) -> Result<(usize, Vec<u8>), Fail> {
-    let mut geometry = Geometry::Point(point_of(Dimensions::Xy, &[ONE, TWO])?);
-    for _level in 0..levels {
-        geometry = collection_around(alloc, geometry)?;
-    }
-    size_and_encoding(alloc, geometry)
-}
-
 #[test]
 fn written_too_deep_to_read(rt: HostRuntime) -> Result<(), Fail> {
-    let (size, encoding) = nested_written(rt.alloc(), 129)?;
+    let alloc = rt.alloc();
+    let mut geometry = Geometry::Point(point_of(Dimensions::Xy, &[ONE, TWO])?);
+    for _level in 0..129 {
+        let mut members = Vec::with_capacity(alloc, 1)?;
+        members.push(geometry)?;
+        geometry = collection_of(Dimensions::Xy, members);
+    }
+    let (size, encoding) = size_and_encoding(alloc, geometry)?;
     assert!(rt; size == 1182 && encoding.len() == 1182);
-    let answer = answer_to(rt.alloc(), encoding.as_slice());
+    let answer = answer_to(alloc, encoding.as_slice());
     if answer == Outcome::Memory {
         return Err(Fail::new("out of memory"));
     }
