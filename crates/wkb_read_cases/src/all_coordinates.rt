@@ -12,12 +12,12 @@ const ONE: &str = "01 04000000 01000000 01 01000000 P";
 
 const NONE: &str = "01 04000000 00000000";
 
-// Geometries, and their multi points, little endian in ISO codes; an empty text where there is none. They are a point
-// and an empty one; lines of which the second has its words in the other order; a polygon with a hole; two points, of
-// which one is empty, and two polygons, of which one has no ring. A collection of a point with z, and in it one of a
-// line whose first coordinate is NaNs: their words are kept; an empty point in it has no coordinate. Collections
-// without members. A collection of x and y that has a point with z, one whose inner collection has z, though nothing is
-// in it, and one of z that has a point with m.
+/// Geometries, and their multi points, little endian in ISO codes; an empty text where there is none. They are a point
+/// and an empty one; lines of which the second has its words in the other order; a polygon with a hole; two points, of
+/// which one is empty, and two polygons, of which one has no ring. A collection of a point with z, and in it one of a
+/// line whose first coordinate is NaNs: their words are kept; an empty point in it has no coordinate. Collections
+/// without members. A collection of x and y that has a point with z, one whose inner collection has z, though nothing
+/// is in it, and one of z that has a point with m.
 const POINTS: [(&str, &str); 12] = [
     ("01 01000000 P", ONE),
     ("00 00000001 7ff8000000000000 fff8000000000001", NONE),

@@ -34,10 +34,10 @@ const EMPTY_POLYGON: &str =
 /// A point without an envelope, in big endian.
 const BARE_POINT: &str = "47500000 000010e6 01 01000000 P";
 
-// Blobs, and what is returned for them: a point (1 2) in an envelope from (1 2) to (1 2), without one, and in one whose
-// z nothing is said of; an empty point and an empty polygon, in envelopes of NaNs; another letter, another version, a
-// bit of a later use, an envelope of no kind, one that is cut; one from x 2 on, one of a NaN, one of zeros around an
-// empty geometry; EWKB with an SRID; and a geometry without its last byte.
+/// Blobs, and what is returned for them: a point (1 2) in an envelope from (1 2) to (1 2), without one, and in one
+/// whose z nothing is said of; an empty point and an empty polygon, in envelopes of NaNs; another letter, another
+/// version, a bit of a later use, an envelope of no kind, one that is cut; one from x 2 on, one of a NaN, one of zeros
+/// around an empty geometry; EWKB with an SRID; and a geometry without its last byte.
 const BLOBS: [(&str, u8); 15] = [
     (
         "47500003 e6100000 000000000000f03f 000000000000f03f 0000000000000040 0000000000000040
