@@ -17,7 +17,7 @@ use wkb_check::{Piece, Pieces, Summary, size_of_srid};
 use wkb_geom::code::{MULTI_POINT, WkbType};
 use wkb_geom::header::SRID_SIZE;
 use wkb_geom::{Endianness, Form, by_order};
-use wkb_sink::WriteOptions;
+use wkb_sink::{WriteOptions, other};
 
 /// The SRID that is written under a form.
 #[inline(always)]
@@ -73,15 +73,6 @@ pub fn lay_pieces(buf: &[u8], options: WriteOptions, out: &mut [u8]) -> usize
         endianness,
         lay_each_piece(buf, &first, WriteOptions { endianness, form }, out)
     )
-}
-
-/// The order that isn't this one.
-#[inline(always)]
-fn other(order: Endianness) -> Endianness {
-    match order {
-        Endianness::BigEndian => Endianness::LittleEndian,
-        Endianness::LittleEndian => Endianness::BigEndian,
-    }
 }
 
 /// As `lay_pieces`, by the first piece, in an order that is a constant where this is inlined. Plain headers in the

@@ -15,4 +15,4 @@ mod store;
 pub use buffered::{Buffered, Stopped};
 pub use options::WriteOptions;
 pub use sink::{LayWhole, MAX_IN_PLACE, Out, Sink, SliceSink, VecSink};
-pub use store::{store_word, store_words, u32_bytes};
+pub use store::{other, store_word, store_words, u32_bytes};

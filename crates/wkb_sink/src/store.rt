@@ -150,10 +150,9 @@ fn store_each(bytes: &mut [u8], words: &[u64], order: Endianness)
     }
 }
 
-/// The order that isn't this one. Coordinates that the line has as bytes in this one are put as they are
-/// (docs/DECISIONS.md, D7).
+/// The order that isn't this one.
 #[inline(always)]
-fn other(order: Endianness) -> Endianness
+pub fn other(order: Endianness) -> Endianness
     ensures { result ≡ the_other order }
 {
     match order {

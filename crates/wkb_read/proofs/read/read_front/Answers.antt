@@ -14,7 +14,7 @@ use Rattle.wkb_read.proofs.read.read_front.Goals.{in-MultiPolygon+in_ok-multi-in
 
 -- how the body is laid out
 abbrev layout : After-dimension → Layout
-layout c = record { order = c.in-Ok.header.order; dimension = c.dimension.result; has_srid = c.in-Ok.header.has_srid; }
+layout c = record { order = c.in-Ok.header.order; dimension = c.dimension.result; has_srid = c.in-Ok.header.has_srid }
 
 -- the reading of the bytes, by the type in their header
 by_type : (c : After-dimension) (t : WkbType) → c.in-Ok.header.wkb_type ≡ t
