@@ -1,11 +1,10 @@
 -- Views whose bytes are what is written of them.
 use Rattle.wkb_view.proofs.Prelude.{◌≡◌, ℕ, ◌+◌, ◌≤◌, List, [], ◌∷◌, length, map, take, drop, None, Some, false, refl}
-use Rattle.wkb_view.proofs.Prelude.{sym, ap, ◌∙◌, arith, slice_get, option_map, Bool, true, Bor, take_all, length-map}
+use Rattle.wkb_view.proofs.Prelude.{sym, ap, ◌∙◌, arith, slice_get, option_map, Bool, take_all, length-map}
 use Rattle.wkb_view.proofs.Prelude.{slice_get-map, get_or_from_slice_get, geometry_of, fault, in_full_lem}
 use Rattle.wkb_view.proofs.Prelude.{spelled_good, lawful-geometry_of, Endianness, Dimension, number, Layout, Item}
 use Rattle.wkb_view.proofs.Prelude.{Spelling, spellings, as_dimensions, list_of_spellings, BytesSpell}
 use Rattle.wkb_view.proofs.Prelude.{fitted_geometry-same}
-use Rattle.std.specs.Bool.{then_some}
 use Rattle.std.proofs.lemmas.List.{take_more_same}
 use Rattle.std.proofs.lemmas.Option.{slice_get_within}
 use Rattle.wkb_geom.specs.declared.common.Form.{Form}
@@ -18,7 +17,7 @@ use Rattle.wkb_laws.proofs.EncodingBytes.{as_written}
 use Rattle.wkb_view.specs.Prelude.{Spellings, spelled_in, spelling_at, members_spelled}
 use Rattle.wkb_geom.specs.Dimensions.{written_dimension}
 use Rattle.wkb_view.specs.Fits.{fitted_geometry}
-use Rattle.wkb_view.specs.BytesAsWritten.{IsSpelledAsWritten, LendsEncoding}
+use Rattle.wkb_view.specs.BytesAsWritten.{IsSpelledAsWritten}
 use Rattle.wkb_view.proofs.Members.{spelled_each}
 
 -- ---- bytes in memory that are the encoding of a geometry without a fault
@@ -39,12 +38,6 @@ module _ (order : Endianness) (form : Form) (has_flags : Bool) (form_is : form �
   -- what is spelled is lawful, so fitting leaves it as it is
   pub is_encoded_fitted : IsEncoded i.encoding order form (fitted_geometry (geometry_of i.value))
   is_encoded_fitted = grind (arith, in_full_lem, spelled_good, fitted_geometry-same, lawful-geometry_of, is_encoded)
-
--- what is lent where a test holds
-pub exposes : {order : Endianness} {form : Form} {g : Geometry} (test : Bool) (buf : Bor (List ℕ))
-    → (test ≡ true → IsEncoded buf.now order form g)
-    → LendsEncoding order form g (then_some test buf)
-exposes test buf h = grind arith
 
 -- ---- the spelling that is written: of the header, and of the members
 

@@ -3,7 +3,9 @@ use Rattle.wkb_view.proofs.Prelude.{◌≡◌, ℕ, zero, suc, ◌+◌, ◌-◌,
 use Rattle.wkb_view.proofs.Prelude.{sym, ap, ◌∙◌, get_or, arith, Bool, rules, slice_get, drop-drop, drop-take}
 use Rattle.wkb_view.proofs.Prelude.{get_or_from_slice_get, Endianness, Dimension, number, width, number-take}
 use Rattle.wkb_view.proofs.Prelude.{length-items, items, coordinate, coordinates, body_start, ring_in, Layout, is_nan}
-use Rattle.wkb_view.proofs.Prelude.{all_nan, point_of, point_item, srid_in}
+use Rattle.wkb_view.proofs.Prelude.{all_nan, point_of, point_item, srid_in, take_all, length-take, length-drop}
+use Rattle.wkb_view.proofs.Prelude.{AreBytes-take, AreBytes-drop}
+use Rattle.wkb_view.specs.Lawful.{number-lt}
 use Rattle.std.specs.Prelude.{is_none}
 use Rattle.std.proofs.Math.Nat.{mul-le-mul_right}
 use Rattle.wkb_geom.specs.Spellings.{header}
@@ -27,20 +29,20 @@ pub word_is : (e : Endianness) (d : Dimension) (n w : ℕ) (xs : List ℕ) (b : 
 word_is e d n w xs b lt w-is b-is = ap (λ (v : ℕ). is_nan v) (word_at e (width d) n xs lt ∙ sym w-is) ∙ sym b-is
 
 -- words read no byte past their end
-pub words-take : (e : Endianness) (n m : ℕ) (xs : List ℕ) → 8 * n ≤ m
+pub words_take : (e : Endianness) (n m : ℕ) (xs : List ℕ) → 8 * n ≤ m
     → items 8 (number e 8) n (take m xs) ≡ items 8 (number e 8) n xs
-words-take e zero m xs h = refl
-words-take e (suc n) m xs h =
+words_take e zero m xs h = refl
+words_take e (suc n) m xs h =
     let k : m ≡ 8 + (m - 8) = omega arith in
     let inner : drop 8 (take m xs) ≡ take (m - 8) (drop 8 xs) =
     ap (λ (j : ℕ). drop 8 (take j xs)) k ∙ drop-take 8 (m - 8) xs in
-    rw (number-take e 8 m xs (omega arith), inner, words-take e n (m - 8) (drop 8 xs) (omega arith)) refl
+    rw (number-take e 8 m xs (omega arith), inner, words_take e n (m - 8) (drop 8 xs) (omega arith)) refl
 
 -- the coordinate between two offsets
 pub coordinate_between : (e : Endianness) (d : Dimension) (n i start : ℕ) (encoding : List ℕ) → i < n
     → Some (coordinate e d (take (8 * width d) (drop (start + 8 * width d * i) encoding)))
     ≡ slice_get (coordinates e d n (drop start encoding)) i
-coordinate_between e d n i start encoding h = grind (arith, drop-drop, items_at, words-take)
+coordinate_between e d n i start encoding h = grind (arith, drop-drop, items_at, words_take)
 
 -- a coordinate after a header and a count
 pub coordinate_behind : (d : Dimension) (start i : ℕ) (encoding : List ℕ)
@@ -55,8 +57,8 @@ ring_counted e d encoding = length-items (8 * width d) (coordinate e d) (number 
 pub width-within : (d : Dimension) → (2 ≤ width d) × (width d ≤ 4)
 width-within d = grind arith
 
-pub start-within : (srid : Bool) → body_start srid ≤ 9
-start-within srid = grind arith
+pub start_within : (srid : Bool) → body_start srid ≤ 9
+start_within srid = grind arith
 
 pub few_words : (d : Dimension) (i : ℕ) → 8 * width d * i ≤ 32 * i
 few_words d i = mul-le-mul_right i (omega (arith, (width-within d).1))
@@ -67,6 +69,15 @@ few_bytes d i = mul-le-mul_right i (omega (arith, (width-within d).1))
 -- an item below the count ends where all do, or before
 pub next_within : (size i n : ℕ) → i < n → size * i + size ≤ size * n
 next_within size i n lt = grind arith
+
+-- offsets, slices of bytes, numbers, and items of one size
+pub ruleset offset_laws = (start_within, few_bytes)
+
+pub ruleset slice_laws = (take_all, length-take, length-drop, drop-drop, AreBytes-take, AreBytes-drop)
+
+pub ruleset number_laws = number-lt
+
+pub ruleset item_laws = (ring_counted, next_within, slice_laws)
 
 -- ---- points that are empty, and those that are not
 

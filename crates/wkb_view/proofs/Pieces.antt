@@ -62,6 +62,10 @@ pub piece_seen : {A : Type 0} (seen : List ℕ → A) (start : ℕ) (ends encodi
     → option_map seen o ≡ slice_get (map seen (pieces start ends encoding)) i
 piece_seen seen start ends encoding i o e = grind (arith, slice_get-map)
 
+pub ruleset part_laws = (part_is, pieces_past)
+
+pub ruleset piece_laws = (in_order, piece_form, piece_seen)
+
 -- ---- one piece more
 
 -- where the last of the parts ends

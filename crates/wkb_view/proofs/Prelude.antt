@@ -35,4 +35,3 @@ unfoldable pub use Rattle.wkb_view.specs.Prelude.{number, repeated, head_at}
 pub use Rattle.wkb_view.specs.Views.{point_seen, line_string_seen, multi_point_seen}
 pub use Rattle.wkb_view.specs.declared.counts.Counts.{Counts}
 pub use Rattle.wkb_view.specs.declared.line_string.LineString.{LineString}
-pub use Rattle.wkb_view.specs.declared.linear_ring.LinearRing.{LinearRing}

@@ -9,6 +9,7 @@ use Rattle.wkb_laws.proofs.Heads.{IsRight}
 use Rattle.wkb_laws.proofs.Sound.{geometry_says}
 use Rattle.wkb_view.specs.Prelude.{Head, point_end, line_string_end, point_at, line_string_at, line_string_item}
 use Rattle.wkb_view.specs.Headers.{HasHead}
+use Rattle.wkb_view.proofs.Items.{slice_laws}
 use Rattle.wkb_view.proofs.Leaves.{number_within}
 use Rattle.wkb_geom.specs.declared.code.WkbType.TheVariants as kinds
 unfoldable use Rattle.wkb_geom.specs.Reading.{by_type, geometry_at}
@@ -50,3 +51,5 @@ line_string_is_encoding l bytes buf n end head n-is end-is long buf-is read =
           rw buf-is (body_spelled bytes
           (record { order = l.order; wkb_type = kinds.LineString l.dimension; has_srid = l.has_srid }) _ _ head read);
     }
+
+pub ruleset line_string_laws = (number_within, line_string_is_encoding, slice_laws)

@@ -91,6 +91,7 @@ impl CoordTrait for Coord<'_> {
 
     ghost lawful = { λ c. coordinate_lawful c.order c.dimension c.bytes.now c.in_range };
 
+    #[tactic(auto, using(crate::proofs::Items::items_at))]
     #[inline]
     fn nth(&self, n: usize) -> Option<u64> {
         if n < self.dimension.width() {

@@ -99,6 +99,7 @@ impl<'a> LineString<'a> {
     }
 
     /// Its count and its coordinates, as a ring has them.
+    #[tactic(auto, using(crate::proofs::Items::slice_laws))]
     #[inline]
     fn as_ring(&self) -> LinearRing<'a>
         ensures encoding { ring_encoding result ≡ line_string_ring_bytes self.now }
@@ -114,6 +115,7 @@ impl<'a> LineString<'a> {
     }
 
     /// The line string after this header, and the bytes after it.
+    #[tactic(auto, using(crate::proofs::Spells::line_string_laws, crate::proofs::Items::slice_laws))]
     #[inline]
     pub fn read(layout: Layout, bytes: &'a [u8]) -> Result<(LineString<'a>, &'a [u8]), Cause>
         requires head { HasHead (λ d. kinds.LineString d) layout bytes.now }
@@ -131,6 +133,7 @@ impl<'a> LineString<'a> {
     }
 
     /// The line string of these bytes, a member of a multi line string.
+    #[tactic(auto, using(crate::proofs::Items::slice_laws))]
     #[inline]
     pub(crate) fn of_encoding(layout: Layout, buf: &'a [u8]) -> LineString<'a>
         requires { IsEncoding LINE_STRING layout buf.now }
@@ -180,6 +183,7 @@ impl Dimensioned for LineString<'_> {
     }
 }
 
+#[tactic(auto, using(crate::proofs::Items::coordinate_behind))]
 impl<'a> LineStringTrait for LineString<'a> {
     ghost use Rattle.std.specs.Prelude.{◌≡◌, length, IfSome, ◌<◌, Some, slice_get};
     ghost use Rattle.std.specs.Prelude.{IsSome, ◌↔◌};
@@ -203,6 +207,7 @@ impl<'a> LineStringTrait for LineString<'a> {
         self.count as usize
     }
 
+    #[tactic(auto, using(crate::proofs::CoordsAsWritten::ring_stands, crate::proofs::Items::slice_laws))]
     #[inline]
     fn coords_as_written(&self, order: Endianness) -> Option<&[u8]>
         ensures bytes { LendsCoordinates order (seen_coordinates self.now) result }

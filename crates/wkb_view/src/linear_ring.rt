@@ -33,6 +33,7 @@ impl<'a> LinearRing<'a> {
     ghost use Rattle.wkb_view.specs.Pieces.{IsRingPart};
 
     /// The ring of these bytes.
+    #[tactic(auto, using(crate::proofs::Items::number_laws))]
     #[inline]
     pub(crate) fn of_encoding(
         order: Endianness,
@@ -81,6 +82,7 @@ impl<'a> LinearRing<'a> {
     }
 
     /// The bytes of its coordinates, after the count.
+    #[tactic(auto, using(wkb_laws::proofs::Bodies::coordinates_are))]
     #[inline]
     pub fn coords_slice(&self) -> &'a [u8]
         ensures encoding { result.now ≡ drop COUNT_SIZE (ring_encoding self.now) }
@@ -126,6 +128,7 @@ impl Parts for RingParts {
 
     const MIN_SIZE: usize = COUNT_SIZE;
 
+    #[tactic(auto, using(crate::proofs::Leaves::ring_passed, crate::proofs::Items::slice_laws))]
     #[inline]
     fn pass<'a>(layout: Layout, bytes: &'a [u8]) -> Result<&'a [u8], Cause> {
         let (_, end) = layout.end_of_ring(bytes)?;
@@ -167,6 +170,7 @@ impl<'a> LineStringTrait for LinearRing<'a> {
         self.count as usize
     }
 
+    #[tactic(auto, using(crate::proofs::CoordsAsWritten::ring_stands))]
     #[inline]
     fn coords_as_written(&self, order: Endianness) -> Option<&[u8]>
         ensures bytes { LendsCoordinates order (ring_seen self.now) result }
@@ -193,7 +197,7 @@ impl<'a> LineStringTrait for LinearRing<'a> {
         }
     }
 
-    #[tactic(auto, using(crate::proofs::Items::ring_counted, crate::proofs::Items::next_within))]
+    #[tactic(auto, using(crate::proofs::Items::item_laws))]
     #[inline]
     fn coord_at(&self, i: usize) -> Coord<'a>
         requires { i < length (ring_seen self.now) }

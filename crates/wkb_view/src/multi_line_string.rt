@@ -94,6 +94,7 @@ impl<'a> MultiLineString<'a> {
     }
 
     /// The line string at an index, read again from the bytes between two ends, in its own order.
+    #[tactic(auto, using(crate::proofs::Pieces::in_order, crate::proofs::Members::member_there))]
     pub(crate) fn member(&self, i: usize) -> Option<LineString<'a>>
         ensures value { IsItemAt seen_coordinates result self.now.parts i }
         ensures dimension { IfSome result (λ l. line_string_dimension l ≡ self.now.dimension) }

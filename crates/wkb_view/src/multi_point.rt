@@ -54,7 +54,7 @@ impl<'a> MultiPoint<'a> {
     }
 
     /// The offset at which a point begins in its bytes.
-    #[tactic(auto, using(crate::proofs::Members::points_counted, crate::proofs::Items::few_bytes))]
+    #[tactic(auto, using(crate::proofs::Members::points_counted, crate::proofs::Items::offset_laws))]
     #[inline]
     pub fn point_offset(&self, i: u64) -> u64
         requires { i ≤ length (seen_points self.now) }

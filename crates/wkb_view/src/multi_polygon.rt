@@ -87,7 +87,7 @@ impl<'a> MultiPolygon<'a> {
     }
 
     /// The multi polygon after this header, and the bytes after it.
-    #[tactic(auto, unfolding(wkb_geom::specs::Reading::multi_polygon_at))]
+    #[tactic(auto, using(crate::proofs::Lists::polygons_within, crate::proofs::Items::slice_laws))]
     #[inline(always)]
     pub fn read(
         alloc: Global,

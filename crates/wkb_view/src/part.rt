@@ -26,6 +26,7 @@ fn start_of_part(first: usize, ends: &[usize], i: usize) -> usize
 }
 
 /// The bytes of the part at an index, of parts that end at these offsets; the first of them begins at `first`.
+#[tactic(auto, using(crate::proofs::Pieces::part_laws, crate::proofs::Items::slice_laws))]
 #[inline]
 pub(crate) fn part_at<'a>(
     bytes: &'a [u8],

@@ -95,6 +95,7 @@ impl<'a> Point<'a> {
     }
 
     /// Its words, also where all are NaNs.
+    #[tactic(auto, using(crate::proofs::Items::words_take, crate::proofs::Items::slice_laws))]
     #[inline]
     pub(crate) fn words(&self) -> Coord<'a>
         ensures words { words_seen result ≡ coordinate_in self.now }
@@ -114,6 +115,7 @@ impl<'a> Point<'a> {
     }
 
     /// The point after this header, and the bytes after it.
+    #[tactic(auto, using(crate::proofs::Spells::point_encoding, crate::proofs::Items::slice_laws))]
     #[inline]
     pub fn read(layout: Layout, bytes: &'a [u8]) -> Result<(Point<'a>, &'a [u8]), Cause>
         requires head { HasHead (λ d. kinds.Point d) layout bytes.now }

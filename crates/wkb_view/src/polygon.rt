@@ -85,6 +85,7 @@ impl<'a> Polygon<'a> {
     }
 
     /// The number of coordinates of all rings, computed from the number of bytes, without visiting the rings.
+    #[tactic(auto, using(crate::proofs::CoordCounts::view_counted, crate::proofs::CoordCounts::coordinates_counted))]
     pub fn num_coords(&self) -> usize
         ensures { result ≡ sum_by length self.now.parts }
     {
@@ -103,6 +104,7 @@ impl<'a> Polygon<'a> {
     }
 
     /// The ring at an index, read again from the bytes between two ends.
+    #[tactic(auto, using(crate::proofs::Pieces::piece_laws))]
     pub(crate) fn ring(&self, i: usize) -> Option<LinearRing<'a>>
         ensures value { IsItemAt ring_seen result self.now.parts i }
         ensures dimension { IfSome result (λ r. ring_dimension r ≡ self.now.dimension) }

@@ -1,11 +1,6 @@
-use Rattle.wkb_view.proofs.Prelude.{◌<◌, sym, length-take, length-drop, arith, AreBytes-take}
-use Rattle.wkb_view.proofs.Prelude.{AreBytes-drop}
-use Rattle.wkb_view.proofs.Items.{ring_counted, next_within, coordinate_between}
+use Rattle.wkb_view.proofs.Prelude.{◌<◌, sym, arith}
+use Rattle.wkb_view.proofs.Items.{ring_counted, coordinate_between}
 use Rattle.wkb_view.proofs.linear_ring.LinearRingLineStringTrait.coord_at.Goals as goal
-
-pub invariant_of-result : goal.invariant_of-result
-invariant_of-result c =
-    grind (arith, ring_counted, next_within, length-take, length-drop, AreBytes-take, AreBytes-drop)
 
 pub returns-clause-value : goal.returns-clause-value
 returns-clause-value c =

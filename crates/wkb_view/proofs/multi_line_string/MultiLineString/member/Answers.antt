@@ -1,15 +1,8 @@
 use Rattle.wkb_view.proofs.Prelude.{◌∙◌, Some, ap, arith, Item, member_dimension}
 use Rattle.wkb_view.specs.Prelude.{line_string_of}
 use Rattle.wkb_view.proofs.Leaves.{member_seen}
-use Rattle.wkb_view.proofs.Members.{member_encoding, member_there, members_seen, spelling_seen}
-use Rattle.wkb_view.proofs.Pieces.{in_order}
+use Rattle.wkb_view.proofs.Members.{member_encoding, members_seen, spelling_seen}
 use Rattle.wkb_view.proofs.multi_line_string.MultiLineString.member.Goals as goal
-
-pub part_at-requires : goal.part_at-requires
-part_at-requires c = grind (arith, in_order)
-
-pub of_known_member-layout-requires : goal.of_known_member-layout-requires
-of_known_member-layout-requires c = grind (arith, member_there)
 
 pub of_encoding-requires : goal.of_encoding-requires
 of_encoding-requires c =

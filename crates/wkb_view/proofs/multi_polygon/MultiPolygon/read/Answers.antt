@@ -36,9 +36,6 @@ invariant_of-multi_polygon c =
       rw c.into_vec.ensures (body_spelled bytes _ _ _ c.requires.head read.0),
     )
 
-pub read_members-requires-clause-room : goal.read_members-requires-clause-room
-read_members-requires-clause-room c = grind arith
-
 pub read_members-requires-clause-fits : goal.read_members-requires-clause-fits
 read_members-requires-clause-fits c =
     list_fits (here (goal.at.read_members-requires-clause-fits c).In_ok-count) c.requires.fits
@@ -50,12 +47,6 @@ returns-in_err-members c =
     let stops = c.in_err-members.ensures in
     rw (p.1, p.2) (grind (arith, list_stops))
 
-pub counted_list-requires-clause-fits : goal.counted_list-requires-clause-fits
-counted_list-requires-clause-fits c = grind (arith, polygons_within)
-
 pub returns-in_err-count : goal.returns-in_err-count
 unfolding multi_polygon_at
 returns-in_err-count c = grind (arith, err_from_is_err_and, list_refused, parts_length, polygons_within)
-
-pub slice_bounds-multi_polygon-length : goal.slice_bounds-multi_polygon-length
-slice_bounds-multi_polygon-length c = grind (arith, length-take)

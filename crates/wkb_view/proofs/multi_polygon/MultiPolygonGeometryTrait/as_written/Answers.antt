@@ -1,6 +1,6 @@
-use Rattle.wkb_view.proofs.Prelude.{multi_polygon_seen}
+use Rattle.wkb_view.proofs.Prelude.{arith, multi_polygon_seen}
 use Rattle.wkb_view.specs.Members.{polygons_laid}
-use Rattle.wkb_view.proofs.Encodings.{is_encoded_fitted, exposes}
+use Rattle.wkb_view.proofs.Encodings.{is_encoded_fitted}
 use Rattle.wkb_view.proofs.multi_polygon.MultiPolygonGeometryTrait.as_written.Goals as goal
 
 pub returns : goal.returns
@@ -9,5 +9,4 @@ returns c =
     let seen = multi_polygon_seen (polygons_laid p.layout p.members.items p.buf.now) in
     let whole = is_encoded_fitted c.args.order c.args.form _ c.in_ok-has_flags.ensures seen c.self.invariant.2 in
     let spelled = rw (← c.self.view_is) at c.is_as_written.ensures in
-    let lent = exposes c.is_as_written.result p.buf (λ test. whole (spelled test)) in
-    rw (← c.self.view_is, c.then_some.ensures) (record { encoding = lent.encoding; writable = lent.writable })
+    rw (← c.self.view_is) (grind arith)

@@ -1,5 +1,5 @@
-use Rattle.wkb_view.proofs.Prelude.{polygon_seen, polygon_laid}
-use Rattle.wkb_view.proofs.Encodings.{is_encoded_fitted, exposes}
+use Rattle.wkb_view.proofs.Prelude.{arith, polygon_seen, polygon_laid}
+use Rattle.wkb_view.proofs.Encodings.{is_encoded_fitted}
 use Rattle.wkb_view.proofs.polygon.PolygonGeometryTrait.as_written.Goals as goal
 
 pub returns : goal.returns
@@ -8,5 +8,4 @@ returns c =
     let seen = polygon_seen (polygon_laid p.layout p.ends.items p.buf.now) in
     let whole = is_encoded_fitted c.args.order c.args.form _ c.in_ok-has_flags.ensures seen c.self.invariant.2 in
     let spelled = rw (← c.self.view_is) at c.is_as_written.ensures in
-    let lent = exposes c.is_as_written.result p.buf (λ test. whole (spelled test)) in
-    rw (← c.self.view_is, c.then_some.ensures) (record { encoding = lent.encoding; writable = lent.writable })
+    rw (← c.self.view_is) (grind arith)
