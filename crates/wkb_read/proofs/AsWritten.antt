@@ -1,11 +1,12 @@
 -- A collection that is spelled as it is written.
 use Rattle.wkb_read.proofs.Prelude.{◌≡◌, ℕ, List, [], ◌∷◌, Bool, refl, AllByRecursion, Layout, Endianness, Item}
-use Rattle.wkb_read.proofs.Prelude.{spellings, values, geometries_of, list_item, collection_with, arith}
+use Rattle.wkb_read.proofs.Prelude.{spellings, values, geometries_of, list_item, collection_with, arith, take_all}
 use Rattle.wkb_read.specs.Prelude.{IsSpelledAsWritten}
 use Rattle.wkb_geom.specs.Encodings.{inner, form_with_flags}
 use Rattle.wkb_geom.specs.Numbers.{AreBytes}
 use Rattle.wkb_laws.specs.Written.{written_each}
 use Rattle.wkb_view.proofs.Encodings.{HasWrittenHeader, header_spelled, as_member}
+use Rattle.wkb_view.proofs.Members.{all_more}
 
 -- members that are spelled as they are written
 members_written : (order : Endianness) (has_flags : Bool) (members : List Item)
@@ -22,3 +23,5 @@ pub collection_written : (order : Endianness) (has_flags : Bool) (l : Layout) (m
     → IsSpelledAsWritten order has_flags (list_item l collection_with members encoding)
 collection_written order has_flags l members encoding range h all =
     grind (arith, header_spelled, spellings, members_written)
+
+pub ruleset written_laws = (take_all, all_more, collection_written)

@@ -62,3 +62,5 @@ module _ (w : Item) (spells : BytesSpell w) (none : HoldsNoSrid w) where
 
     pub writable : fault (geometry_seen w) ≡ None
     writable = rw means good.1
+
+pub ruleset size_laws = (srid_within, size_known, writable)

@@ -1,13 +1,14 @@
 -- Open collections, as a part of one is finished.
 use Rattle.wkb_read.proofs.Prelude.{◌≡◌, ℕ, suc, ◌+◌, ◌≤◌, List, [], ◌∷◌, ◌++◌, length, Ok, sym, ap, ◌∙◌}
 use Rattle.wkb_read.proofs.Prelude.{append_assoc, length-append, arith, Bor, Item, Cost, one_turn, Reading, costs}
-use Rattle.wkb_read.proofs.Prelude.{and_then, consumed, Layout, BytesSpell, Counts, AtMost, Wkb, Open, Whole}
+use Rattle.wkb_read.proofs.Prelude.{and_then, consumed, Layout, BytesSpell, Counts, AtMost, Wkb, Open, Whole, nest}
 use Rattle.wkb_read.proofs.Prelude.{IsCollectionIn, closing, list_item, collection_with, geometry_inside, after_member}
 use Rattle.wkb_read.proofs.Prelude.{in_collection, outward, cost_of, IsOpen, AreOpen, IsFinished, BeginsAs, ◌<◌}
-use Rattle.wkb_read.proofs.Prelude.{max_nesting, nest, nest_each, values, next_turn, entries}
+use Rattle.wkb_read.proofs.Prelude.{max_nesting, nest_each, values, next_turn, entries, length-reverse, reverse-append}
 use Rattle.std.specs.Prelude.{max}
 use Rattle.wkb_view.proofs.Algebra.{and_then-costs, and_then-assoc, and_then-same, done_then, repeated_more}
-use Rattle.wkb_view.proofs.Algebra.{repeated_none, turn_begins}
+use Rattle.wkb_view.proofs.Algebra.{repeated_none, turn_begins, part_counted, part_stops, all_read}
+use Rattle.std.proofs.lemmas.Result.{err_from_is_err_and}
 use Rattle.wkb_read.proofs.Places.{Closed, closed, one_more, part_read}
 use Rattle.wkb_view.specs.Entries.{capacity}
 use Rattle.wkb_view.proofs.Members.{all_more}
@@ -114,3 +115,8 @@ completes o os m members rest spent whole none is f =
     ap (λ (r : Reading Item). and_then r (outward os)) last
     ∙ done_then (list_item o.layout collection_with members encoding) rest (outward os) in
     grind arith
+
+-- what the loop over a stack comes to
+pub ruleset list_laws = (length-append, length-reverse, reverse-append)
+
+pub ruleset loop_laws = (list_laws, part_counted, part_stops, all_read, at_most_turn, finishes, err_from_is_err_and)

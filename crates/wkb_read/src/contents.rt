@@ -118,6 +118,7 @@ impl Wkb<'_> {
     }
 
     /// The number of parts: itself, and its rings and members at every level. They are fewer than its bytes.
+    #[tactic(auto, using(crate::proofs::Sums::bytes_counted))]
     pub fn num_parts(&self) -> usize
         ensures { result ≡ 1 + member_count self.now.value }
     {

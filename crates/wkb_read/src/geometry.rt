@@ -154,6 +154,7 @@ impl<'a> GeometryCollection<'a> {
     ///
     /// The last call looks at the last member. The compiler makes it a jump, so that the stack stays flat along a chain
     /// of collections.
+    #[tactic(auto, using(crate::proofs::AsWritten::written_laws))]
     #[cycle(spellings)]
     fn is_as_written(&self, order: Endianness, has_flags: bool) -> bool
         ensures { result ≡ true → IsSpelledAsWritten order has_flags (collection_seen self.now) }
@@ -432,6 +433,7 @@ impl<'a> GeometryTrait for Wkb<'a> {
     ///
     /// None if a member has an SRID, and for multi line strings, multi polygons and collections of these: reading
     /// doesn't keep which of their parts have an SRID.
+    #[tactic(auto, using(crate::proofs::NoSrids::size_laws))]
     #[inline]
     fn byte_size(&self) -> Option<usize>
         ensures size { IfSome result (λ n. n ≡ byte_size (geometry_seen self.now)) }

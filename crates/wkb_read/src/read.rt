@@ -57,6 +57,7 @@ pub fn read_wkb_counted<'a>(alloc: Global, buf: &'a [u8]) -> (WkbResult<Wkb<'a>>
 }
 
 /// Reads as `read_wkb` does, and counts from zero what it costs.
+#[tactic(auto, using(wkb_laws::proofs::GeometryAt::reading_is_bounded_lem))]
 #[inline(always)]
 fn read_and_count<'a>(alloc: Global, buf: &'a [u8], counts: &mut Counts) -> WkbResult<Wkb<'a>>
     ensures reads { Reads buf.now result }

@@ -57,6 +57,7 @@ impl Wkb<'_> {
     /// Whether a member may have an SRID. What the lines and polygons of multi geometries have isn't kept.
     ///
     /// Most geometries are of the kinds that are looked for first, by one comparison.
+    #[tactic(auto, using(crate::proofs::NoSrids::none_in_members))]
     #[inline(always)]
     pub(crate) fn may_hold_srids(&self) -> bool
         ensures kind { tells_size self.now.value ≡ true → result ≡ false }

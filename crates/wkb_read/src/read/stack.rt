@@ -144,6 +144,7 @@ pub(crate) fn close_finished<'a>(
 }
 
 /// Reads the members of the outermost collection, and those of the collections in it, by a loop over a stack.
+#[tactic(auto, using(crate::proofs::Stack::loop_laws))]
 pub(crate) fn read_collection<'a>(
     alloc: Global,
     outermost: Open<'a>,

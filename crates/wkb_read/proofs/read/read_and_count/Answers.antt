@@ -1,12 +1,8 @@
 use Rattle.wkb_read.proofs.Prelude.{Ok, arith, Endianness, LittleEndian, seen_as_it_is}
-use Rattle.wkb_laws.proofs.GeometryAt.{reading_is_bounded_lem}
 use Rattle.wkb_laws.proofs.Lengths.{front_is_writable_lem}
 use Rattle.wkb_read.proofs.NoMemory.{without_memory}
 use Rattle.wkb_read.proofs.Results.{count_bounded, is_read, refused_as, refused_at}
 use Rattle.wkb_read.proofs.read.read_and_count.Goals as goal
-
-pub read_geometry-requires : goal.read_geometry-requires
-read_geometry-requires c = grind (arith, reading_is_bounded_lem)
 
 pub returns-in-Ok-clause-reads : goal.returns-in-Ok-clause-reads
 returns-in-Ok-clause-reads c =

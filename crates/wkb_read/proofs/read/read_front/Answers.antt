@@ -1,6 +1,5 @@
-use Rattle.wkb_read.specs.Prelude.read_errors
-use Rattle.wkb_read.proofs.Prelude.{◌≡◌, ◌-◌, ◌∙◌, ap, at_no_cost, refl, sym, subst, rules, Reading, Item, WkbType}
-use Rattle.wkb_read.proofs.Prelude.{CanCount, BeginsAs, geometry_inside, body_at, collection_within, max_nesting, Layout}
+use Rattle.wkb_read.proofs.Prelude.{◌≡◌, ◌-◌, ◌∙◌, at_no_cost, refl, sym, subst, rules, Reading, Item, WkbType, Layout}
+use Rattle.wkb_read.proofs.Prelude.{CanCount, BeginsAs, geometry_inside, body_at, collection_within, max_nesting, ap}
 use Rattle.wkb_read.proofs.Bodies.{by_header, hands_on, stops_without_header, whole_at_no_cost}
 use Rattle.wkb_view.proofs.Lists.{refused_stops}
 use Rattle.wkb_laws.proofs.GeometryAt.{line_string_free}
@@ -20,9 +19,7 @@ layout c = record { order = c.in-Ok.header.order; dimension = c.dimension.result
 by_type : (c : After-dimension) (t : WkbType) → c.in-Ok.header.wkb_type ≡ t
     → geometry_inside c.args.depth c.args.bytes.now
     ≡ body_at (collection_within (max_nesting - c.args.depth)) t (layout c) c.args.bytes.now
-by_type c t is =
-    by_header c.args.depth c.args.bytes.now c.in-Ok.header t (layout c) c.in-Ok.ensures is
-    (rw (c.dimension.ensures) refl)
+by_type c t is = by_header _ _ _ _ _ c.in-Ok.ensures is (rw (c.dimension.ensures) refl)
 
 -- the counters have room for what the bytes of this type cost
 fits : (c : After-dimension) (t : WkbType) → c.in-Ok.header.wkb_type ≡ t
@@ -31,22 +28,19 @@ fits : (c : After-dimension) (t : WkbType) → c.in-Ok.header.wkb_type ≡ t
 fits c t is = subst (λ (r : Reading Item). CanCount c.args.counts.now r.0) (by_type c t is) c.requires.fits
 
 pub returns-in-Err-clause-begins : goal.returns-in-Err-clause-begins
-returns-in-Err-clause-begins c =
-    stops_without_header c.in-Err.cause c.args.depth c.args.bytes.now c.args.counts.now c.in-Err.ensures
+returns-in-Err-clause-begins c = stops_without_header _ _ _ _ c.in-Err.ensures
 
 pub returns-in_err-point-in-Point-clause-begins : goal.returns-in_err-point-in-Point-clause-begins
 returns-in_err-point-in-Point-clause-begins c =
     let p = (goal.at.returns-in_err-point-in-Point-clause-begins c).After-dimension in
-    hands_on c.args.depth c.args.bytes.now _ (read_errors.Cause c.in_err-point-in-Point.field-0.0) _ c.args.counts.now
-    c.args.counts.now c.from_residual.ensures.1 (by_type p _ c.in-Point.is)
+    hands_on _ _ _ _ _ _ _ c.from_residual.ensures.1 (by_type p _ c.in-Point.is)
     (refused_stops _ _ _ c.args.counts.now (ap at_no_cost c.in_err-point-in-Point.ensures.answer))
 
 pub returns-in_err-line_string-in-LineString-clause-begins :
     goal.returns-in_err-line_string-in-LineString-clause-begins
 returns-in_err-line_string-in-LineString-clause-begins c =
     let p = (goal.at.returns-in_err-line_string-in-LineString-clause-begins c).After-dimension in
-    hands_on c.args.depth c.args.bytes.now _ (read_errors.Cause c.in_err-line_string-in-LineString.field-0.0) _
-    c.args.counts.now c.args.counts.now c.from_residual-in_err-line_string-in-LineString.ensures.1
+    hands_on _ _ _ _ _ _ _ c.from_residual-in_err-line_string-in-LineString.ensures.1
     (by_type p _ c.in-LineString.is ∙ line_string_free (layout p) c.args.bytes.now)
     (refused_stops _ _ _ c.args.counts.now (ap at_no_cost c.in_err-line_string-in-LineString.ensures.answer))
 
@@ -57,9 +51,8 @@ read-requires-in-Polygon-clause-fits c =
 pub returns-in_err-polygon-in-Polygon-clause-begins : goal.returns-in_err-polygon-in-Polygon-clause-begins
 returns-in_err-polygon-in-Polygon-clause-begins c =
     let p = (goal.at.returns-in_err-polygon-in-Polygon-clause-begins c).After-dimension in
-    hands_on c.args.depth c.args.bytes.now _ c.in_err-polygon-in-Polygon.field-0.0 _ c.args.counts.now
-    c.read-in-Polygon.new.counts c.from_residual-in_err-polygon-in-Polygon.ensures.1 (by_type p _ c.in-Polygon.is)
-    c.in_err-polygon-in-Polygon.ensures.answer
+    hands_on _ _ _ _ _ _ _ c.from_residual-in_err-polygon-in-Polygon.ensures.1
+    (by_type p _ c.in-Polygon.is) c.in_err-polygon-in-Polygon.ensures.answer
 
 pub read-requires-in-MultiPoint-clause-fits : goal.read-requires-in-MultiPoint-clause-fits
 read-requires-in-MultiPoint-clause-fits c =
@@ -68,8 +61,7 @@ read-requires-in-MultiPoint-clause-fits c =
 pub returns-in_err-multi-in-MultiPoint-clause-begins : goal.returns-in_err-multi-in-MultiPoint-clause-begins
 returns-in_err-multi-in-MultiPoint-clause-begins c =
     let p = (goal.at.returns-in_err-multi-in-MultiPoint-clause-begins c).After-dimension in
-    hands_on c.args.depth c.args.bytes.now _ (read_errors.Cause c.in_err-multi-in-MultiPoint.field-0.0) _
-    c.args.counts.now c.read-in-MultiPoint.new.counts c.from_residual-in_err-multi-in-MultiPoint.ensures.1
+    hands_on _ _ _ _ _ _ _ c.from_residual-in_err-multi-in-MultiPoint.ensures.1
     (by_type p _ c.in-MultiPoint.is) c.in_err-multi-in-MultiPoint.ensures.answer
 
 pub read-requires-in-MultiLineString-clause-fits : goal.read-requires-in-MultiLineString-clause-fits
@@ -79,8 +71,7 @@ read-requires-in-MultiLineString-clause-fits c =
 pub returns-in_err-multi-in-MultiLineString-clause-begins : goal.returns-in_err-multi-in-MultiLineString-clause-begins
 returns-in_err-multi-in-MultiLineString-clause-begins c =
     let p = (goal.at.returns-in_err-multi-in-MultiLineString-clause-begins c).After-dimension in
-    hands_on c.args.depth c.args.bytes.now _ c.in_err-multi-in-MultiLineString.field-0.0 _ c.args.counts.now
-    c.read-in-MultiLineString.new.counts c.from_residual-in_err-multi-in-MultiLineString.ensures.1
+    hands_on _ _ _ _ _ _ _ c.from_residual-in_err-multi-in-MultiLineString.ensures.1
     (by_type p _ c.in-MultiLineString.is) c.in_err-multi-in-MultiLineString.ensures.answer
 
 pub read-requires-in-MultiPolygon-clause-fits : goal.read-requires-in-MultiPolygon-clause-fits
@@ -90,8 +81,7 @@ read-requires-in-MultiPolygon-clause-fits c =
 pub returns-in_err-multi-in-MultiPolygon-clause-begins : goal.returns-in_err-multi-in-MultiPolygon-clause-begins
 returns-in_err-multi-in-MultiPolygon-clause-begins c =
     let p = (goal.at.returns-in_err-multi-in-MultiPolygon-clause-begins c).After-dimension in
-    hands_on c.args.depth c.args.bytes.now _ c.in_err-multi-in-MultiPolygon.field-0.0 _ c.args.counts.now
-    c.read-in-MultiPolygon.new.counts c.from_residual-in_err-multi-in-MultiPolygon.ensures.1
+    hands_on _ _ _ _ _ _ _ c.from_residual-in_err-multi-in-MultiPolygon.ensures.1
     (by_type p _ c.in-MultiPolygon.is) c.in_err-multi-in-MultiPolygon.ensures.answer
 
 pub begin_collection-requires-clause-fits : goal.begin_collection-requires-clause-fits
