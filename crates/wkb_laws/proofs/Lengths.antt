@@ -13,8 +13,8 @@ use Rattle.wkb_laws.specs.Prelude.{Spelling, node, Spellings, no_spellings, spel
 use Rattle.wkb_laws.specs.Prelude.{SpellsCoordinates, SpellsBody, Wanted, part, member_part, Spells, SpellsEach}
 use Rattle.wkb_laws.specs.Prelude.{srid_count, srid_count_each, Front, srid_size, Geometry, IsGeometry, normal}
 use Rattle.wkb_laws.specs.Prelude.{geometry_of, or_else, size_fault, number_bytes, srid_encoding, header_encoding}
-use Rattle.wkb_laws.specs.Prelude.{form_srid, inner, encoding, fault, fault_under, IsForm, IsWritable, size, as_dimensions}
-use Rattle.wkb_laws.specs.Prelude.{geometries_of}
+use Rattle.wkb_laws.specs.Prelude.{form_srid, inner, encoding, fault, fault_under, IsForm, IsWritable, size}
+use Rattle.wkb_laws.specs.Prelude.{as_dimensions, geometries_of}
 use Rattle.wkb_laws.specs.Written.{written, HasOptions, AllHaveOptions}
 use Rattle.wkb_laws.specs.Encodings.{IsRewritable, SpelledIsWritable}
 use Rattle.wkb_laws.specs.Laws.{LengthOfEncoding, LengthOfFront, FrontIsWritable, EwkbIsWritable, SizeIsRefused}
