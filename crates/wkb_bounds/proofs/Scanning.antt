@@ -2,7 +2,6 @@
 use Rattle.std.proofs.Common.{◌≡◌, ℕ, ◌<◌, List, Ok, refl, arith, nat_lt, true, lt-ltb}
 use Rattle.wkb_geom.specs.Reading.{type_kind}
 use Rattle.wkb_geom.specs.declared.code.TheConstants.{POLYGON}
-use Rattle.wkb_geom.specs.declared.common.Dimension.TheVariants.{Xy}
 use Rattle.wkb_laws.specs.Prelude.{Value, Spelling, node}
 use Rattle.wkb_check.specs.declared.answer.Summary.{Summary}
 use Rattle.wkb_check.specs.Known.{HasGeometry}
@@ -34,7 +33,7 @@ found_low f p is low =
     let g = geometry_of_front f.front in
     lt-ltb p.kind 3 (omega (arith, (piece_by 0 g.spelled g.value (found_header f refl refl g) p (is g)).kind_is))
 
--- the header of a polygon of x and y, by its piece
-pub polygon_header : (s : Spelling) (t : Value) (p : Piece) → p ≡ piece_of 0 s t → p.kind ≡ POLYGON → p.dimension ≡ Xy
-    → HeaderIs s t POLYGON Xy p.order p.srid
-polygon_header (node h words ss) t p is three plane = grind arith
+-- the header of a polygon, by its piece
+pub polygon_header : (s : Spelling) (t : Value) (p : Piece) → p ≡ piece_of 0 s t → p.kind ≡ POLYGON
+    → HeaderIs s t POLYGON p.dimension p.order p.srid
+polygon_header (node h words ss) t p is three = grind arith

@@ -1,9 +1,8 @@
 -- Ranges that are widened word by word, and bounds coordinate by coordinate.
-use Rattle.std.proofs.Common.{◌≡◌, ◌≢◌, ℕ, zero, suc, ◌+◌, ◌*◌, ◌/◌, ◌<◌, ◌≤◌, ◌^◌, List, [], ◌∷◌, ◌++◌, length, take}
-use Rattle.std.proofs.Common.{drop, Option, Some, None, IfSome, Bool, true, false, refl, sym, ap, ◌∙◌, subst, arith}
-use Rattle.std.proofs.Common.{drop-drop, length-append, rules}
+use Rattle.std.proofs.Common.{◌≡◌, ◌≢◌, ℕ, zero, suc, ◌+◌, ◌*◌, ◌/◌, ◌<◌, ◌≤◌, List, [], ◌∷◌, ◌++◌, length, take}
+use Rattle.std.proofs.Common.{drop, Option, Some, None, IfSome, refl, sym, ap, ◌∙◌, arith}
+use Rattle.std.proofs.Common.{drop-drop, length-append}
 use Rattle.wkb_geom.specs.declared.common.Dimension.{Dimension}
-use Rattle.wkb_geom.specs.declared.common.Dimension.TheVariants.{Xy}
 use Rattle.wkb_geom.specs.declared.common.Endianness.{Endianness}
 use Rattle.wkb_geom.specs.Dimensions.{width}
 use Rattle.wkb_geom.specs.Items.{length-items}
@@ -12,12 +11,12 @@ use Rattle.wkb_geom.specs.Reading.{items, coordinates}
 use Rattle.wkb_geom.specs.Values.{Coordinate}
 use Rattle.wkb_bounds.specs.declared.range.Range.{Range}
 use Rattle.wkb_bounds.specs.declared.range.Bounds.{Bounds}
-use Rattle.wkb_bounds.specs.declared.ranks.Ranks.{Ranks}
+use Rattle.wkb_bounds.specs.declared.extremes.Extremes.{Extremes}
 use Rattle.wkb_bounds.specs.declared.run.Run.{Run}
-use Rattle.wkb_bounds.specs.declared.axes.AxisRanks.{AxisRanks}
-use Rattle.wkb_bounds.specs.Ranges.{with_word, widened, AreNumbers, AreRight, WidensRanks}
+use Rattle.wkb_bounds.specs.Ranges.{with_word, widened}
+use Rattle.wkb_bounds.specs.Extremes.{range_by, CountsAhead, CountsWord, WidensRange}
 use Rattle.wkb_bounds.specs.Ordinates.{Axis, axis_place, word_at, words_of_each, words_at, words_in, place_words}
-use Rattle.wkb_bounds.specs.Bounded.{on, Widens, WidensBounds, WidensPlane, bounds_by}
+use Rattle.wkb_bounds.specs.Bounded.{on, Widens}
 use Rattle.wkb_bounds.specs.Runs.{run_coordinates, rows, first_word, IsRun, IsBehindFirst}
 
 -- ---- words
@@ -32,20 +31,6 @@ word_counts r w = grind arith
 widened_count : (r : Range) (ws : List ℕ) → (widened r ws).count ≤ r.count + length ws
 widened_count r [] = omega arith
 widened_count r (w ∷ ws) = omega (arith, widened_count (with_word r w) ws, word_counts r w)
-
--- ---- ranks
-
-pub numbers_right : {old new : Ranks} {ws : List ℕ} → WidensRanks false old new ws → AreNumbers new
-    → WidensRanks true old new ws
-numbers_right w n = record { before = λ t. t; range = λ t. w.range n; count = w.count }
-
--- ranks widened by a word, and then by others
-widened_first : (tested : Bool) {old now new : Ranks} {w : ℕ} {ws : List ℕ} → WidensRanks tested old now (w ∷ [])
-    → WidensRanks tested now new ws → WidensRanks tested old new (w ∷ ws)
-widened_first tested {ws = ws} first others = grind arith
-
-not_widened : (tested : Bool) (k : Ranks) → WidensRanks tested k k []
-not_widened tested k = record { before = λ n. n; range = λ n. refl; count = omega arith }
 
 -- ---- coordinates
 
@@ -67,41 +52,48 @@ pub one_word_at : (order : Endianness) (d : Dimension) (k : ℕ) (bytes : List �
     → number order 8 (drop (8 * k) bytes) ∷ [] ≡ place_words (Some k) order d 1 bytes
 one_word_at order d k bytes there = grind (arith, item_there)
 
--- what widens these ranks by the words of what is left of a run widens the first ones by those of all of it
-pub record RunLeft (tested : Bool) (k : ℕ) (now : Ranks) (left : Run) (first : Ranks) (run : Run) : Type 0 where
+-- what widens this range by the words of what is left of a run widens the first one by those of all of it
+pub record RunLeft (k : ℕ) (now : Extremes) (left : Run) (first : Extremes) (run : Run) : Type 0 where
   pub there : k < left.size / 8
-  pub room : now.count + left.count < 2 ^ 64
-  pub goes : (new : Ranks) → WidensRanks tested now new (words_at (Some k) (run_coordinates left))
-      → WidensRanks tested first new (words_at (Some k) (run_coordinates run))
+  pub counted : left.count ≤ now.count
+  pub goes : (r : Range) → r ≡ widened (range_by left.count now) (words_at (Some k) (run_coordinates left))
+      → r ≡ widened (range_by 0 first) (words_at (Some k) (run_coordinates run))
 
-pub run_first : (tested : Bool) (k : ℕ) (first : Ranks) (run : Run) → k < run.size / 8
-    → first.count + run.count < 2 ^ 64 → RunLeft tested k first run first run
-run_first tested k first run there room = record { there = there; room = room; goes = λ new w. w }
+pub run_first : (k : ℕ) {first now : Extremes} {run : Run} → k < run.size / 8 → CountsAhead first now run.count
+    → RunLeft k now run first run
+run_first k {run = run} there ahead = record {
+  there = there;
+  counted = ahead.count;
+  goes = λ r is. is ∙ ap (λ q. widened q (words_at (Some k) (run_coordinates run))) ahead.range;
+}
 
-pub run_next : {tested : Bool} {k : ℕ} {now first : Ranks} {left run : Run} → RunLeft tested k now left first run
-    → {w : ℕ} {new : Ranks} {rest : Run} → w ≡ first_word k left → WidensRanks tested now new (w ∷ [])
+pub run_next : {k : ℕ} {now first : Extremes} {left run : Run} → RunLeft k now left first run
+    → {w : ℕ} {new : Extremes} {rest : Run} → w ≡ first_word k left → CountsWord now new w
     → IsBehindFirst left rest
-    → RunLeft tested k new rest first run
-run_next {tested} {k} {now} {left = left} l {w} {rest = rest} w-is widens behind =
+    → RunLeft k new rest first run
+run_next {k} {now} {left = left} l {w} {new} {rest} w-is counts behind =
     let words : (w ∷ words_at (Some k) (run_coordinates rest)) ≡ words_at (Some k) (run_coordinates left) =
     (λ i. w-is i
     ∷ words_at (Some k) (rows (behind.order_is i) (behind.size_is i) rest.count (behind.bytes_are i)))
     ∙ sym (first_words left k rest.count (omega arith) l.there) in
+    let more : rest.count < now.count = omega (arith, l.counted) in
     record {
       there = omega arith;
-      room = omega arith;
-      goes = λ last others.
-          l.goes last (subst (WidensRanks tested now last) words (widened_first tested widens others));
+      counted = counts.count rest.count more;
+      goes = λ r is.
+          l.goes r
+          (is ∙ ap (λ q. widened q (words_at (Some k) (run_coordinates rest))) (counts.range rest.count more)
+          ∙ ap (λ n. widened (range_by n now) (w ∷ words_at (Some k) (run_coordinates rest))) (sym behind.count_is)
+          ∙ ap (widened (range_by left.count now)) words);
     }
 
-pub run_done : {tested : Bool} {k : ℕ} {now first : Ranks} {left run : Run} → RunLeft tested k now left first run
-    → left.count ≡ 0 → WidensRanks tested first now (words_at (Some k) (run_coordinates run))
-run_done {tested} {k} {now} {left = left} l none =
-    l.goes now
-    (subst (λ n. WidensRanks tested now now (words_at (Some k) (rows left.order left.size n left.bytes.now)))
-    (sym none) (not_widened tested now))
+pub run_done : {k : ℕ} {now first : Extremes} {left run : Run} → RunLeft k now left first run → left.count ≡ 0
+    → WidensRange first now (words_at (Some k) (run_coordinates run))
+run_done {k} {now} {left = left} l none =
+    l.goes (range_by 0 now)
+    (λ i. widened (range_by (sym none i) now) (words_at (Some k) (rows left.order left.size (sym none i) left.bytes.now)))
 
-pub ruleset run_laws = (run_first, run_done, numbers_right)
+pub ruleset run_laws = (run_first, run_done)
 
 no_column : (cs : List Coordinate) → words_of_each (word_at None) cs ≡ []
 no_column [] = refl
@@ -123,23 +115,6 @@ words_few : (p : Option ℕ) (cs : List Coordinate) → length (words_of_each (w
 words_few p [] = omega arith
 words_few p (c ∷ cs) = grind (arith, length-append, one_word, words_few p cs)
 
-pub run_long : (r : Run) → length (run_coordinates r) ≡ r.count
-run_long r = length-items r.size (items 8 (number r.order 8) (r.size / 8)) r.count r.bytes.now
-
--- a run adds at most its coordinates to a count
-pub counts_more : (d : Dimension) (r : Run) (old new : Bounds) (a : Axis)
-    → Widens old new (λ a. words_in a d (run_coordinates r))
-    → (on a new).count ≤ (on a old).count + r.count
-counts_more d r old new a widens =
-    let cs = run_coordinates r in
-    omega (
-      arith,
-      ap (λ (r : Range). r.count) (widens a),
-      widened_count (on a old) (words_in a d cs),
-      words_few (axis_place a d) cs,
-      run_long r,
-    )
-
 -- coordinates are of the size that their dimension has
 rows_are : (order : Endianness) (d : Dimension) (size n : ℕ) (bytes : List ℕ) → size ≡ 8 * width d
     → rows order size n bytes ≡ coordinates order d n bytes
@@ -150,11 +125,16 @@ pub run_widens : {order : Endianness} (d : Dimension) {size n : ℕ} {bytes : Li
     → Widens old new (λ a. words_in a d (coordinates order d n bytes))
 run_widens {order} d {size} {n} {bytes} old new is sized widens a = grind arith
 
--- ---- x and y
-
-module _ {tested : Bool} {old new : AxisRanks} {cs : List Coordinate} (w : WidensPlane tested old new cs) where
-  pub plane_widens : AreRight tested new.x → AreRight tested new.y → WidensBounds old new Xy cs
-  plane_widens x y h = search (rules, no_ordinates)
-
-  pub plane_few : (a : Axis) → (on a (bounds_by new)).count ≤ (on a (bounds_by old)).count + length cs
-  plane_few a = grind (arith, words_few)
+-- n coordinates add at most n to a count
+pub counts_more : (order : Endianness) (d : Dimension) (n : ℕ) (bytes : List ℕ) (old new : Bounds) (a : Axis)
+    → Widens old new (λ a. words_in a d (coordinates order d n bytes))
+    → (on a new).count ≤ (on a old).count + n
+counts_more order d n bytes old new a widens =
+    let cs = coordinates order d n bytes in
+    omega (
+      arith,
+      ap (λ (r : Range). r.count) (widens a),
+      widened_count (on a old) (words_in a d cs),
+      words_few (axis_place a d) cs,
+      length-items (8 * width d) (items 8 (number order 8) (width d)) n bytes,
+    )

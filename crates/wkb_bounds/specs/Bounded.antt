@@ -1,5 +1,5 @@
 -- What the bounds of a geometry say of it, and how they are found.
-use Rattle.std.specs.Prelude.{◌≡◌, ℕ, ◌+◌, ◌<◌, ◌^◌, Bool, Some, List, Result, Err, IfOk, IfErr}
+use Rattle.std.specs.Prelude.{◌≡◌, ℕ, ◌+◌, ◌<◌, ◌^◌, Some, List, Result, Err, IfOk, IfErr}
 use Rattle.wkb_geom.specs.declared.common.Dimension.{Dimension}
 use Rattle.wkb_geom.specs.Fronts.{Front}
 use Rattle.wkb_geom.specs.Spellings.{Spelling}
@@ -8,8 +8,9 @@ use Rattle.wkb_check.specs.declared.answer.Refused.{Refused}
 use Rattle.wkb_bounds.specs.declared.range.Range.{Range}
 use Rattle.wkb_bounds.specs.declared.range.Bounds.{Bounds}
 use Rattle.wkb_check.specs.Public.{Checks}
-use Rattle.wkb_bounds.specs.declared.axes.AxisRanks.{AxisRanks}
-use Rattle.wkb_bounds.specs.Ranges.{no_numbers, widened, range_of, range_by, AreNumbers, WidensRanks}
+use Rattle.wkb_bounds.specs.declared.axes.AxisExtremes.{AxisExtremes}
+use Rattle.wkb_bounds.specs.Ranges.{no_numbers, widened, range_of}
+use Rattle.wkb_bounds.specs.Extremes.{range_by, WidensRange}
 use Rattle.wkb_bounds.specs.Ordinates.{Axis, x_axis, y_axis, z_axis, m_axis, words_at, words_in, words_on}
 
 -- the range on an axis
@@ -48,26 +49,21 @@ abbrev pub nothing : Bounds
 nothing = record { x = no_numbers; y = no_numbers; z = no_numbers; m = no_numbers }
 
 -- the bounds that have these ranges
-abbrev pub bounds_by : AxisRanks → Bounds
-bounds_by k = record { x = range_by k.x; y = range_by k.y; z = k.z; m = k.m }
+abbrev pub bounds_by : AxisExtremes → Bounds
+bounds_by k = record { x = range_by 0 k.x; y = range_by 0 k.y; z = range_by 0 k.z; m = range_by 0 k.m }
 
 -- the bounds are widened by these words on each axis
 abbrev pub Widens : Bounds → Bounds → (Axis → List ℕ) → Type 0
 Widens old new words = (a : Axis) → on a new ≡ widened (on a old) (words a)
 
--- the bounds of these ranges are widened by some coordinates
-abbrev pub WidensBounds : AxisRanks → AxisRanks → Dimension → List Coordinate → Type 0
+-- the bounds are widened by some coordinates
+abbrev pub WidensBounds : AxisExtremes → AxisExtremes → Dimension → List Coordinate → Type 0
 WidensBounds old new d cs = Widens (bounds_by old) (bounds_by new) (λ a. words_in a d cs)
 
--- the ranks of x and y are those of numbers
-pub record ArePlaneNumbers (k : AxisRanks) : Type 0 where
-  pub x : AreNumbers k.x
-  pub y : AreNumbers k.y
-
--- the ranks of x and y are widened by some coordinates
-pub record WidensPlane (tested : Bool) (old new : AxisRanks) (cs : List Coordinate) : Type 0 where
-  pub x : WidensRanks tested old.x new.x (words_at (Some 0) cs)
-  pub y : WidensRanks tested old.y new.y (words_at (Some 1) cs)
+-- the ranges of x and y are widened by some coordinates
+pub record WidensPlane (old new : AxisExtremes) (cs : List Coordinate) : Type 0 where
+  pub x : WidensRange old.x new.x (words_at (Some 0) cs)
+  pub y : WidensRange old.y new.y (words_at (Some 1) cs)
   pub z : new.z ≡ old.z
   pub m : new.m ≡ old.m
 

@@ -1,4 +1,5 @@
 pub mod Ranges
+pub mod Extremes
 pub mod Ordinates
 pub mod Bounded
 pub mod Runs

@@ -4,8 +4,8 @@
 
 mod axes;
 mod coordinate;
+mod extremes;
 mod range;
-mod ranks;
 mod run;
 mod scan;
 mod widen;

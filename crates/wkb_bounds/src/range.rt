@@ -5,9 +5,9 @@ ghost use Rattle.wkb_bounds.specs.Ranges.{no_numbers};
 ghost use Rattle.wkb_bounds.specs.Bounded.{nothing as no_bounds};
 
 /// The word of infinity, the greatest number.
-const INFINITY: u64 = 0x7ff0_0000_0000_0000;
+pub(crate) const INFINITY: u64 = 0x7ff0_0000_0000_0000;
 /// The word of minus infinity, the least number.
-const MINUS_INFINITY: u64 = 0xfff0_0000_0000_0000;
+pub(crate) const MINUS_INFINITY: u64 = 0xfff0_0000_0000_0000;
 
 /// The range of an ordinate. A NaN is no number, and doesn't count.
 #[repr(C)]

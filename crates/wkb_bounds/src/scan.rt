@@ -2,10 +2,8 @@
 
 ghost use Rattle.std.specs.Prelude.{◌≡◌, ◌≤◌, ◌*◌, length, nat_lt, true, false, Err, IfOk, IfErr};
 ghost use Rattle.wkb_geom.specs.declared.code.TheConstants.{POLYGON};
-ghost use Rattle.wkb_geom.specs.declared.common.Dimension.TheVariants.{Xy};
 ghost use Rattle.wkb_geom.specs.Dimensions.{width};
 ghost use Rattle.wkb_geom.specs.Reading.{coordinates};
-ghost use Rattle.wkb_bounds.specs.declared.scan.TheConstants.{XY_SIZE};
 ghost use Rattle.wkb_check.specs.Known.{HasGeometry};
 ghost use Rattle.wkb_bounds.specs.Bounded.{AreBounds, BoundsFront, BoundsOnlyFront, FindsBounds};
 ghost use Rattle.wkb_bounds.specs.Bounded.{nothing as no_bounds, Widens};
@@ -13,44 +11,18 @@ ghost use Rattle.wkb_bounds.specs.Ordinates.{words_in};
 ghost use Rattle.wkb_check.specs.Pieces.{IsPieceAt, IsHeaderAt};
 ghost use Rattle.wkb_check.specs.Public.{Checks, DescribesFront, HasNoPlain};
 
-use crate::axes::AxisRanks;
+use crate::axes::AxisExtremes;
 use crate::range::Bounds;
-use crate::run::Run;
 use wkb_check::{Piece, Pieces, Refused, Summary, check, check_plain};
 use wkb_geom::code::{POLYGON, WkbType};
-use wkb_geom::words::{WORD_SIZE, rest_from};
-use wkb_geom::{Dimension, Endianness, by_order};
+use wkb_geom::words::rest_from;
+use wkb_geom::{Dimension, Endianness};
 
-/// The bytes of a coordinate of an x and a y.
-const XY_SIZE: usize = 2 * WORD_SIZE;
-
-/// Writes the bounds of `count` coordinates of x and y in an order that is a constant if this is inlined.
+/// Writes the bounds of `count` coordinates. If it is inlined, the dimension and the order are constants.
 #[inline(always)]
-fn xy_bounds_of_order_into(order: Endianness, count: u32, bytes: &[u8], bounds: &mut Bounds)
-    requires { XY_SIZE * count ≤ length bytes.now }
-    ensures { Widens no_bounds bounds.new
-        (λ a. words_in a Xy (coordinates order Xy count bytes.now)) }
-{
-    let mut ranks = AxisRanks::empty();
-    ranks.widen_plane_in(Run::of(order, XY_SIZE, count, bytes));
-    *bounds = ranks.bounds();
-}
-
-/// As `xy_bounds_of_order_into`, with a loop for each order. It isn't inlined, so that its counters stay in registers.
-#[inline(never)]
-fn xy_bounds_into(order: Endianness, count: u32, bytes: &[u8], bounds: &mut Bounds)
-    requires { XY_SIZE * count ≤ length bytes.now }
-    ensures { Widens no_bounds bounds.new
-        (λ a. words_in a Xy (coordinates order Xy count bytes.now)) }
-{
-    by_order!(order, xy_bounds_of_order_into(order, count, bytes, bounds))
-}
-
-/// Writes the bounds of `count` coordinates of any dimension. It isn't inlined, so that others don't pay for its frame.
-#[inline(never)]
-fn coordinates_bounds_into(
-    order: Endianness,
+fn run_bounds_by_into(
     dimension: Dimension,
+    order: Endianness,
     count: u32,
     bytes: &[u8],
     bounds: &mut Bounds,
@@ -59,10 +31,32 @@ fn coordinates_bounds_into(
     ensures { Widens no_bounds bounds.new
         (λ a. words_in a dimension (coordinates order dimension count bytes.now)) }
 {
-    let mut ranks = AxisRanks::empty();
-    let run = Run::of(order, dimension.coordinate_size(), count, bytes);
-    ranks.widen(dimension, run);
-    *bounds = ranks.bounds();
+    let mut extremes = AxisExtremes::none();
+    extremes.widen(dimension, order, count, bytes);
+    *bounds = extremes.bounds();
+}
+
+/// Writes the bounds of `count` coordinates, with a loop for each order if they have neither z nor m. It isn't inlined,
+/// so that others don't pay for its frame.
+#[inline(never)]
+fn run_bounds_into(
+    dimension: Dimension,
+    order: Endianness,
+    count: u32,
+    bytes: &[u8],
+    bounds: &mut Bounds,
+)
+    requires { 8 * width dimension * count ≤ length bytes.now }
+    ensures { Widens no_bounds bounds.new
+        (λ a. words_in a dimension (coordinates order dimension count bytes.now)) }
+{
+    use Dimension::Xy;
+    use Endianness::{BigEndian as Big, LittleEndian as Little};
+    match (dimension, order) {
+        (Xy, Big) => run_bounds_by_into(Xy, Big, count, bytes, bounds),
+        (Xy, Little) => run_bounds_by_into(Xy, Little, count, bytes, bounds),
+        _ => run_bounds_by_into(dimension, order, count, bytes, bounds),
+    }
 }
 
 /// Writes the bounds of a geometry that has coordinates, and so is this piece alone.
@@ -78,43 +72,54 @@ fn piece_bounds_into(buf: &[u8], only: &Piece, bounds: &mut Bounds)
         *bounds = Bounds::of_coordinate(only.order, only.dimension, bytes);
         return;
     }
-    match only.dimension {
-        Dimension::Xy => xy_bounds_into(only.order, only.count, bytes, bounds),
-        dimension => coordinates_bounds_into(only.order, dimension, only.count, bytes, bounds),
-    }
+    run_bounds_into(only.dimension, only.order, only.count, bytes, bounds);
 }
 
-/// Writes the bounds of a polygon of x and y in an order that is a constant if this is inlined.
+/// Writes the bounds of a polygon with this header. If it is inlined, the order and the dimension are constants.
 #[tactic(auto, using(wkb_check::proofs::Following::fewer_left))]
 #[inline(always)]
-fn rings_bounds_of_order_into(buf: &[u8], order: Endianness, srid: Option<u32>, bounds: &mut Bounds)
+fn rings_bounds_by_into(
+    buf: &[u8],
+    dimension: Dimension,
+    order: Endianness,
+    srid: Option<u32>,
+    bounds: &mut Bounds,
+)
     requires here { HasGeometry buf.now }
-    requires header { IsHeaderAt buf.now 0 POLYGON Xy order srid }
+    requires header { IsHeaderAt buf.now 0 POLYGON dimension order srid }
     ensures { (g : HasGeometry buf.now) → AreBounds bounds.new g.value }
 {
-    let first = Piece::of_header(buf, 0, POLYGON, Dimension::Xy, order, srid);
-    let mut ranks = AxisRanks::empty();
+    let first = Piece::of_header(buf, 0, POLYGON, dimension, order, srid);
+    let mut extremes = AxisExtremes::none();
     let mut pieces = Pieces::behind(buf, &first);
     while let Some(ring) = pieces.next_if_ring() {
         let bytes = rest_from(buf, ring.offset);
-        ranks.widen_plane_by(Run::of(order, XY_SIZE, ring.count, bytes), false);
-        if !ranks.are_plane_numbers() {
-            front_bounds_into(buf, bounds);
-            return;
-        }
+        extremes.widen(dimension, order, ring.count, bytes);
     }
-    *bounds = ranks.bounds();
+    *bounds = extremes.bounds();
 }
 
-/// Writes the bounds of a polygon of x and y, with a loop for each order. It takes scalars, so that the findings on
-/// other geometries need no place in memory.
+/// Writes the bounds of a polygon with this header, with a loop for each order if it has neither z nor m. It takes
+/// scalars, so that the findings on other geometries need no place in memory.
 #[inline(never)]
-fn rings_bounds_into(buf: &[u8], order: Endianness, srid: Option<u32>, bounds: &mut Bounds)
+fn rings_bounds_into(
+    buf: &[u8],
+    dimension: Dimension,
+    order: Endianness,
+    srid: Option<u32>,
+    bounds: &mut Bounds,
+)
     requires here { HasGeometry buf.now }
-    requires header { IsHeaderAt buf.now 0 POLYGON Xy order srid }
+    requires header { IsHeaderAt buf.now 0 POLYGON dimension order srid }
     ensures { (g : HasGeometry buf.now) → AreBounds bounds.new g.value }
 {
-    by_order!(order, rings_bounds_of_order_into(buf, order, srid, bounds))
+    use Dimension::Xy;
+    use Endianness::{BigEndian as Big, LittleEndian as Little};
+    match (dimension, order) {
+        (Xy, Big) => rings_bounds_by_into(buf, Xy, Big, srid, bounds),
+        (Xy, Little) => rings_bounds_by_into(buf, Xy, Little, srid, bounds),
+        _ => rings_bounds_by_into(buf, dimension, order, srid, bounds),
+    }
 }
 
 /// Writes the bounds of the geometry at the start of bytes in which the check found this.
@@ -128,8 +133,8 @@ fn found_bounds_into(buf: &[u8], found: &Summary, bounds: &mut Bounds)
         return;
     }
     match found.wkb_type {
-        WkbType::Polygon(Dimension::Xy) => {
-            rings_bounds_into(buf, found.order, found.srid, bounds);
+        WkbType::Polygon(dimension) => {
+            rings_bounds_into(buf, dimension, found.order, found.srid, bounds);
         }
         _ => match Piece::outermost(buf, found).only_member(buf) {
             Some(member) => member_bounds_into(member, bounds),
@@ -148,10 +153,10 @@ fn member_bounds_into(buf: &[u8], bounds: &mut Bounds)
     if first.has_coordinates() {
         return piece_bounds_into(buf, &first, bounds);
     }
-    match (first.kind, first.dimension) {
-        (POLYGON, Dimension::Xy) => rings_bounds_into(buf, first.order, first.srid, bounds),
-        _ => front_bounds_into(buf, bounds),
+    if first.kind == POLYGON {
+        return rings_bounds_into(buf, first.dimension, first.order, first.srid, bounds);
     }
+    front_bounds_into(buf, bounds);
 }
 
 /// Writes the bounds of the geometry at the start of the bytes, which is known to be there.
@@ -160,16 +165,14 @@ fn front_bounds_into(buf: &[u8], bounds: &mut Bounds)
     requires here { HasGeometry buf.now }
     ensures { (g : HasGeometry buf.now) → AreBounds bounds.new g.value }
 {
-    let mut ranks = AxisRanks::empty();
+    let mut extremes = AxisExtremes::none();
     for piece in Pieces::of(buf) {
         if piece.has_coordinates() {
             let bytes = rest_from(buf, piece.offset);
-            let size = piece.dimension.coordinate_size();
-            let run = Run::of(piece.order, size, piece.count, bytes);
-            ranks.widen(piece.dimension, run);
+            extremes.widen(piece.dimension, piece.order, piece.count, bytes);
         }
     }
-    *bounds = ranks.bounds();
+    *bounds = extremes.bounds();
 }
 
 /// Writes the bounds of the geometry at the start of the bytes, if `check_plain` finds it. Else [`any_bounds_into`] has

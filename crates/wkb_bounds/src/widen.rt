@@ -4,7 +4,7 @@ ghost use Rattle.std.specs.Prelude.{◌≡◌, ◌+◌, ◌<◌, ◌^◌};
 ghost use Rattle.wkb_bounds.specs.Ranges.{with_word as range_with};
 
 use crate::range::Range;
-use crate::ranks::Ranks;
+use wkb_geom::words::{is_nan, rank};
 
 impl Range {
     /// The range widened by a word, which counts if it is a number.
@@ -20,6 +20,21 @@ impl Range {
         requires { self.count + 1 < 2 ^ 64 }
         ensures { result ≡ range_with self word }
     {
-        Ranks::of(self).with(word, true).range()
+        if is_nan(word) {
+            return self;
+        }
+        Range {
+            least: if rank(word) < rank(self.least) {
+                word
+            } else {
+                self.least
+            },
+            greatest: if rank(self.greatest) < rank(word) {
+                word
+            } else {
+                self.greatest
+            },
+            count: self.count + 1,
+        }
     }
 }

@@ -11,7 +11,7 @@ piece_bounds_into-requires-clause-low c =
 
 pub rings_bounds_into-requires-clause-header : goal.rings_bounds_into-requires-clause-header
 rings_bounds_into-requires-clause-header c =
-    found_header c.requires (sym (ap type_kind c.in-Polygon-Xy.is)) (search (rules))
+    found_header c.requires (sym (ap type_kind c.in-Polygon.is)) (search (rules))
 
 pub member_bounds_into-requires : goal.member_bounds_into-requires
 member_bounds_into-requires c = record { here = (c.in-Some.ensures (here c.requires)).member }

@@ -6,7 +6,7 @@ use Rattle.wkb_bounds.specs.Bounded.{on, bounds_by, nothing, AreBounds}
 use Rattle.wkb_check.proofs.Following.{all_given}
 use Rattle.wkb_bounds.proofs.Words.{widened_push, all_widened, none_counted, leaf_words, leaf_end, no_words}
 use Rattle.wkb_check.proofs.Leaves.{wide}
-use Rattle.wkb_bounds.proofs.Widening.{counts_more, run_widens}
+use Rattle.wkb_bounds.proofs.Widening.{counts_more}
 use Rattle.wkb_bounds.proofs.scan.front_bounds_into.Goals as goal
 
 pub loop-piece-init-derived : goal.loop-piece-init-derived
@@ -22,9 +22,9 @@ loop-piece-init c =
     record {
       can = (loop-piece-init-derived c).0;
       finite = tt;
-      widened = λ a. ap (on a) c.empty-ranks.ensures;
+      widened = λ a. ap (on a) c.none-extremes.ensures;
       same = ap (λ (w : Pieces). w.bytes.now) is ∙ c.of-piece-items.ensures.same;
-      few = λ a. omega (arith, ap (λ b. (on a b).count) c.empty-ranks.ensures, none_counted a);
+      few = λ a. omega (arith, ap (λ b. (on a b).count) c.none-extremes.ensures, none_counted a);
       inside = omega (arith, ap (λ (w : Pieces). w.at) is);
     }
 
@@ -37,14 +37,14 @@ loop-piece-preserved-then-has_coordinates c =
       can = c.in-Some.ensures.goes.keeps;
       finite = tt;
       widened = λ a.
-          rw (run_widens _ _ _ c.of-run.ensures c.coordinate_size-size.ensures c.widen.ensures a, c.rest_from-bytes.ensures, ← leaf_words a c.args.buf.now p leaf)
+          rw (c.widen.ensures a, c.rest_from-bytes.ensures, ← leaf_words a c.args.buf.now p leaf)
           (widened_push a c.args.buf.now (on a nothing) c.loop-piece.yielded p _ (c.loop-piece.invariant.widened a));
       same = s.same ∙ c.loop-piece.invariant.same;
       few = λ a.
           omega (
             arith,
             c.loop-piece.invariant.few a,
-            counts_more p.dimension c.of-run.result (bounds_by c.loop-piece.ranks) (bounds_by c.widen.new.self) a c.widen.ensures,
+            counts_more _ _ _ _ _ _ a c.widen.ensures,
             leaf_end p leaf,
             wide p.dimension p.count,
           );
@@ -60,7 +60,7 @@ loop-piece-preserved c =
       can = c.in-Some.ensures.goes.keeps;
       finite = tt;
       widened = λ a.
-          ap (widened (on a (bounds_by c.loop-piece.ranks))) (sym (no_words a c.args.buf.now p high))
+          ap (widened (on a (bounds_by c.loop-piece.extremes))) (sym (no_words a c.args.buf.now p high))
           ∙ widened_push a c.args.buf.now (on a nothing) c.loop-piece.yielded p _ (c.loop-piece.invariant.widened a);
       same = s.same ∙ c.loop-piece.invariant.same;
       few = λ a. omega (arith, c.loop-piece.invariant.few a);
@@ -72,5 +72,5 @@ returns c = λ g.
     let is = sym c.into_iter-piece-iterator.ensures.into_iter_gives in
     let ahead = subst (λ w. IsAhead w (pieces_of 0 g.spelled g.value)) is (c.of-piece-items.ensures.ahead g) in
     subst (λ b. AreBounds b g.value) (sym c.bounds.ensures)
-    (all_widened c.args.buf.now (bounds_by c.loop-piece.ranks) c.loop-piece.yielded g
+    (all_widened c.args.buf.now (bounds_by c.loop-piece.extremes) c.loop-piece.yielded g
     (all_given _ _ _ _ _ ahead c.loop-piece.yielded_by c.in-None.ensures.steps) c.loop-piece.invariant.widened)

@@ -10,8 +10,8 @@ invariant-loop-piece l = record {
   can : (goal.iterator-loop-piece).can_next l.piece-iterator;
   finite : (goal.iterator-loop-piece).is_finite l.piece-iterator;
   widened : (a : Axis)
-      → on a (bounds_by l.ranks) ≡ widened (on a nothing) (words_of_each (piece_words a l.buf) l.yielded);
+      → on a (bounds_by l.extremes) ≡ widened (on a nothing) (words_of_each (piece_words a l.buf) l.yielded);
   same : l.piece-iterator.bytes.now ≡ l.buf;
-  few : (a : Axis) → (on a (bounds_by l.ranks)).count ≤ l.piece-iterator.at;
+  few : (a : Axis) → (on a (bounds_by l.extremes)).count ≤ l.piece-iterator.at;
   inside : l.piece-iterator.at ≤ length l.buf;
 }

@@ -42,27 +42,8 @@ returns-then-only-eq1 c = λ g a.
     ≡ range_of (words_on a g.value)) c.if-only-eq1.true
     (one_words a buf g p (c.requires.only g) c.requires.low))
 
-pub xy_bounds_into-requires : goal.xy_bounds_into-requires
-xy_bounds_into-requires c =
-    let p = c.args.only.now in
-    omega (
-      arith,
-      whole (goal.at.xy_bounds_into-requires c).After-rest_from-bytes,
-      ap (λ d. 8 * width d * p.count) c.in-Xy.is,
-    )
+pub run_bounds_into-requires : goal.run_bounds_into-requires
+run_bounds_into-requires c = whole (goal.at.run_bounds_into-requires c).After-rest_from-bytes
 
-pub coordinates_bounds_into-requires : goal.coordinates_bounds_into-requires
-coordinates_bounds_into-requires c = whole (goal.at.coordinates_bounds_into-requires c).After-rest_from-bytes
-
-pub returns-in-Xy : goal.returns-in-Xy
-returns-in-Xy c = λ g a.
-    let p = c.args.only.now in
-    let buf = c.args.buf.now in
-    rw (c.xy_bounds_into.ensures a, on_nothing a, c.rest_from-bytes.ensures)
-    (subst
-    (λ d. widened no_numbers (words_in a d (coordinates p.order d p.count (drop p.offset buf)))
-    ≡ range_of (words_on a g.value)) c.in-Xy.is
-    (one_words a buf g p (c.requires.only g) c.requires.low))
-
-pub returns-in_default : goal.returns-in_default
-returns-in_default c = grind (arith, on_nothing, one_words)
+pub returns : goal.returns
+returns c = grind (arith, on_nothing, one_words)

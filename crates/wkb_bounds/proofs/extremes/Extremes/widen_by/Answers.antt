@@ -1,6 +1,6 @@
 use Rattle.std.proofs.Common.{arith, rules}
 use Rattle.wkb_bounds.proofs.Widening.{run_next, run_done}
-use Rattle.wkb_bounds.proofs.ranks.Ranks.widen_by.Goals as goal
+use Rattle.wkb_bounds.proofs.extremes.Extremes.widen_by.Goals as goal
 
 pub loop-left-preserved : goal.loop-left-preserved
 loop-left-preserved c = search (rules, run_next)

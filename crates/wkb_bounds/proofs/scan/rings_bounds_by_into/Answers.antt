@@ -1,13 +1,13 @@
-use Rattle.std.proofs.Common.{◌*◌, length, ap, sym, ◌∙◌, subst, arith, nat_lt}
-use Rattle.wkb_geom.specs.Dimensions.{width}
+use Rattle.std.proofs.Common.{length, ap, sym, ◌∙◌, subst, arith, nat_lt}
 use Rattle.wkb_bounds.specs.Bounded.{on, bounds_by, AreBounds}
 use Rattle.wkb_bounds.specs.Ranges.{widened}
 use Rattle.wkb_check.proofs.Ahead.{piece_by}
 use Rattle.wkb_check.proofs.Following.{ring_of, rings_after}
-use Rattle.wkb_bounds.proofs.Widening.{plane_widens, plane_few, run_long}
+use Rattle.wkb_bounds.proofs.Widening.{counts_more}
 use Rattle.wkb_bounds.proofs.Words.{first_passed, one_passed, all_passed, ring_words, leaf_end}
 use Rattle.wkb_bounds.proofs.Words.{none_counted}
-use Rattle.wkb_bounds.proofs.scan.rings_bounds_of_order_into.Goals as goal
+use Rattle.wkb_check.proofs.Leaves.{wide}
+use Rattle.wkb_bounds.proofs.scan.rings_bounds_by_into.Goals as goal
 
 pub loop-ring-init : goal.loop-ring-init
 loop-ring-init c =
@@ -17,14 +17,14 @@ loop-ring-init c =
     let rings = behind.rings first.kind_is in
     record {
       so_far = λ g.
-          first_passed g (behind.steps g) (ap (λ k. nat_lt k 3) first.kind_is) c.empty-ranks.ensures;
+          first_passed g (behind.steps g) (ap (λ k. nat_lt k 3) first.kind_is) c.none-extremes.ensures;
       rings = record {
         order_is = rings.order_is ∙ first.order_is;
         dimension_is = rings.dimension_is ∙ first.dimension_is;
         alone = rings.alone;
       };
       same = behind.same;
-      few = λ a. omega (arith, ap (λ b. (on a b).count) c.empty-ranks.ensures, none_counted a);
+      few = λ a. omega (arith, ap (λ b. (on a b).count) c.none-extremes.ensures, none_counted a);
       inside = behind.inside.inside;
     }
 
@@ -40,25 +40,22 @@ loop-ring-preserved c =
     let s = c.in-Some.ensures.steps in
     let ring = ring_of l.rings c.in-Some.ensures.ring in
     let low = ap (λ k. nat_lt k 3) ring.kind_is in
-    let widens = c.widen_plane_by.ensures in
-    let numbers = c.are_plane_numbers.ensures.all c.if-not-are_plane_numbers.false in
     record {
       so_far = λ g.
           one_passed (l.so_far g) s
           (λ a.
-          plane_widens widens numbers.x numbers.y a
-          ∙ rw (c.of.ensures.coordinates_are, c.rest_from-bytes.ensures)
-          (ap (widened (on a (bounds_by c.loop-ring.ranks))) (sym (ring_words a c.args.buf.now p ring))));
+          c.widen.ensures a
+          ∙ rw (c.rest_from-bytes.ensures)
+          (ap (widened (on a (bounds_by c.loop-ring.extremes))) (sym (ring_words a c.args.buf.now p ring))));
       rings = rings_after l.rings c.next_if_ring.ensures.rings;
       same = s.same ∙ l.same;
       few = λ a.
           omega (
             arith,
             l.few a,
-            plane_few widens a,
-            run_long c.of.result,
+            counts_more _ _ _ _ _ _ a c.widen.ensures,
             leaf_end p low,
-            ap (λ d. 8 * width d * p.count) ring.dimension_is,
+            wide p.dimension p.count,
           );
       inside = omega (arith, ap length l.same);
     }

@@ -1,15 +1,19 @@
 use Rattle.std.proofs.Common.{◌≡◌, arith, refl, rules}
 use Rattle.wkb_bounds.specs.Ordinates.{x_axis, y_axis}
 use Rattle.wkb_bounds.proofs.Widening.{run_first, run_next, run_done}
-use Rattle.wkb_bounds.proofs.axes.AxisRanks.widen_plane_by.Goals as goal
+use Rattle.wkb_bounds.proofs.axes.AxisExtremes.widen_plane_by.Goals as goal
+
+pub counting-x-requires : goal.counting-x-requires
+counting-x-requires c = omega (arith, c.requires.room x_axis)
+
+pub counting-y-requires : goal.counting-y-requires
+counting-y-requires c = omega (arith, c.requires.room y_axis)
 
 pub loop-left-init : goal.loop-left-init
-loop-left-init c =
-    let run = c.args.run in
-    record {
-      x_left = run_first c.args.tested 0 c.args.self.now.x run (omega arith) (c.requires.room x_axis);
-      y_left = run_first c.args.tested 1 c.args.self.now.y run (omega arith) (c.requires.room y_axis);
-    }
+loop-left-init c = record {
+  x_left = run_first 0 (omega arith) c.counting-x.ensures;
+  y_left = run_first 1 (omega arith) c.counting-y.ensures;
+}
 
 pub loop-left-preserved : goal.loop-left-preserved
 loop-left-preserved c = search (rules, run_next)
