@@ -246,27 +246,15 @@ impl<'a> Pieces<'a> {
         }
     }
 
-    /// The next piece, if it is a ring. No geometry follows the rings, so it is the one that `next` returns.
+    /// The next piece, if it is a ring. Where no geometry follows the rings, it is the one that `next` returns.
     #[inline(always)]
     pub fn next_if_ring(&mut self) -> Option<Piece>
-        requires ahead { HasAhead self.old }
-        requires alone { self.old.geometries ≡ 0 }
-        ensures steps { Steps self.old result self.new }
+        requires { HasAhead self.old }
+        ensures taken { TakesOrStays self.old result self.new }
         ensures ring { IfSome result (IsRing self.old.order self.old.dimension) }
-        ensures rings { AreRings self.old.order self.old.dimension self.new }
-    {
-        if self.rings > 0 {
-            Some(self.next_ring())
-        } else {
-            None
-        }
-    }
-
-    /// The next piece, if it is a ring. Geometries may follow the rings.
-    #[inline(always)]
-    pub fn next_of_rings(&mut self) -> Option<Piece>
-        requires ahead { HasAhead self.old }
-        ensures { TakesOrStays self.old result self.new }
+        ensures steps { self.old.geometries ≡ 0 → Steps self.old result self.new }
+        ensures rings { self.old.geometries ≡ 0
+            → AreRings self.old.order self.old.dimension self.new }
     {
         if self.rings > 0 {
             Some(self.next_ring())

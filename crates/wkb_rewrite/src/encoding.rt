@@ -96,7 +96,7 @@ fn lay_each_piece(buf: &[u8], first: &Piece, options: WriteOptions, out: &mut [u
     loop {
         if let Some(piece) = pieces.next_bare(other(endianness)) {
             at = lay_piece(buf, &piece, inner, out, at);
-            while let Some(ring) = pieces.next_of_rings() {
+            while let Some(ring) = pieces.next_if_ring() {
                 at = lay_piece(buf, &ring, inner, out, at);
             }
         } else if let Some(piece) = pieces.next() {

@@ -16,21 +16,25 @@ loop-ring-init c = record {
   alone = (c.behind-pieces.ensures.rings c.requires.polygon).alone;
 }
 
-pub next_if_ring-requires-clause-ahead : goal.next_if_ring-requires-clause-ahead
-next_if_ring-requires-clause-ahead c =
+pub next_if_ring-requires : goal.next_if_ring-requires
+next_if_ring-requires c =
     let l = c.loop-ring.invariant.walk.left c.requires.here in record { pieces = l.ps; are = l.ahead }
 
 pub lay_piece_levels-requires-in-Some : goal.lay_piece_levels-requires-in-Some
 lay_piece_levels-requires-in-Some c =
-    piece_fits c.loop-ring.invariant.walk c.in-Some.ensures.steps.steps c.requires.here
+    let l = c.loop-ring.invariant in
+    piece_fits l.walk (c.in-Some.ensures.steps l.alone).steps c.requires.here
 
 pub loop-ring-preserved : goal.loop-ring-preserved
-loop-ring-preserved c = record {
-  walk =
-      walk_on c.loop-ring.invariant.walk c.in-Some.ensures.steps.steps c.with-at-in-Some.ensures
-      c.lay_piece_levels-in-Some.ensures.laid c.lay_piece_levels-in-Some.ensures.same_slices;
-  alone = c.next_if_ring.ensures.rings.alone;
-}
+loop-ring-preserved c =
+    let l = c.loop-ring.invariant in
+    record {
+      walk =
+          walk_on l.walk (c.in-Some.ensures.steps l.alone).steps c.with-at-in-Some.ensures
+          c.lay_piece_levels-in-Some.ensures.laid c.lay_piece_levels-in-Some.ensures.same_slices;
+      alone = (c.next_if_ring.ensures.rings l.alone).alone;
+    }
 
 pub returns-clause-levels : goal.returns-clause-levels
-returns-clause-levels c = walk_ends c.loop-ring.invariant.walk c.in_default.ensures.steps.steps
+returns-clause-levels c = 
+    let l = c.loop-ring.invariant in walk_ends l.walk (c.in_default.ensures.steps l.alone).steps

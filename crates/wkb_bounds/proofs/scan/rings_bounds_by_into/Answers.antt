@@ -28,8 +28,8 @@ loop-ring-init c =
       inside = behind.inside.inside;
     }
 
-pub next_if_ring-requires-clause-ahead : goal.next_if_ring-requires-clause-ahead
-next_if_ring-requires-clause-ahead c =
+pub next_if_ring-requires : goal.next_if_ring-requires
+next_if_ring-requires c =
     let x = c.loop-ring.invariant.so_far c.requires.here in
     record { pieces = x.left; are = x.ahead }
 
@@ -37,7 +37,7 @@ pub loop-ring-preserved : goal.loop-ring-preserved
 loop-ring-preserved c =
     let l = c.loop-ring.invariant in
     let p = c.in-Some.ring in
-    let s = c.in-Some.ensures.steps in
+    let s = c.in-Some.ensures.steps l.rings.alone in
     let ring = ring_of l.rings c.in-Some.ensures.ring in
     let low = ap (λ k. nat_lt k 3) ring.kind_is in
     record {
@@ -47,7 +47,7 @@ loop-ring-preserved c =
           c.widen.ensures a
           ∙ rw (c.rest_from-bytes.ensures)
           (ap (widened (on a (bounds_by c.loop-ring.extremes))) (sym (ring_words a c.args.buf.now p ring))));
-      rings = rings_after l.rings c.next_if_ring.ensures.rings;
+      rings = rings_after l.rings (c.next_if_ring.ensures.rings l.rings.alone);
       same = s.same ∙ l.same;
       few = λ a.
           omega (
@@ -63,4 +63,5 @@ loop-ring-preserved c =
 pub returns : goal.returns
 returns c = λ g.
     subst (λ b. AreBounds b g.value) (sym c.bounds.ensures)
-    (all_passed (c.loop-ring.invariant.so_far g) c.in_default.is c.next_if_ring.ensures.steps)
+    (all_passed (c.loop-ring.invariant.so_far g) c.in_default.is
+    (c.next_if_ring.ensures.steps c.loop-ring.invariant.rings.alone))

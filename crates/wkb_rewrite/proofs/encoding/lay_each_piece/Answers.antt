@@ -35,21 +35,21 @@ loop-ring-init c = record {
   fewer = omega arith;
 }
 
-pub next_of_rings-requires : goal.next_of_rings-requires
-next_of_rings-requires c = record { ahead = some_ahead (c.loop-ring.invariant.left c.requires.here).rest }
+pub next_if_ring-requires : goal.next_if_ring-requires
+next_if_ring-requires c = some_ahead (c.loop-ring.invariant.left c.requires.here).rest
 
-pub lay_piece-at-requires-in-Some-next_of_rings : goal.lay_piece-at-requires-in-Some-next_of_rings
-lay_piece-at-requires-in-Some-next_of_rings c =
+pub lay_piece-at-requires-in-Some-next_if_ring : goal.lay_piece-at-requires-in-Some-next_if_ring
+lay_piece-at-requires-in-Some-next_if_ring c =
     let here = c.requires.here in
-    next_fits (c.loop-ring.invariant.left here) (stepped c.in-Some-next_of_rings.ensures) (c.requires.room here)
+    next_fits (c.loop-ring.invariant.left here) (stepped c.in-Some-next_if_ring.ensures.taken) (c.requires.room here)
 
 pub loop-ring-preserved : goal.loop-ring-preserved
 loop-ring-preserved c =
-    let s = stepped c.in-Some-next_of_rings.ensures in
+    let s = stepped c.in-Some-next_if_ring.ensures.taken in
     record {
       left = λ g.
           left_inside (c.loop-ring.invariant.left g) (inner_again c.args.options.form c.inner.ensures) s
-          c.lay_piece-at-in-Some-next_of_rings.ensures;
+          c.lay_piece-at-in-Some-next_if_ring.ensures;
       fewer = omega (arith, c.loop-ring.invariant.fewer, fewer_left s);
     }
 

@@ -21,26 +21,26 @@ loop-ring-init c =
     }
 
 pub next_if_ring-requires : goal.next_if_ring-requires
-next_if_ring-requires c =
-    let l = c.loop-ring.invariant in
-    record { ahead = some_ahead (l.left c.requires.here).rest; alone = l.alone }
+next_if_ring-requires c = some_ahead (c.loop-ring.invariant.left c.requires.here).rest
 
 pub lay_piece-at-requires-in-Some : goal.lay_piece-at-requires-in-Some
 lay_piece-at-requires-in-Some c =
     let here = c.requires.here in
-    next_fits (c.loop-ring.invariant.left here) c.in-Some.ensures.steps (c.requires.room here)
+    let l = c.loop-ring.invariant in
+    next_fits (l.left here) (c.in-Some.ensures.steps l.alone) (c.requires.room here)
 
 pub loop-ring-preserved : goal.loop-ring-preserved
 loop-ring-preserved c = record {
   left = λ g.
       left_inside (c.loop-ring.invariant.left g) (inner_again c.args.options.form c.inner.ensures)
-      c.in-Some.ensures.steps c.lay_piece-at-in-Some.ensures;
-  alone = c.next_if_ring.ensures.rings.alone;
+      (c.in-Some.ensures.steps c.loop-ring.invariant.alone) c.lay_piece-at-in-Some.ensures;
+  alone = (c.next_if_ring.ensures.rings c.loop-ring.invariant.alone).alone;
 }
 
 pub returns : goal.returns
 returns c = record {
   laid = λ g.
       let l = c.loop-ring.invariant.left g in
-      (left_none l (none_taken l.rest c.in_default.is c.next_if_ring.ensures.steps)).1;
+      let s = c.next_if_ring.ensures.steps c.loop-ring.invariant.alone in
+      (left_none l (none_taken l.rest c.in_default.is s)).1;
 }
