@@ -1,6 +1,6 @@
 //! The encoding of a geometry that is known to be there, piece by piece.
 
-ghost use Rattle.std.specs.Prelude.{◌≡◌, ◌+◌, ◌<◌, ◌≤◌};
+ghost use Rattle.std.specs.Prelude.{◌≡◌, ◌≢◌, ◌+◌, ◌<◌, ◌≤◌};
 ghost use Rattle.wkb_geom.specs.declared.common.Endianness.{Endianness};
 ghost use Rattle.wkb_geom.specs.declared.code.TheConstants.{MULTI_POINT, POLYGON};
 ghost use Rattle.wkb_geom.specs.declared.header.TheConstants.{SRID_SIZE};
@@ -61,6 +61,9 @@ pub fn encoded_size(buf: &[u8], found: &Summary, form: Form) -> usize
 
 /// Lays the encoding of a geometry that is known to be at the start of these bytes at the start of a slice, which has
 /// room for it, and returns its size. What comes after it in the slice stays as it was.
+///
+/// It isn't inlined, so that what `lay_encoding` lays by shorter code doesn't pay for its frame.
+#[inline(never)]
 pub fn lay_pieces(buf: &[u8], options: WriteOptions, out: &mut [u8]) -> usize
     requires here { HasGeometry buf.now }
     requires room { FrontFits buf.now options out.old }
@@ -107,6 +110,27 @@ fn lay_each_piece(buf: &[u8], first: &Piece, options: WriteOptions, out: &mut [u
     }
 }
 
+/// As `lay_encoding`, for a geometry in the other order: both orders are constants, for which the calls are compiled.
+///
+/// It isn't marked as inlined, so that LLVM optimizes it twice: else points share the code of other pieces.
+fn lay_turned(buf: &[u8], found: &Summary, options: WriteOptions, out: &mut [u8]) -> usize
+    requires here { DescribesFront buf.now found.now }
+    requires turned { found.now.order ≢ options.endianness }
+    requires room { FrontFits buf.now options out.old }
+    ensures size { IsFrontSize buf.now options.endianness options.form result }
+    ensures laid { LaysFront buf.now options out.old out.new }
+{
+    let WriteOptions { endianness, form } = options;
+    by_order!(
+        endianness,
+        {
+            let order = other(endianness);
+            let first = Piece::outermost(buf, &Summary { order, ..*found });
+            lay_each_piece(buf, &first, WriteOptions { endianness, form }, out)
+        }
+    )
+}
+
 /// As `lay_pieces`, for the geometry in which the check found this. Where all that follows its header stands as it is
 /// written, it is copied at once.
 pub fn lay_encoding(buf: &[u8], found: &Summary, options: WriteOptions, out: &mut [u8]) -> usize
@@ -119,6 +143,9 @@ pub fn lay_encoding(buf: &[u8], found: &Summary, options: WriteOptions, out: &mu
     if first.has_coordinates() {
         // It is the only piece.
         return lay_piece(buf, &first, options, out, 0);
+    }
+    if found.order != options.endianness {
+        return lay_turned(buf, found, options, out);
     }
     match Copied::of(buf, found, options) {
         Some(copied) => copied.lay(out),
