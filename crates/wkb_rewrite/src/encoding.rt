@@ -210,10 +210,9 @@ pub fn lay_one_piece(buf: &[u8], found: &Summary, options: WriteOptions, out: &m
     requires room { FrontFits buf.now options out.old }
     ensures laid { LaysFront buf.now options out.old out.new }
 {
-    let first = Piece::outermost(buf, found);
-    // In the first arm the kind is a constant, for which the call is compiled.
+    // In the first arm the kind is a constant, for which the calls are compiled.
     match found.wkb_type {
-        WkbType::Point(_) => lay_piece(buf, &first, options, out, 0),
-        _ => lay_piece(buf, &first, options, out, 0),
+        WkbType::Point(_) => lay_piece(buf, &Piece::outermost(buf, found), options, out, 0),
+        _ => lay_piece(buf, &Piece::outermost(buf, found), options, out, 0),
     };
 }
