@@ -198,6 +198,7 @@ pub fn plain_bounds_into(buf: &[u8], bounds: &mut Bounds) -> bool
 
 /// Writes what [`bounds`] finds into the caller's bounds, or leaves these as they are and returns its refusal.
 #[tactic(auto, using(crate::proofs::Scanning::front_there, crate::proofs::Scanning::bounds_front))]
+#[inline(always)]
 pub fn any_bounds_into(buf: &[u8], bounds: &mut Bounds) -> Result<(), Refused>
     ensures front { IfOk result (λ _. BoundsFront buf.now bounds.new) }
     ensures one_front { IfOk result (λ _. BoundsOnlyFront buf.now bounds.new) }

@@ -38,12 +38,12 @@ pub extern "C" fn wkb_raw_check(buf: &[u8], found: &mut Found, fault: &mut WkbFa
 fn check_any(buf: &[u8], found: &mut Found, fault: &mut WkbFault) -> u32
     ensures { TellsFound buf.now found.old found.new fault.old fault.new result }
 {
-    match check_input(buf, fault) {
+    match check(buf) {
         Ok(summary) => {
             *found = found_of(buf, &summary);
             OK
         }
-        Err(status) => status,
+        Err(refused) => report_refusal(&refused, fault),
     }
 }
 
