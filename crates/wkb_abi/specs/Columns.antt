@@ -31,10 +31,6 @@ pub record IsOffset (offsets : List ℕ) (size i n : ℕ) : Type 0 where
   pub number_is : n ≡ number LittleEndian size (drop (size * i) offsets)
   pub not_negative : n < 2 ^ (8 * size - 1)
 
--- no number is offset i
-abbrev pub HasNoOffset : List ℕ → ℕ → ℕ → Type 0
-HasNoOffset offsets size i = (n : ℕ) → IsOffset offsets size i n → ⊥
-
 -- row i has the bytes from here up to there: its offsets are not negative, and neither decrease nor pass the end
 pub record IsSpan (bytes offsets : List ℕ) (size i start end : ℕ) : Type 0 where
   pub start_is : IsOffset offsets size i start

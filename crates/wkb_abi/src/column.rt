@@ -3,7 +3,7 @@
 ghost use Rattle.std.specs.Prelude.{◌≡◌, ◌+◌, ◌*◌, ◌<◌, ◌≤◌, ◌^◌, length, IfSome, IfNone, IfOk, IfErr};
 ghost use Rattle.wkb_check.specs.Public.{DescribesFront};
 ghost use Rattle.wkb_abi.specs.Classes.{IsRowStatus, FitsByte};
-ghost use Rattle.wkb_abi.specs.Columns.{is_unset_bit, IsOffset, HasNoOffset, IsSpan, HasNoSpan, Reach, RowsFollow};
+ghost use Rattle.wkb_abi.specs.Columns.{is_unset_bit, IsSpan, HasNoSpan, Reach, RowsFollow};
 ghost use Rattle.wkb_abi.specs.Columns.{RowsFit, IsRow, LacksRow, IsRefusedWith};
 
 use crate::fault::status_of_cause;
@@ -82,64 +82,54 @@ pub fn is_unset(bitmap: &[u8], first: usize, i: usize) -> bool
     }
 }
 
-/// Offset i of four bytes, if there is one that isn't negative.
+/// Offset i of four bytes and the next one, if these aren't negative and don't decrease or pass the end of the bytes.
 #[inline(always)]
-fn offset_of_four(offsets: &[u8], i: usize) -> Option<u64>
-    ensures some { IfSome result (λ n. IsOffset offsets.now 4 i n) }
-    ensures none { IfNone result (HasNoOffset offsets.now 4 i) }
+fn span_of_four(bytes: &[u8], offsets: &[u8], i: usize) -> Option<(u64, u64)>
+    requires { i < 2 ^ 63 }
+    ensures some { IfSome result (λ span. IsSpan bytes.now offsets.now 4 i span.0 span.1) }
+    ensures none { IfNone result (HasNoSpan bytes.now offsets.now 4 i) }
 {
-    if offsets.len() / 4 <= i {
+    if offsets.len() / 4 <= i + 1 {
         return None;
     }
-    let n = u32_at(offsets, 4 * i, Endianness::LittleEndian);
-    if n >= 1 << 31 {
+    let start = u32_at(offsets, 4 * i, Endianness::LittleEndian);
+    let end = u32_at(offsets, 4 * (i + 1), Endianness::LittleEndian);
+    if end < start || end >= 1 << 31 || bytes.len() < end as usize {
         return None;
     }
-    Some(n as u64)
+    Some((start as u64, end as u64))
 }
 
-/// Offset i of eight bytes, if there is one that isn't negative.
+/// As `span_of_four`, of eight bytes. An offset that isn't past the end isn't negative, since no slice is that long.
 #[inline(always)]
-fn offset_of_eight(offsets: &[u8], i: usize) -> Option<u64>
-    ensures some { IfSome result (λ n. IsOffset offsets.now 8 i n) }
-    ensures none { IfNone result (HasNoOffset offsets.now 8 i) }
+fn span_of_eight(bytes: &[u8], offsets: &[u8], i: usize) -> Option<(u64, u64)>
+    requires { i < 2 ^ 63 }
+    ensures some { IfSome result (λ span. IsSpan bytes.now offsets.now 8 i span.0 span.1) }
+    ensures none { IfNone result (HasNoSpan bytes.now offsets.now 8 i) }
 {
-    if offsets.len() / 8 <= i {
+    if offsets.len() / 8 <= i + 1 {
         return None;
     }
-    let n = u64_at(offsets, 8 * i, Endianness::LittleEndian);
-    if n >= 1 << 63 {
+    let start = u64_at(offsets, 8 * i, Endianness::LittleEndian);
+    let end = u64_at(offsets, 8 * (i + 1), Endianness::LittleEndian);
+    if end < start || (bytes.len() as u64) < end {
         return None;
     }
-    Some(n)
+    Some((start, end))
 }
 
-/// Offset i of `size` bytes, if there is one that isn't negative.
-#[inline(always)]
-fn offset(offsets: &[u8], size: usize, i: usize) -> Option<u64>
-    ensures some { IfSome result (λ n. IsOffset offsets.now size i n) }
-    ensures none { IfNone result (HasNoOffset offsets.now size i) }
-{
-    match size {
-        4 => offset_of_four(offsets, i),
-        8 => offset_of_eight(offsets, i),
-        _ => None,
-    }
-}
-
-/// Offset i and the next one, if these don't decrease or pass the end of the bytes.
+/// Offset i of `size` bytes and the next one, if these aren't negative and don't decrease or pass the end of the bytes.
 #[inline(always)]
 fn span_of_row(bytes: &[u8], offsets: &[u8], size: usize, i: usize) -> Option<(u64, u64)>
     requires { i < 2 ^ 63 }
     ensures some { IfSome result (λ span. IsSpan bytes.now offsets.now size i span.0 span.1) }
     ensures none { IfNone result (HasNoSpan bytes.now offsets.now size i) }
 {
-    let start = offset(offsets, size, i)?;
-    let end = offset(offsets, size, i + 1)?;
-    if end < start || (bytes.len() as u64) < end {
-        return None;
+    match size {
+        4 => span_of_four(bytes, offsets, i),
+        8 => span_of_eight(bytes, offsets, i),
+        _ => None,
     }
-    Some((start, end))
 }
 
 /// The geometry at the start of a row, or the status of its refusal.
