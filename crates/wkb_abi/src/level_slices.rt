@@ -6,6 +6,7 @@ ghost use Rattle.wkb_geom.specs.Dimensions.{width};
 ghost use Rattle.wkb_geom.specs.Numbers.{number};
 ghost use Rattle.wkb_geom.specs.Reading.{coordinate, items};
 ghost use Rattle.wkb_geom.specs.declared.code.TheConstants.{POLYGON};
+ghost use Rattle.wkb_geom.specs.declared.common.Endianness.TheVariants.{LittleEndian};
 ghost use Rattle.wkb_check.specs.Known.{HasGeometry};
 ghost use Rattle.wkb_check.specs.Pieces.{IsPieceAt};
 ghost use Rattle.wkb_abi.specs.Coordinates.{z_of, m_of, HasRoomUpTo};
@@ -16,7 +17,7 @@ ghost use Rattle.wkb_abi.specs.PieceLevels.{PieceFits, with_piece};
 
 use crate::totals::{Totals, is_single};
 use wkb_check::{Piece, Pieces};
-use wkb_geom::code::POLYGON;
+use wkb_geom::code::{POINT, POLYGON};
 use wkb_geom::words::{EMPTY_WORD, WORD_SIZE, rest_from, u64_at};
 use wkb_geom::{Dimension, Endianness, by_order};
 
@@ -123,15 +124,16 @@ fn lay_ordered(
     }
 }
 
-/// Writes words of this order as they come. Where the order is little endian this is compiled to one copy.
-#[inline(always)]
-fn lay_words(bytes: &[u8], words: usize, order: Endianness, out: &mut [u64], start: usize)
+/// Writes words of little endian as they come. It isn't inlined, so that the compiler knows that what it writes to is
+/// apart from what it reads, and makes it one copy.
+#[inline(never)]
+fn lay_words(bytes: &[u8], words: usize, out: &mut [u64], start: usize)
     requires inside { 8 * words ≤ length bytes.now }
     requires room { start + words ≤ length out.old }
-    ensures { out.new ≡ sets out.old start (items 8 (number order 8) words bytes.now) }
+    ensures { out.new ≡ sets out.old start (items 8 (number LittleEndian 8) words bytes.now) }
 {
     for k in 0..words {
-        out[start + k] = u64_at(bytes, k * WORD_SIZE, order);
+        out[start + k] = u64_at(bytes, k * WORD_SIZE, Endianness::LittleEndian);
     }
 }
 
@@ -171,9 +173,6 @@ fn lay_many_coordinates(
 {
     use Dimension::{Xy, Xyz, Xyzm};
     use Endianness::{BigEndian as Big, LittleEndian as Little};
-    if order == Little && own == asked {
-        return lay_words(bytes, own.width() * count as usize, Little, out, start);
-    }
     match (order, own, asked) {
         (Big, Xy, Xy) => lay_ordered(bytes, count, Big, Xy, Xy, out, start),
         (Big, Xyz, Xyz) => lay_ordered(bytes, count, Big, Xyz, Xyz, out, start),
@@ -191,19 +190,23 @@ fn lay_piece_coordinates(row: &[u8], piece: &Piece, asked: Dimension, out: &mut 
     ensures { out.new ≡ sets out.old start (words_asked_of asked row.now piece.now) }
 {
     let bytes = rest_from(row, piece.offset);
-    if piece.count == 1 {
-        lay_one_coordinate(bytes, piece.order, piece.dimension, asked, out, start);
-    } else {
-        lay_many_coordinates(
-            bytes,
-            piece.count,
-            piece.order,
-            piece.dimension,
-            asked,
-            out,
-            start,
-        );
+    // A ring is no point, which the compiler knows, so that only a point is tested for this.
+    if piece.kind == POINT && piece.count == 1 {
+        return lay_one_coordinate(bytes, piece.order, piece.dimension, asked, out, start);
     }
+    if piece.order == Endianness::LittleEndian && piece.dimension == asked {
+        let words = piece.dimension.width() * piece.count as usize;
+        return lay_words(bytes, words, out, start);
+    }
+    lay_many_coordinates(
+        bytes,
+        piece.count,
+        piece.order,
+        piece.dimension,
+        asked,
+        out,
+        start,
+    );
 }
 
 /// Whether so many words hold so many coordinates. The division is by a constant in each arm, so that it is a shift or
@@ -325,7 +328,11 @@ fn lay_by_kind(row: &[u8], first: &Piece, from: Totals, asked: Dimension, out: &
     if first.has_coordinates() {
         lay_piece_levels(row, first, asked, from, out);
     } else if first.kind == POLYGON {
-        lay_rings(row, first, from, asked, out);
+        // In the first arm the loop tests neither for each ring.
+        match (first.order, first.dimension == asked) {
+            (Endianness::LittleEndian, true) => lay_rings(row, first, from, asked, out),
+            _ => lay_rings(row, first, from, asked, out),
+        }
     } else {
         lay_walked(row, first, from, asked, out);
     }

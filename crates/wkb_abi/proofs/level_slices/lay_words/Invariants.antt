@@ -1,9 +1,10 @@
 use Rattle.wkb_abi.proofs.Common.{◌-◌, ◌+◌, ◌*◌, sets, number}
 use Rattle.wkb_geom.specs.Reading.{items}
+use Rattle.wkb_geom.specs.declared.common.Endianness.TheVariants.{LittleEndian}
 use Rattle.wkb_abi.proofs.Levels.{PlainLeft}
 use Rattle.wkb_abi.proofs.level_slices.lay_words.Given as goal
 
 abbrev pub invariant-loop-k : goal.invariant-loop-k
 invariant-loop-k l =
-    PlainLeft l.order l.bytes (sets l.initial.out l.start (items 8 (number l.order 8) l.words l.bytes)) (l.words - l.k)
-    (8 * l.k) (l.start + l.k) l.out
+    PlainLeft LittleEndian l.bytes (sets l.initial.out l.start (items 8 (number LittleEndian 8) l.words l.bytes))
+    (l.words - l.k) (8 * l.k) (l.start + l.k) l.out
