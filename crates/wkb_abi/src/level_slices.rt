@@ -340,13 +340,7 @@ fn lay_by_kind(row: &[u8], first: &Piece, from: Totals, asked: Dimension, out: &
 
 /// Writes the levels of a polygon from the totals on, for which there is room, by its first piece.
 #[inline(always)]
-pub fn lay_rings(
-    row: &[u8],
-    first: &Piece,
-    from: Totals,
-    asked: Dimension,
-    out: &mut LevelSlices<'_>,
-)
+fn lay_rings(row: &[u8], first: &Piece, from: Totals, asked: Dimension, out: &mut LevelSlices<'_>)
     requires here { HasGeometry row.now }
     requires first { IsPieceAt row.now 0 first.now }
     requires polygon { first.now.kind ≡ POLYGON }

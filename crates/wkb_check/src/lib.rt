@@ -11,6 +11,6 @@ mod pieces;
 mod skip;
 mod walk;
 
-pub use answer::{Refused, Summary, check, check_member, check_plain};
+pub use answer::{Refused, Summary, check, check_headed, check_member, check_plain};
 pub use head::size_of_srid;
 pub use pieces::{Piece, Pieces, RING};
