@@ -3,33 +3,12 @@
 ghost use Rattle.std.specs.Prelude.{◌+◌, ◌<◌, ◌^◌};
 ghost use Rattle.wkb_abi.specs.Classes.{FitsByte};
 ghost use Rattle.wkb_abi.specs.Checks.{IsFound, all_zeros};
-ghost use Rattle.wkb_abi.specs.Columns.{Reach, BytesShow, RowShows, RowsShow, AreStatuses};
+ghost use Rattle.wkb_abi.specs.Columns.{Reach, RowShows, RowsShow, AreStatuses};
 ghost use Rattle.wkb_abi.specs.RowItems.{SetsRows, rows_of};
 
-use wkb_abi::column::{Column, check_row};
+use wkb_abi::column::{Column, found_in};
 use wkb_abi::found::{Found, NOTHING_FOUND, found_of};
 use wkb_abi::status::OK;
-use wkb_check::check_plain;
-
-/// Lays what the check finds of some bytes by the long way, and returns their status.
-///
-/// It isn't inlined, so that rows that take the short way don't pay for its frame.
-#[inline(never)]
-fn find_any(row: &[u8], found: &mut Found) -> u32
-    ensures found { BytesShow IsFound all_zeros row.now result found.new }
-    ensures known { FitsByte result }
-{
-    match check_row(row) {
-        Ok(summary) => {
-            *found = found_of(row, &summary);
-            OK
-        }
-        Err(status) => {
-            *found = NOTHING_FOUND;
-            status
-        }
-    }
-}
 
 /// Lays what the check finds of row i, and returns its status.
 fn find_row(column: &Column, i: usize, reach: &mut u64, found: &mut Found) -> u32
@@ -46,12 +25,15 @@ fn find_row(column: &Column, i: usize, reach: &mut u64, found: &mut Found) -> u3
             return status;
         }
     };
-    match check_plain(row) {
-        Some(plain) => {
-            *found = found_of(row, &plain);
+    match found_in(row) {
+        Ok(in_row) => {
+            *found = found_of(row, &in_row);
             OK
         }
-        None => find_any(row, found),
+        Err(status) => {
+            *found = NOTHING_FOUND;
+            status
+        }
     }
 }
 

@@ -36,5 +36,5 @@ loop-ring-preserved c =
     }
 
 pub returns-clause-levels : goal.returns-clause-levels
-returns-clause-levels c = 
+returns-clause-levels c =
     let l = c.loop-ring.invariant in walk_ends l.walk (c.in_default.ensures.steps l.alone).steps

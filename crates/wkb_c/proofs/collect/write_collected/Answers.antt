@@ -1,4 +1,4 @@
-use Rattle.wkb_abi.proofs.Common.{arith, ℕ, length-append, drop, refl, ◌+◌, ◌++◌, ◌∙◌}
+use Rattle.wkb_abi.proofs.Common.{arith, ℕ, length-append, drop, refl, ◌++◌, ◌∙◌}
 use Rattle.wkb_c.specs.Collections.{front_of, inside_of}
 use Rattle.wkb_c.proofs.Gathering.{one_list, never_unfit, whole_laid}
 use Rattle.wkb_c.proofs.RowItems.{lent_rest}
