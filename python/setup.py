@@ -68,7 +68,8 @@ class Build(build_py):
         native = next(it for it in (HERE / "native", HERE.parent / "c", HERE.parent) if it.exists())
         library, build = os.environ.get("WKB_BUILT"), pathlib.Path(self.build_lib).resolve().parent / "native"
         if not library:
-            own = [f"BUILD={build}", f"PACKAGE={HERE}"]
+            # By relative paths, since make takes no space, which the folder of all this may have in its name.
+            own = [f"BUILD={os.path.relpath(build, native)}", f"PACKAGE={os.path.relpath(HERE, native)}"]
             subprocess.run(["make", "-s", "-C", os.fspath(native), *own, "inside"], check=True)
             library, = (build / "package" / "porchsorrel_wkb").glob("libwkb.*")
         to = HERE / "src" if getattr(self, "editable_mode", False) else pathlib.Path(self.build_lib)
