@@ -30,7 +30,7 @@ DIST = f"{PYTHON} {RUST} {SYSTEMS} {SOURCES} sqlite/* postgres/* LICENSES/* .reu
 READS = {
     "make c/test/alone/header_test checks/hosts/sanitize": C,
     "docs/START_C.md": f"{C} LICENSE-*",
-    "checks/library/try checks/library/lasting": f"{C} checks/library/* bench/peers_src/*",
+    "checks/library/try checks/library/lasting": f"{C} checks/library/*",
     "checks/hosts/fuzz": f"{C} checks/hosts/fuzz_src/* bench/c/*",
     "checks/hosts/cost": f"{C} checks/hosts/* sqlite/* {PYTHON} {RUST}",
     " ".join(f"checks/systems/{it}_test" for it in "windows install cmake unrun pads cross".split()): SYSTEMS,

@@ -46,12 +46,11 @@ def is_not_a_number(word):
 
 
 class Reader:
-    """Reads one geometry, and keeps how many parts were begun, and what not every program reads."""
+    """Reads one geometry, and keeps how many parts were begun."""
 
     def __init__(self, data):
         self.data, self.at = data, 0
-        self.parts = self.coordinates = self.deepest = 0
-        self.has_srids = self.has_joined_codes = False
+        self.parts = self.coordinates = 0
 
     def number(self, order, size=4):
         """The next number. The caller has seen that it is there."""
@@ -81,9 +80,6 @@ class Reader:
             raise Refused(CODE_OUT_OF_RANGE, part, begin, code=code)
         dimension = (thousands & 1 or bool(code & FLAG_Z)) + 2 * (thousands >= 2 or bool(code & FLAG_M))
         has_srid = bool(code & FLAG_SRID)
-        self.has_srids |= has_srid
-        self.has_joined_codes |= thousands > 0 and bool(code & (FLAG_Z | FLAG_M))
-        self.deepest = max(self.deepest, depth)
         if wanted and (wanted != (kind, dimension) or kind == POINT and has_srid):
             raise Refused(INCORRECT_TYPE, part, begin)
         if kind == COLLECTION and depth == DEEPEST:
