@@ -69,6 +69,7 @@ class Versions(unittest.TestCase):
             self.assertEqual([it for it, text in back.items() if text != (pages.ROOT / it).read_bytes()], [])
             earlier = re.search(r"(?m)^EARLIER = .*", pages.text_of("postgres/Makefile"))[0]
             self.assertIn(f"{earlier} {self.version}\n", there["postgres/Makefile"].decode())
+            self.assertIn("postgres/wkb--1.10.0.sql", there)
             for path, pattern in NAMED:
                 if path != "CHANGELOG.md":
                     self.assertEqual({*re.findall(pattern, there[path].decode())}, {"1.10.0"}, path)
