@@ -74,7 +74,7 @@ class Gate(unittest.TestCase):
             with self.subTest(step=step):
                 status, called, printed = self.gate(fails=step)
                 self.assertEqual((status, called), (1, {"rt ci", "checks/run"} if step == "rt ci" else listed()))
-                self.assertRegex(printed, rf"(?m)^{re.escape(step)} .*FAILED$")
+                self.assertRegex(printed, rf"(?m)^{re.escape(step)}: .*FAILED$")
         self.assertEqual(self.gate(leaves="checks/run")[0], 1)
         self.assertEqual(self.gate(leaves="checks/run,tools/install_peers --missing")[0], 0)
         self.assertFalse(self.passed())
