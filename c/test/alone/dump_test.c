@@ -128,18 +128,21 @@ static void try_hex(void) {
       {"\\", NULL, 0}, {"01 0", NULL, 4}, {"01@1", NULL, 2}, {"01`1", NULL, 2}, {"01G1", NULL, 2}, {"/1", NULL, 0},
       {"0:", NULL, 1}, {"\x10\x11", NULL, 0}};
   for (size_t i = 0; i < sizeof TEXTS / sizeof TEXTS[0]; i++) {
-    char text[32], bytes[64] = "";
+    char bytes[64] = "";
     size_t length = strlen(TEXTS[i].text), wrong = 0;
-    memcpy(text, TEXTS[i].text, length + 1);
+    /* In a block of its own, as the rows below. */
+    char *text = malloc(length > 0 ? length : 1);
+    if (text == NULL) exit(3);
+    memcpy(text, TEXTS[i].text, length);
     size_t count = wkb_dump_from_hex(text, length, &wrong);
     bool is_hex = count != WKB_DUMP_NOT_HEX;
     for (size_t k = 0; is_hex && k < count; k++) snprintf(bytes + 2 * k, 3, "%02x", (unsigned char)text[k]);
-    const char *meant = is_hex ? TEXTS[i].bytes : TEXTS[i].text;
-    if (is_hex != (TEXTS[i].bytes != NULL) || strcmp(is_hex ? bytes : text, meant) != 0 ||
-        (!is_hex && wrong != TEXTS[i].wrong)) {
+    if (is_hex != (TEXTS[i].bytes != NULL) || (is_hex && strcmp(bytes, TEXTS[i].bytes) != 0) ||
+        (!is_hex && (memcmp(text, TEXTS[i].text, length) != 0 || wrong != TEXTS[i].wrong))) {
       printf("hex: %s\n", TEXTS[i].text);
       exit(1);
     }
+    free(text);
   }
 }
 
