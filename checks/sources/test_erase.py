@@ -42,3 +42,11 @@ class Erase(unittest.TestCase):
         for source, why in REFUSED.items():
             with self.assertRaisesRegex(SystemExit, why):
                 erase.Eraser("wkb", "it", source).output()
+
+    def test_compared(self):
+        """A step that writes another token, or joins two, is refused."""
+        for change, why in ({"new": "g"}, "f became g"), ({"gap": ""}, "has other tokens"):
+            eraser = erase.Eraser("wkb", "it", "fn f() {}")
+            eraser.paths = lambda i: vars(eraser.tokens[1]).update(change)
+            with self.assertRaisesRegex(SystemExit, why):
+                eraser.output()
