@@ -278,17 +278,21 @@ static void are_collected(const wkb_column *column) {
   }
 }
 
-/* Each row as a slice of the column. */
+/* Each row as a slice of the column, and each of the last ones with those behind it, of which the last is null. */
 static void are_sliced(const wkb_column *column) {
+  enum { LAST = 20 };
   for (size_t i = 0; i < rows; i++) {
     wkb_column slice = *column;
-    slice.offsets = (const uint8_t *)column->offsets + i * column->offset_size, slice.rows = 1;
-    slice.validity_offset += i;
-    memset(statuses, UNTOUCHED, sizeof statuses);
-    wkb_column_check(&slice, &statuses[0]);
-    wkb_column_found(&slice, found, &statuses[1]);
-    wkb_column_bounds(&slice, boxes, &statuses[2]);
-    for (int k = 0; k < 3; k++) expect(statuses[k] == status_in(i, 0, 0), "the status of a slice", "");
+    slice.offsets = (const uint8_t *)column->offsets + i * column->offset_size;
+    slice.rows = i + LAST < rows ? 1 : rows - i, slice.validity_offset += i;
+    memset(statuses, UNTOUCHED, 3 * LAST);
+    wkb_column_check(&slice, statuses);
+    wkb_column_found(&slice, found, statuses + LAST);
+    wkb_column_bounds(&slice, boxes, statuses + 2 * LAST);
+    for (size_t k = 0; k < 3 * slice.rows; k++) {
+      const size_t at = k % slice.rows;
+      expect(statuses[k / slice.rows * LAST + at] == status_in(i + at, 0, 0), "the status of a slice", "");
+    }
   }
 }
 
