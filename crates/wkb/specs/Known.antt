@@ -39,4 +39,4 @@ pub use Rattle.wkb_laws.proofs.PartsInPlace.{members_lem as members_stand, rings
 pub use Rattle.wkb_laws.proofs.PartsInPlace.{members_in_place_lem as members_in_place}
 pub use Rattle.wkb_laws.proofs.PartsInPlace.{rings_in_place_lem as rings_in_place, words_lem as words_stand}
 pub use Rattle.wkb_laws.proofs.PartsInPlace.{line_string_words_lem as line_string_words_stand}
-pub use Rattle.wkb.specs.Doubles.{in_order as ranks_in_order}
+pub use Rattle.wkb_laws.proofs.Doubles.{in_order as ranks_in_order}

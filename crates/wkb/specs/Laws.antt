@@ -1,8 +1,4 @@
 -- The statements of the lemmas of `Known`, and the records that they name.
-use Rattle.std.specs.Prelude.{◌≡◌, ℕ, ◌≤◌, false, from_bits}
-use Rattle.std.specs.Float.{binary64, ◌≤ᶠ◌}
-use Rattle.wkb_geom.specs.Numbers.{IsWord, is_nan}
-use Rattle.wkb_geom.specs.Ranks.{rank}
 pub use Rattle.wkb_laws.specs.Laws.{HasOneFront, RestIsFree, BytesAreRead, HasFront, HasRefusal, ReadOrRefused}
 pub use Rattle.wkb_laws.specs.Laws.{NeverBoth, OneRefusal, WritableIsRead, listed_inside, RefusedOutward, EndsTooEarly}
 pub use Rattle.wkb_laws.specs.Laws.{CutIsRefused, Agrees, GeometryAgrees, FrontIsRead, RefusalIsRead, FrontIsBounded}
@@ -10,6 +6,7 @@ pub use Rattle.wkb_laws.specs.Laws.{RefusalIsBounded, ReadingIsBounded, Encoding
 pub use Rattle.wkb_laws.specs.Laws.{LengthOfEncoding, LengthOfFront, FrontIsWritable, EwkbIsWritable, SizeIsRefused}
 pub use Rattle.wkb_laws.specs.Laws.{OwnSridIsWritable, RewritingIsRead, RewritingIsFixed, RewritingWithSridIsFixed}
 pub use Rattle.wkb_laws.specs.Laws.{EqualEncodings, EqualEncodingsWithSrid, EqualEncodingsWithOwnSrid, NamedDimension}
+pub use Rattle.wkb_laws.specs.Laws.{RanksInOrder}
 pub use Rattle.wkb_laws.specs.Encodings.{spelled_size, SpelledInFull, SizeOfSpelled, IsRewritable, SpelledIsWritable}
 pub use Rattle.wkb_laws.specs.Encodings.{EqualSpelled, EqualSpelledWithSrid}
 pub use Rattle.wkb_laws.specs.Places.{HasOneEncoding, HaveOneEncoding, CoordinateHasOneEncoding, behind_count, IsOneOf}
@@ -17,9 +14,3 @@ pub use Rattle.wkb_laws.specs.Places.{IsMember, first_spellings, first_values, S
 pub use Rattle.wkb_laws.specs.Places.{ring_start, StandsAt, HoldsMember, FirstStart, NextStart, FirstRingStart}
 pub use Rattle.wkb_laws.specs.Places.{NextRingStart, MembersStand, HoldsRing, RingsStand}
 pub use Rattle.wkb_laws.specs.Places.{MembersInPlace, RingsInPlace, IsWordOf, WordsStand, LineStringWordsStand}
-
--- Of two words that are numbers, the one whose rank is no higher is the number that is no greater.
-abbrev pub RanksInOrder : Type 0
-RanksInOrder =
-    (v w : ℕ) → IsWord v → IsWord w → is_nan v ≡ false → is_nan w ≡ false → rank v ≤ rank w
-    → from_bits binary64 v ≤ᶠ from_bits binary64 w

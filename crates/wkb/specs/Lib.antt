@@ -17,7 +17,6 @@ pub mod Writes
 pub mod Laws
 pub mod Known
 mod Terms
-mod Doubles
 pub mod Bridges
 pub mod Handed
 pub mod Kept

@@ -4,7 +4,7 @@ use Rattle.wkb.specs.Prelude.{IsWord, is_nan}
 use Rattle.wkb.specs.Checks.{Range, rank, with_number, with_word, widened, range_of, no_numbers}
 use Rattle.wkb.specs.Known.{ranks_in_order}
 use Rattle.wkb.specs.Ranges.{IsWithin}
-pub use Rattle.wkb.specs.Doubles.{is_number, not_nan}
+pub use Rattle.wkb_laws.proofs.Doubles.{is_number, not_nan}
 pub use Rattle.wkb.specs.Terms.{HasNumbers, IsBetween}
 
 number_of : (b : Bool) (v w : ℕ) → is_nan v ≡ false → is_nan w ≡ false → is_nan (if b then w else v) ≡ false

@@ -128,13 +128,13 @@ pub use Rattle.wkb.specs.Laws.{Agrees, GeometryAgrees, FrontIsRead, RefusalIsRea
 pub use Rattle.wkb.specs.Laws.{ReadingIsBounded, EncodingSpells, WrittenIsRead, EncodingHasSize, LengthOfEncoding}
 pub use Rattle.wkb.specs.Laws.{LengthOfFront, FrontIsWritable, EwkbIsWritable, SizeIsRefused, OwnSridIsWritable}
 pub use Rattle.wkb.specs.Laws.{RewritingIsRead, RewritingIsFixed, RewritingWithSridIsFixed, EqualEncodings}
-pub use Rattle.wkb.specs.Laws.{EqualEncodingsWithSrid, EqualEncodingsWithOwnSrid, NamedDimension, spelled_size}
-pub use Rattle.wkb.specs.Laws.{SpelledInFull, SizeOfSpelled, IsRewritable, SpelledIsWritable, EqualSpelled}
-pub use Rattle.wkb.specs.Laws.{EqualSpelledWithSrid, HasOneEncoding, HaveOneEncoding, CoordinateHasOneEncoding}
-pub use Rattle.wkb.specs.Laws.{behind_count, IsOneOf, IsMember, first_spellings, first_values, SpellsFirst, first_size}
-pub use Rattle.wkb.specs.Laws.{member_start, ring_start, StandsAt, HoldsMember, FirstStart, NextStart, FirstRingStart}
-pub use Rattle.wkb.specs.Laws.{NextRingStart, MembersStand, HoldsRing, RingsStand, MembersInPlace, RingsInPlace}
-pub use Rattle.wkb.specs.Laws.{IsWordOf, WordsStand, LineStringWordsStand, RanksInOrder}
+pub use Rattle.wkb.specs.Laws.{EqualEncodingsWithSrid, EqualEncodingsWithOwnSrid, NamedDimension, RanksInOrder}
+pub use Rattle.wkb.specs.Laws.{spelled_size, SpelledInFull, SizeOfSpelled, IsRewritable, SpelledIsWritable}
+pub use Rattle.wkb.specs.Laws.{EqualSpelled, EqualSpelledWithSrid, HasOneEncoding, HaveOneEncoding}
+pub use Rattle.wkb.specs.Laws.{CoordinateHasOneEncoding, behind_count, IsOneOf, IsMember, first_spellings, first_values}
+pub use Rattle.wkb.specs.Laws.{SpellsFirst, first_size, member_start, ring_start, StandsAt, HoldsMember, FirstStart}
+pub use Rattle.wkb.specs.Laws.{NextStart, FirstRingStart, NextRingStart, MembersStand, HoldsRing, RingsStand}
+pub use Rattle.wkb.specs.Laws.{MembersInPlace, RingsInPlace, IsWordOf, WordsStand, LineStringWordsStand}
 pub use Rattle.wkb.specs.Known.{has_one_front, rest_is_free, bytes_are_read, encoding_spells, written_is_read}
 pub use Rattle.wkb.specs.Known.{writable_is_read, rewriting_is_read, rewriting_is_fixed, rewriting_with_srid_is_fixed}
 pub use Rattle.wkb.specs.Known.{equal_encodings, equal_encodings_with_srid, equal_encodings_with_own_srid}

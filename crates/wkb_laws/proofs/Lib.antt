@@ -20,3 +20,4 @@ pub mod PartsInPlace
 pub mod EncodingBytes
 pub mod Counts
 pub mod Sums
+pub mod Doubles

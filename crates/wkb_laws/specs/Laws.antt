@@ -1,6 +1,10 @@
 -- The lemmas, as statements.
 use Rattle.std.proofs.Common.{Some, Ok, Err, ◌≡◌, ◌↔◌, ◌⊎◌, ℕ, suc, ◌+◌, ◌*◌, ◌-◌, ◌≤◌, ◌<◌, List, [], ◌++◌, length}
-use Rattle.std.proofs.Common.{None, Bool, ◌^◌, is_some, if◌then◌else◌, Option}
+use Rattle.std.proofs.Common.{None, Bool, false, ◌^◌, is_some, if◌then◌else◌, Option}
+use Rattle.std.specs.Float.{binary64, ◌≤ᶠ◌}
+use Rattle.std.specs.Prelude.{from_bits}
+use Rattle.wkb_geom.specs.Numbers.{IsWord, is_nan}
+use Rattle.wkb_geom.specs.Ranks.{rank}
 use Rattle.wkb_laws.specs.Prelude.{Endianness, Dimension, Form, Iso, Ewkb, AreBytes, Value, Values, no_members, member}
 use Rattle.wkb_laws.specs.Prelude.{count, nest, nest_each, member_count, member_count_each, listed_count, Spelling}
 use Rattle.wkb_laws.specs.Prelude.{Spellings, Spells, SpellsEach, Wanted, any, srid_count, header, Front, max_nesting}
@@ -237,3 +241,9 @@ EqualEncodingsWithOwnSrid =
 -- A dimension's name is its own.
 abbrev pub NamedDimension : Type 0
 NamedDimension = (d : Dimension) → named (as_dimensions d) ≡ Some d
+
+-- Of two words that are numbers, the one whose rank is no higher is the number that is no greater.
+abbrev pub RanksInOrder : Type 0
+RanksInOrder =
+    (v w : ℕ) → IsWord v → IsWord w → is_nan v ≡ false → is_nan w ≡ false → rank v ≤ rank w
+    → from_bits binary64 v ≤ᶠ from_bits binary64 w
