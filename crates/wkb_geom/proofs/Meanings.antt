@@ -1,10 +1,8 @@
 -- What codes stand for: the number is taken apart flag by flag, and what is read is the one meaning.
-use Rattle.std.proofs.Common.{◌≡◌, ◌⊎◌, ℕ, ◌+◌, ◌-◌, ◌*◌, ◌/◌, ◌%◌, ◌<◌, ◌≤◌, Option, Some, None, Bool, true}
-use Rattle.std.proofs.Common.{false, refl, sym, ap, ◌∙◌, subst, arith, inl, inr}
-use Rattle.std.specs.Cmp.{first_so, second_so}
-use Rattle.std.specs.Prelude.{nat_le, nat_lt, ◌&&◌, ◌||◌, if◌then◌else◌}
-use Rattle.std.proofs.lemmas.Bool.{ltb-true, leb-true, lt-ltb}
-use Rattle.std.proofs.lemmas.Bool.Decides.{leb_tells, nat_tests}
+use Rattle.std.proofs.Common.{◌≡◌, ◌⊎◌, ℕ, ◌+◌, ◌*◌, ◌/◌, ◌%◌, ◌<◌, ◌≤◌, Option, Some, None, Bool, true}
+use Rattle.std.proofs.Common.{false, sym, ap, subst, arith}
+use Rattle.std.specs.Prelude.{nat_le, ◌||◌, if◌then◌else◌}
+use Rattle.std.proofs.lemmas.Bool.Decides.{nat_tests}
 use Rattle.wkb_geom.specs.declared.common.Dimension.{Dimension}
 use Rattle.wkb_geom.specs.declared.code.WkbType.{WkbType}
 use Rattle.wkb_geom.specs.Dimensions.{has_z, has_m}
@@ -43,12 +41,9 @@ no_meaning c z m s a b n ea la eb lb en ln none k d srid code =
     let sum : c
     ≡ bit code.z * 0x80000000 + bit code.m * 0x40000000 + bit srid * 0x20000000 + (1000 * thousands code.iso + k) =
     omega (arith, code.sum, flag-bit code.z 0x80000000, flag-bit code.m 0x40000000, flag-bit srid 0x20000000) in
-    let same : n ≡ 1000 * thousands code.iso + k =
-    below_flags c (bit z) (bit m) (bit s) (bit code.z) (bit code.m) (bit srid) a b n (1000 * thousands code.iso + k)
-    (omega (arith, ea, flag-bit z 0x80000000)) (set_or_below z a _ la) (omega (arith, eb, flag-bit m 0x40000000))
-    (set_or_below m b _ lb)
-    (omega (arith, en, flag-bit s 0x20000000)) (set_or_below s n _ ln)
-    (bit-most code.z) (bit-most code.m) (bit-most srid) (bit-most z) (bit-most m) (bit-most s) (omega arith) sum in
+    let rest = 1000 * thousands code.iso + k in
+    let flags = below_flags c (bit z) (bit m) (bit s) (bit code.z) (bit code.m) (bit srid) a b n rest in
+    let same : n ≡ rest = grind (arith, flags, flag-bit, set_or_below, bit-most) in
     none code.iso k (code.kind.low, code.kind.high, same)
 
 if_holds : {A : Type 0} (Q : A → Type 0) (b : Bool) (x y : A) → (b ≡ true → Q x) → (b ≡ false → Q y)
@@ -59,14 +54,10 @@ pub type_kind-type_of : (k : ℕ) (d : Dimension) → 1 ≤ k → k ≤ 7
     → (type_kind (type_of k d) ≡ k) × (type_dimension (type_of k d) ≡ d)
 type_kind-type_of k d low high = grind arith
 
-without_by : (c worth : ℕ) (b : Bool) → nat_le worth c ≡ b
-    → (c ≡ flag b worth + (if b then c - worth else c)) × (b ≡ false → (if b then c - worth else c) < worth)
-without_by c worth true e = let h : worth ≤ c = leb-true worth c e in (omega arith, λ f. cc)
-without_by c worth false e =
-    (omega arith, λ f. elim (leb_tells worth c) [ inl h ↦ absurd (clash (sym e ∙ h.0)) | inr h ↦ h.1 ])
-  where
-    clash : false ≡ true → ⊥
-    clash f = cc
+-- a flag that was taken from a code, and what is left of it
+without_flag : (c worth : ℕ)
+    → (c ≡ flag (nat_le worth c) worth + without c worth) × (nat_le worth c ≡ false → without c worth < worth)
+without_flag c worth = grind (arith, nat_tests)
 
 has_z-with : (z m : Bool) → has_z (dimension_with z m) ≡ z
 has_z-with z m = grind arith
@@ -77,51 +68,6 @@ has_m-with z m = grind arith
 thousands-iso : (q : ℕ) → q < 4 → thousands (iso_dimension q) ≡ q
 thousands-iso q h = grind arith
 
-all_true : (a b c : Bool) → a ≡ true → b ≡ true → c ≡ true → (a && (b && c)) ≡ true
-all_true a b c e f g = rw (e, f, g) refl
-
--- what a code stands for is what it is read as
-pub meaning_holds : (Q : Option Meaning → Type 0) (c : ℕ)
-    → ((m : Meaning) → Code c (type_kind m.wkb_type) (type_dimension m.wkb_type) m.has_srid → Q (Some m))
-    → (HasNoMeaning c → Q None) → Q (meaning_of c)
-unfolding meaning_of
-meaning_holds Q c some none =
-    let z = nat_le z_flag c in
-    let a = without c z_flag in
-    let m = nat_le m_flag a in
-    let b = without a m_flag in
-    let s = nat_le srid_flag b in
-    let n = without b srid_flag in
-    let ez = without_by c z_flag z refl in
-    let em = without_by a m_flag m refl in
-    let es = without_by b srid_flag s refl in
-    if_holds Q (in_table n) _ _
-    (λ e. let others : (nat_lt 0 (n % 1000) && nat_lt (n % 1000) 8) ≡ true = second_so _ _ e in
-    let low : 0 < n % 1000 = ltb-true 0 (n % 1000) (first_so _ _ others) in
-    let high : n % 1000 < 8 = ltb-true (n % 1000) 8 (second_so _ _ others) in
-    let q : n / 1000 < 4 = ltb-true (n / 1000) 4 (first_so _ _ e) in
-    let iso = iso_dimension (n / 1000) in
-    let th : thousands iso ≡ n / 1000 = thousands-iso (n / 1000) q in
-    let d = dimension_with (z || has_z iso) (m || has_m iso) in
-    let type = type_kind-type_of (n % 1000) d (omega arith) (omega arith) in
-    let isit : IsIso n iso (n % 1000) = (omega arith, omega arith, omega (arith, th)) in
-    let code = code_is c (n % 1000) d z m s a b n iso (has_z-with _ _) (has_m-with _ _) ez.0 em.0 es.0 isit in
-    some _ (subst
-    (λ k. Code c k (type_dimension (type_of (n % 1000) d)) s) (sym type.0)
-    (subst (λ v. Code c (n % 1000) v s) (sym type.1) code)))
-    (λ e. none (no_meaning c z m s a b n ez.0 ez.1 em.0 em.1 es.0 es.1
-    (λ d k h.
-    let most = thousands-most d in
-    let q : n / 1000 < 4 = omega arith in
-    let r : 0 < n % 1000 = omega arith in
-    let t : n % 1000 < 8 = omega arith in
-    let yes' : in_table n ≡ true =
-    all_true _ _ _ (lt-ltb (n / 1000) 4 q) (lt-ltb 0 (n % 1000) r) (lt-ltb (n % 1000) 8 t) in
-    clash (sym e ∙ yes'))))
-  where
-    clash : false ≡ true → ⊥
-    clash f = cc
-
 abbrev meant : ℕ → Meaning
 meant c =
     let a = without c z_flag in
@@ -130,6 +76,27 @@ meant c =
 
 abbrev is_in_table : ℕ → Bool
 is_in_table c = in_table (without (without (without c z_flag) m_flag) srid_flag)
+
+in_table_holds : (c : ℕ) → is_in_table c ≡ true
+    → Code c (type_kind (meant c).wkb_type) (type_dimension (meant c).wkb_type) (meant c).has_srid
+in_table_holds c table =
+    grind (arith, nat_tests, without_flag, code_is, type_kind-type_of, has_z-with, has_m-with, thousands-iso)
+
+none_outside : (c : ℕ) → is_in_table c ≡ false → HasNoMeaning c
+none_outside c outside =
+    let z = without_flag c z_flag in
+    let m = without_flag (without c z_flag) m_flag in
+    let s = without_flag (without (without c z_flag) m_flag) srid_flag in
+    no_meaning c _ _ _ _ _ _ z.0 z.1 m.0 m.1 s.0 s.1 (λ d k is. grind (arith, nat_tests, thousands-most))
+
+-- what a code stands for is what it is read as
+pub meaning_holds : (Q : Option Meaning → Type 0) (c : ℕ)
+    → ((m : Meaning) → Code c (type_kind m.wkb_type) (type_dimension m.wkb_type) m.has_srid → Q (Some m))
+    → (HasNoMeaning c → Q None) → Q (meaning_of c)
+unfolding meaning_of
+meaning_holds Q c some none =
+    if_holds Q (is_in_table c) _ _ (λ table. some (meant c) (in_table_holds c table))
+    (λ outside. none (none_outside c outside))
 
 meaning_by : (c : ℕ) {b : Bool} → b ≡ is_in_table c → meaning_of c ≡ (if b then Some (meant c) else None)
 unfolding meaning_of
