@@ -98,8 +98,7 @@ parts_encoding l input front after enough e =
     let start = body_start l.has_srid in
     let c = drop start input in
     let y = take start input ++ (take 4 c ++ front) in
-    let shape : input ≡ y ++ after =
-    sym (simp (append_assoc, ← e, take-append-drop)) in
+    let shape : input ≡ y ++ after = grind (arith, append_assoc, take-append-drop) in
     let same : consumed input after ≡ y = ap (λ z. consumed z after) shape ∙ taken_front y after in
     let first : length (take start input) ≡ start = length-take-le start input (omega arith) in
     record {
@@ -205,8 +204,7 @@ members_has : (room : ℕ) (w : Wanted) → ((y : List ℕ) → HasPart room w y
     → ((ts : Values) × MembersAre room w n input ts)
     ⊎ ((cause : Cause) × (begun : ℕ) × (slots : ℕ) × RefusesEach room w n input cause begun slots)
 members_has room w one zero input =
-    let here : Begins (SpellsEach w no_spellings no_members) input input =
-    record { front = []; whole = refl; first = refl } in
+    let here : Begins (SpellsEach w no_spellings no_members) input input = grind arith in
     let none : nest_each no_members ≤ room = omega arith in
     inl (no_members, record { spellings = no_spellings; rest = input; many = refl; begins = here; shallow = none })
 members_has room w one (suc n) input = elim (one input) [

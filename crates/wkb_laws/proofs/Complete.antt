@@ -43,8 +43,7 @@ pub meaning_found : (c k : ℕ) (d : Dimension) (srid : Bool) → Code c k d sri
 meaning_found c k d srid code =
     meaning_holds (λ m. m ≡ Some (meaning (type_of k d) srid)) c
     (λ m other. let one = one_meaning other code in
-    let type : m.wkb_type ≡ type_of k d =
-    sym (grind arith) ∙ (λ i. type_of (one.kind i) (one.dimension i)) in
+    let type : m.wkb_type ≡ type_of k d = grind arith in
     λ i. Some (meaning (type i) (one.srid i)))
     (λ none. absurd (none k d srid code))
 
@@ -316,8 +315,7 @@ module _ (h : Header) (own : List ℕ) (ss : Spellings) (t : Value) (x : List �
       → spelled_in (laid h.order (dimension t) (is_some h.srid)) x words others ≡ node h own ss
   spelling_read words others same_words same_others =
       let is = a.first in
-      let code : number h.order 4 (drop 1 x) ≡ h.code =
-      rw head_whole (number-front h.order 4 h.code is.code_field (is.srid_field ++ a.rest) is.code) in
+      let code : number h.order 4 (drop 1 x) ≡ h.code = grind (arith, head_whole, number-front) in
       let behind : drop 5 x ≡ is.srid_field ++ a.rest =
       rw head_whole (drop_front 5 (order_byte h.order ∷ is.code_field) (is.srid_field ++ a.rest) (omega arith)) in
       let srid = srid_read h.order h.srid is.srid_field x a.rest is.srid behind in

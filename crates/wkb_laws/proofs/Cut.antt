@@ -1,5 +1,5 @@
 -- A strict prefix of a geometry is rejected as an input that ends too early.
-use Rattle.std.proofs.Common.{◌⊎◌, ℕ, ◌+◌, List, [], ◌++◌, length, sym, ap, ◌∙◌, append_assoc, arith, inl, inr}
+use Rattle.std.proofs.Common.{◌⊎◌, ℕ, ◌+◌, List, [], ◌++◌, length, ap, append_assoc, arith, inl, inr}
 use Rattle.std.proofs.Common.{length-append, Bool, append-nil}
 use Rattle.wkb_laws.specs.Prelude.{Endianness, Dimension, Begins, Value, listed_count, Spelling, Wanted, Front}
 use Rattle.wkb_laws.specs.Prelude.{FrontWithin, Cause, slots_asked, Opens, OpensCounted, RefusesRings, later_ring}
@@ -65,8 +65,7 @@ cut_or_not c = grind arith
 
 pub cut_is_refused_lem : CutIsRefused
 cut_is_refused_lem input s t rest x y f e some =
-    let whole : Front (x ++ y) s t [] =
-    record { front = f.front; whole = sym e ∙ sym (append-nil f.front); spelled = f.spelled; shallow = f.shallow } in
+    let whole : Front (x ++ y) s t [] = grind (arith, append-nil) in
     elim (read_or_refused_lem x) [
       | inl g ↦
           let same = one_front_lem (x ++ y) g.0 s g.1 t (g.2 ++ y) [] (front_more y g.3) whole in

@@ -1,5 +1,5 @@
 -- An encoding is bytes, and bytes that spell a value as it is written are its encoding.
-use Rattle.std.proofs.Common.{◌≡◌, ℕ, zero, suc, List, [], ◌∷◌, ◌++◌, length, Option, lit<, sym, subst, arith}
+use Rattle.std.proofs.Common.{◌≡◌, ℕ, zero, suc, List, [], ◌∷◌, ◌++◌, Option, lit<, arith}
 use Rattle.std.specs.Int.{bytes_high_first, bytes_low_first}
 use Rattle.std.specs.List.{flat_map}
 use Rattle.wkb_laws.specs.Prelude.{Endianness, Dimension, Form, AreBytes}
@@ -61,8 +61,7 @@ module _ (order : Endianness) where
     polygon_is_bytes : (rings : List (List Coordinate)) → AreBytes (polygon_encoding order form d rings)
     unfolding polygon_encoding
     polygon_is_bytes rings = both_are_bytes _ _ (header_is_bytes 3)
-        (both_are_bytes _ _ (number_is_bytes order 4 (length rings))
-        (each_is_bytes (coordinates_encoding order) coordinates_are_bytes rings))
+        (grind (arith, both_are_bytes, number_is_bytes, each_is_bytes, coordinates_are_bytes))
 
     members_are_bytes : (k n : ℕ) (inside : List ℕ) → AreBytes inside
         → AreBytes (members_encoding order form k d n inside)
@@ -90,5 +89,4 @@ pub as_written : (order : Endianness) (form : Form) (s : Spelling) (t : Value) (
 as_written order form s t bytes h range spells same =
     let out = encoding order form (geometry_of t) in
     one_encoding_lem s t bytes out range (encoding_is_bytes order form (geometry_of t)) spells
-    (subst (λ (u : Spelling). Spells u t out) (sym same)
-    (value_encoding order form t h (spelled_good s t bytes range spells)))
+    (grind (arith, value_encoding, spelled_good))

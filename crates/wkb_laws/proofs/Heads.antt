@@ -1,6 +1,6 @@
 -- Reading from left to right, up to the body: what a reading says of its input, and its opening and its count.
 use Rattle.std.proofs.Common.{◌≡◌, ◌≢◌, ℕ, zero, suc, ◌+◌, ◌≤◌, List, [], ◌∷◌, ◌++◌, length, take, drop, Some, Ok, Err}
-use Rattle.std.proofs.Common.{Result, Bool, true, is_some, nat_lt, refl, sym, ap, ◌∙◌, subst, append_assoc}
+use Rattle.std.proofs.Common.{Result, Bool, true, is_some, nat_lt, refl, sym, ap, ◌∙◌, append_assoc}
 use Rattle.std.proofs.Common.{arith, length-drop, take-append-drop, length-take-le, drop-drop, ltb-true, ltb-false, ◌⊎◌}
 use Rattle.std.proofs.Common.{inl, inr}
 use Rattle.std.proofs.lemmas.Bool.Decides.{nat_tests}
@@ -88,8 +88,7 @@ module _ (room : ℕ) (w : Wanted) (input : List ℕ) (k : ℕ) (l : Layout) (o 
       let size = srid_size l.has_srid in
       let field = take size (drop 5 input) in
       let c = drop (body_start l.has_srid) input in
-      let cut : drop 5 input ≡ field ++ (take 4 c ++ drop 4 c) =
-      sym (take-append-drop size (drop 5 input)) ∙ rw (drop-drop size 5 input, take-append-drop 4 c) in
+      let cut : drop 5 input ≡ field ++ (take 4 c ++ drop 4 c) = grind (arith, take-append-drop, drop-drop) in
       record {
         srid_field = field;
         count_field = take 4 c;
@@ -147,14 +146,7 @@ encoding_head input (a ∷ y) rest k d l o e long =
       front = order_byte l.order ∷ (code.front ++ field);
       whole = rw (append_assoc code.front field (drop (body_start l.has_srid) (a ∷ y)), ← cut, head)
           (ap (λ z. order_byte l.order ∷ z) code.whole);
-      first = record {
-        code_field = code.front;
-        srid_field = field;
-        whole = refl;
-        code = code.first;
-        meaning = rw (same, has_srid_in l.order l.has_srid (a ∷ y)) at o.meaning;
-        srid = srid_is l.order l.has_srid (a ∷ y) (omega (arith, length-drop 4 y));
-      };
+      first = grind (arith, has_srid_in, srid_is, length-drop);
     }
 
 -- Where an encoding follows the opening, before the rest, and its body spells a value, the encoding is that
@@ -167,21 +159,7 @@ pub item_is : (room : ℕ) (w : Wanted) (input x rest : List ℕ) (l : Layout) (
     → cost.turns ≡ member_count t → cost.slots ≡ listed_count t
     → ItemIs room w input (record { encoding = x; spelled = spelled_in l x own ss; value = t }) rest cost
 item_is room w input x rest l own ss t b m cost o p e long cut body each shallow turns slots =
-    let head = encoding_head input x rest (kind t) (dimension t) l o e long in
-    record {
-      whole = e;
-      spelled = record {
-        front = head.front;
-        rest = drop (body_start l.has_srid) x;
-        whole = head.whole;
-        first = head.first;
-        second = record { front = b; rest = m; whole = cut; first = body; second = each };
-      };
-      shallow = shallow;
-      wanted = subst (λ z. IsPart w (kind t) (dimension t) z) (has_srid_in l.order l.has_srid x) p;
-      turns = turns;
-      slots = slots;
-    }
+    let head = encoding_head input x rest (kind t) (dimension t) l o e long in grind (arith, has_srid_in)
 
 -- members that pass the test are wanted, and no others: a head of a member of this kind and dimension
 abbrev pub IsWantedHead : ℕ → Dimension → Head → Type 0

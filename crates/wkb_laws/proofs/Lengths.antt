@@ -195,8 +195,7 @@ fits order form s t x b small h fewer =
     let long = spelled_length s t x h in
     let len = encoding_length order form (geometry_of t) (lawful-geometry_of t good.0) good.1 in
     let same : value_size (normal (geometry_of t)) ≡ value_size t = ap value_size (normal-geometry_of t good.0) in
-    size_refused order form t good
-    ∙ rw (lt-ltb (length (encoding order form (geometry_of t))) (2 ^ 64) (omega arith))
+    grind (arith, size_refused, lt-ltb)
 
 pub spelled_is_writable_lem : SpelledIsWritable
 spelled_is_writable_lem s t x b small h =

@@ -22,13 +22,7 @@ one_spelling s u t v x y r q a b e =
     let answers : ◌≡◌ {A = reading.Outcome Item} (found s t x r).1 (found u v y q).1 =
     ap (λ z. z.1) both in
     let item : ◌≡◌ {A = Item × List ℕ} (record { encoding = x; spelled = s; value = t }, r)
-    (record { encoding = y; spelled = u; value = v }, q) = cc in
-    record {
-      spelling = ap (λ z. z.0.spelled) item;
-      value = ap (λ z. z.0.value) item;
-      encoding = ap (λ z. z.0.encoding) item;
-      rest = ap (λ z. z.1) item;
-    }
+    (record { encoding = y; spelled = u; value = v }, q) = cc in grind arith
 
 pub one_front_lem : HasOneFront
 one_front_lem input s u t v rest more a b = grind (arith, one_spelling)

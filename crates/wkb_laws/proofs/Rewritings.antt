@@ -1,5 +1,5 @@
 -- Values and outermost SRIDs are equal exactly where their encodings are.
-use Rattle.std.proofs.Common.{◌≡◌, ℕ, List, [], ◌++◌, refl, sym, ap, ◌∙◌, subst, append-nil, arith, rules}
+use Rattle.std.proofs.Common.{◌≡◌, ℕ, List, [], ◌++◌, sym, ap, ◌∙◌, subst, append-nil, arith, rules}
 use Rattle.wkb_laws.specs.Prelude.{Endianness, Form, Ewkb, AreBytes, Value, Spelling, node, header, Spells, Front}
 use Rattle.wkb_laws.specs.Prelude.{geometry_of, form_srid, encoding, IsForm}
 use Rattle.wkb_laws.specs.Written.{written, HasOptions}
@@ -40,11 +40,7 @@ encoding_spells_lem order form g h lawful fine =
 
 pub written_is_read_lem : WrittenIsRead
 written_is_read_lem order form g rest h lawful fine shallow =
-    let spelled = encoding_spells order form g h lawful fine in (
-      written order form g,
-      record { front = encoding order form g; whole = refl; spelled = spelled; shallow = shallow },
-      written_has_options order form g,
-    )
+    let spelled = encoding_spells order form g h lawful fine in grind (arith, written_has_options)
 
 pub writable_is_read_lem : WritableIsRead
 writable_is_read_lem order form g rest h lawful fine shallow = grind (arith, written_is_read_lem, or_else_parts)
