@@ -14,8 +14,6 @@ mod calls;
 #[cfg(test)]
 mod cases;
 #[cfg(test)]
-mod clients;
-#[cfg(test)]
 mod clones;
 #[cfg(test)]
 mod cut_inputs;

@@ -16,15 +16,11 @@ mod kinds;
 #[cfg(test)]
 mod long_line;
 #[cfg(test)]
-mod own_shapes;
-#[cfg(test)]
 mod program;
 #[cfg(test)]
 mod refusals;
 #[cfg(test)]
 mod sinks;
-#[cfg(test)]
-mod use_of_the_library;
 #[cfg(test)]
 mod whole;
 #[cfg(test)]
