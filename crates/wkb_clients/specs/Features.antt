@@ -3,11 +3,9 @@ use Rattle.std.specs.Prelude.{List, map, Some}
 use Rattle.wkb.specs.Prelude.traits.{Xy}
 use Rattle.wkb.specs.Geometries.{Geometry, point, collection, geometries}
 use Rattle.wkb_cases.specs.Places.{words_of_place}
-use Rattle.wkb_clients.specs.Shapes.{path_meant, spots_meant, area_meant, network_meant, region_meant}
-use Rattle.wkb_clients.specs.Shapes.{leg_meant, sheet_meant, facet_meant}
+use Rattle.wkb_clients.specs.Shapes.{path_meant, area_meant, region_meant}
 use Rattle.wkb_clients.specs.declared.features.Feature.{Feature}
-use Rattle.wkb_clients.specs.declared.features.Feature.TheOpen.{Feature-F, Place, Path, Area, Spots, Network, Region}
-use Rattle.wkb_clients.specs.declared.features.Feature.TheOpen.{Together, Sheet, Facet, Leg}
+use Rattle.wkb_clients.specs.declared.features.Feature.TheOpen.{Feature-F, Place, Path, Area, Region, Together}
 use Rattle.wkb_clients.specs.declared.features.Feature.TheFolds.{fold-Feature}
 use Rattle.wkb_clients.specs.declared.features.Layer.{Layer}
 
@@ -16,13 +14,8 @@ abbrev pub level_meant : Feature-F Geometry → Geometry
 level_meant (Place p) = point Xy (Some (words_of_place p))
 level_meant (Path p) = path_meant p
 level_meant (Area a) = area_meant a
-level_meant (Spots s) = spots_meant s
-level_meant (Network n) = network_meant n
 level_meant (Region r) = region_meant r
 level_meant (Together ms) = collection Xy (geometries ms.now)
-level_meant (Sheet e) = sheet_meant e
-level_meant (Facet f) = facet_meant f
-level_meant (Leg l) = leg_meant l
 
 -- what a shape means
 abbrev pub feature_meant : Feature → Geometry

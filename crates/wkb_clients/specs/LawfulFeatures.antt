@@ -5,11 +5,9 @@ use Rattle.wkb.specs.Prelude.traits.{Xy}
 use Rattle.wkb.specs.Geometries.{Geometry, dimensions_of, geometries, IsGeometry, AreGeometries}
 use Rattle.wkb_cases.specs.LawfulPlaces.{place_lawful}
 use Rattle.wkb_clients.specs.Features.{level_meant, feature_meant, layer_members}
-use Rattle.wkb_clients.specs.LawfulShapes.{path_lawful, spots_lawful, area_lawful, network_lawful, region_lawful}
-use Rattle.wkb_clients.specs.LawfulShapes.{leg_lawful, sheet_lawful, facet_lawful}
+use Rattle.wkb_clients.specs.LawfulShapes.{path_lawful, area_lawful, region_lawful}
 use Rattle.wkb_clients.specs.declared.features.Feature.{Feature}
-use Rattle.wkb_clients.specs.declared.features.Feature.TheOpen.{Feature-F, Place, Path, Area, Spots, Network, Region}
-use Rattle.wkb_clients.specs.declared.features.Feature.TheOpen.{Together, Sheet, Facet, Leg}
+use Rattle.wkb_clients.specs.declared.features.Feature.TheOpen.{Feature-F, Place, Path, Area, Region, Together}
 use Rattle.wkb_clients.specs.declared.features.Feature.TheViews.{out-Feature}
 use Rattle.wkb_clients.specs.declared.features.Feature.TheFolds.{fold_out-Feature, map-Feature, ind-Feature}
 use Rattle.wkb_clients.specs.declared.features.Feature.TheFolds.{fold-roll-Feature}
@@ -23,13 +21,8 @@ level_has_one_dimension : (x : Feature-F Feature) → dimensions_of (level_of x)
 level_has_one_dimension (Place p) = refl
 level_has_one_dimension (Path p) = refl
 level_has_one_dimension (Area a) = refl
-level_has_one_dimension (Spots s) = refl
-level_has_one_dimension (Network n) = refl
 level_has_one_dimension (Region r) = refl
 level_has_one_dimension (Together ms) = refl
-level_has_one_dimension (Sheet e) = refl
-level_has_one_dimension (Facet f) = refl
-level_has_one_dimension (Leg l) = refl
 
 pub feature_one_dimension : (feature : Feature) → dimensions_of (feature_meant feature) ≡ Xy
 feature_one_dimension feature =
@@ -47,13 +40,8 @@ level_lawful : (x : Feature-F LawfulFeature) → IsGeometry (level_of (map-Featu
 level_lawful (Place p) = place_lawful p
 level_lawful (Path p) = path_lawful p
 level_lawful (Area a) = area_lawful a
-level_lawful (Spots s) = spots_lawful s
-level_lawful (Network n) = network_lawful n
 level_lawful (Region r) = region_lawful r
 level_lawful (Together ms) = together_lawful ms.now
-level_lawful (Sheet e) = sheet_lawful e
-level_lawful (Facet f) = facet_lawful f
-level_lawful (Leg l) = leg_lawful l
 
 pub feature_lawful : (feature : Feature) → IsGeometry (feature_meant feature)
 feature_lawful =

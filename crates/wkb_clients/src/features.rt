@@ -1,5 +1,5 @@
 //! A shape of a map of any type, and shapes together: geometries by `GeometryTrait` and `GeometryCollectionTrait`,
-//! which are measured and written as what they mean.
+//! which are measured and written as what they mean. Types that no shape has are the plain geometries'.
 
 ghost use Rattle.wkb.specs.Prelude.{Iso};
 ghost use Rattle.wkb.specs.Prelude.traits.{Xy};
@@ -7,10 +7,13 @@ ghost use Rattle.wkb.specs.Writes.{IsSizeOf, IsEncodingOf};
 ghost use Rattle.wkb_clients.specs.Features.{feature_meant, layer_members, layer_meant};
 ghost use Rattle.wkb_clients.specs.LawfulFeatures.{feature_one_dimension, feature_lawful, layer_lawful};
 
-use crate::shapes::{Area, Facet, Leg, Network, Path, Region, Sheet, Spots};
+use crate::shapes::{Area, Path, Region};
 use std::alloc::Global;
 use wkb::error::WkbResult;
-use wkb::geom::{Dimensioned, Dimensions, GeometryCollectionTrait, GeometryTrait, GeometryType};
+use wkb::geom::{
+    Dimensioned, Dimensions, GeometryCollectionTrait, GeometryTrait, GeometryType, Line,
+    MultiLineString, MultiPoint, Rect, Triangle,
+};
 use wkb::writer::{VecSink, WriteOptions, geometry_wkb_size, to_vec, write_geometry_collection};
 use wkb_cases::places::Place;
 
@@ -20,13 +23,8 @@ pub enum Feature<'m> {
     Place(Place),
     Path(Path<'m>),
     Area(Area<'m>),
-    Spots(Spots<'m>),
-    Network(Network<'m>),
     Region(Region<'m>),
     Together(&'m [Feature<'m>]),
-    Sheet(Sheet),
-    Facet(Facet),
-    Leg(Leg),
 }
 
 /// The shapes of one map: a collection.
@@ -50,17 +48,17 @@ impl<'m> GeometryTrait for Feature<'m> {
 
     type PolygonType = Area<'m>;
 
-    type MultiPointType = Spots<'m>;
+    type MultiPointType = MultiPoint<'m>;
 
-    type MultiLineStringType = Network<'m>;
+    type MultiLineStringType = MultiLineString<'m>;
 
     type MultiPolygonType = Region<'m>;
 
-    type RectType = Sheet;
+    type RectType = Rect<'m>;
 
-    type TriangleType = Facet;
+    type TriangleType = Triangle<'m>;
 
-    type LineType = Leg;
+    type LineType = Line<'m>;
 
     ghost geometry = { feature_meant };
 
@@ -75,25 +73,20 @@ impl<'m> GeometryTrait for Feature<'m> {
         Place,
         Path<'m>,
         Area<'m>,
-        Spots<'m>,
-        Network<'m>,
+        MultiPoint<'m>,
+        MultiLineString<'m>,
         Region<'m>,
         Feature<'m>,
-        Sheet,
-        Facet,
-        Leg,
+        Rect<'m>,
+        Triangle<'m>,
+        Line<'m>,
     > {
         match self {
             Feature::Place(place) => GeometryType::Point(place),
             Feature::Path(path) => GeometryType::LineString(path),
             Feature::Area(area) => GeometryType::Polygon(area),
-            Feature::Spots(spots) => GeometryType::MultiPoint(spots),
-            Feature::Network(network) => GeometryType::MultiLineString(network),
             Feature::Region(region) => GeometryType::MultiPolygon(region),
             Feature::Together(features) => GeometryType::GeometryCollection(features),
-            Feature::Sheet(sheet) => GeometryType::Rect(sheet),
-            Feature::Facet(facet) => GeometryType::Triangle(facet),
-            Feature::Leg(leg) => GeometryType::Line(leg),
         }
     }
 }
