@@ -96,10 +96,16 @@ NAME = re.compile(r"[^\W\d][\w'-]*")
 
 
 def declaration(text, name):
-    """The lines that declare a name of a file: its type, and of a record or of data also what it holds."""
-    head = rf"(?:(?:unfoldable|abbrev) )?pub (?:record |data )?{re.escape(name)}(?![\w'-])"
-    found = re.search(rf"(?m)^( *){head}.*\n(?:\1 +.*\n)*", text)
-    return textwrap.dedent(found[0]).replace("pub ", "").splitlines() if found else []
+    """The lines that declare a name of a file: its type, and of a record or of data also what it holds, of an
+    abbreviation or what is unfoldable also what it stands for."""
+    own = rf"{re.escape(name)}(?![\w'-])"
+    found = re.search(rf"(?m)^( *)(abbrev |unfoldable )?pub (?:record |data )?{own}.*\n(?:\1 +.*\n)*", text)
+    if not found:
+        return []
+    # Inside `mutual` that is said of the whole.
+    whole = re.findall(r"(?m)^(abbrev |unfoldable )?mutual$|^\S", text[: found.start()]) if found[1] else []
+    meant = rf"(?:{found[1]}{own}.*\n(?:{found[1]} +.*\n)*)*" if found[2] or any(whole[-1:]) else ""
+    return textwrap.dedent(found[0] + re.match(meant, text[found.end() :])[0]).replace("pub ", "").splitlines()
 
 
 def after_groups(text):
