@@ -1,8 +1,8 @@
-"""Each lemma is cited.
+"""Each lemma and each definition for contracts is cited.
 
-A lemma is a definition of a file of proofs/, except the files of functions' proofs, whose names the prover reads.
-Another definition, a contract, an attribute of the code or `Known`, which passes lemmas on to users, has to name it.
-The worked values, whose names begin with `worked_`, are cited by nothing on purpose: their proof is the test.
+Those are what files of proofs/ and specs/ define, except the files of functions' proofs, whose names the prover reads.
+Another definition, a contract, an attribute of the code or a file of crates/wkb/specs, which is for users, has to name
+it. The worked values, whose names begin with `worked_`, are cited by nothing on purpose: their proof is the test.
 """
 import collections
 import pathlib
@@ -11,9 +11,9 @@ import re
 from checks import judge
 from pages import texts
 
-KNOWN = "crates/wkb/specs/Known.antt"
+FOR_USERS = "crates/wkb/specs/"
 OF_FUNCTIONS = {"Answers.antt", "Invariants.antt", "Proof.antt", "Lib.antt"}
-DEFINITION = re.compile(r"(?:pub )?(?:unfoldable |abbrev |record |data )?([^\s:(){}.|]+)(?: \(.*\))* :(?: |$)")
+DEFINITION = re.compile(r"(?:(?:pub|unfoldable|abbrev|record|data) )*([^\s:(){}.|]+)(?: [({].*[)}])* :(?: |$)")
 NAME = re.compile(r"[^\s(){}\[\],;]+")
 IMPORT = re.compile(r"(?m)^ *(?:pub )?use [^\n]*(?:\n +[^\n]*)*")
 COMMENT = {".antt": re.compile(r"--[^\n]*"), ".rt": re.compile(r"//[^\n]*")}
@@ -31,10 +31,11 @@ def words_of(text):
 
 
 def blocks_of(path, text):
-    """[line, name, words] of each definition of a file; without a name of what stands between them, or of code."""
+    """[line, name, words] of each definition of a file; without a name of what stands between them, of code or of what
+    is for users."""
     suffix = pathlib.PurePath(path).suffix
     bare = COMMENT[suffix].sub("", text)
-    if suffix == ".rt" or path == KNOWN:
+    if suffix == ".rt" or path.startswith(FOR_USERS):
         return [[0, None, words_of(bare)]]
     blocks = [[1, None, set()]]
     for number, line in enumerate(IMPORT.sub(lambda it: "\n" * it[0].count("\n"), bare).splitlines(), 1):
@@ -48,7 +49,7 @@ def blocks_of(path, text):
 
 
 def uncited(known={}):
-    """The message about each lemma that no other definition names."""
+    """The message about each definition that nothing else names."""
     found = []
     for path, text in sources().items():
         if (path, text) not in known:
@@ -56,13 +57,12 @@ def uncited(known={}):
         found += [(path, *block) for block in known[path, text]]
     cited = collections.Counter(word for *_, name, words in found for word in words if word != name)
     for path, line, name, _ in found:
-        is_lemma = "/proofs/" in path and path.split("/")[-1] not in OF_FUNCTIONS and name
-        if is_lemma and not cited[name] and not name.startswith("worked_"):
+        if name and path.split("/")[-1] not in OF_FUNCTIONS and not cited[name] and not name.startswith("worked_"):
             yield f"{path}:{line}: nothing cites {name}"
 
 
 class Lemmas(judge.Judge):
-    """Something cites each lemma."""
+    """Something cites each lemma and each definition."""
 
     def wrong(self):
         return uncited()

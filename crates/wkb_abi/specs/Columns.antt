@@ -106,10 +106,6 @@ pub data RowShows {A : Type 0} (Shows : List ℕ → A → Type 0) (none : A) (c
         → RowShows Shows none c i status item
     no_row : LacksRow c i status → item ≡ none → RowShows Shows none c i status item
 
--- as a row of any column these bytes have this status and this item
-abbrev pub BytesShow : {A : Type 0} → (List ℕ → A → Type 0) → A → List ℕ → ℕ → A → Type 0
-BytesShow Shows none row status item = (c : Column) (i : ℕ) → IsRow c i row → RowShows Shows none c i status item
-
 -- each row below this number has its status and its item
 pub record RowsShow {A : Type 0} (Shows : List ℕ → A → Type 0) (none : A) (c : Column) (rows : ℕ) (statuses : List ℕ)
     (items : List A) : Type 0 where

@@ -34,4 +34,4 @@ pub use Rattle.wkb_view.specs.Parts.{list_of_values, members_spelled, IsCollecti
 pub use Rattle.wkb_view.specs.Spells.{BytesSpell, srid_of}
 pub use Rattle.wkb_view.specs.Members.{polygon_seen, multi_line_string_seen, multi_polygon_seen}
 pub use Rattle.wkb_view.specs.Views.{point_seen, line_string_seen, multi_point_seen}
-pub use Rattle.wkb_view.specs.BytesAsWritten.{IsSpelledAsWritten, LendsEncoding}
+pub use Rattle.wkb_view.specs.BytesAsWritten.{IsSpelledAsWritten}

@@ -1,9 +1,8 @@
 -- Geometries whose bytes in memory are what is written of them.
-use Rattle.std.specs.Prelude.{◌≡◌, ℕ, List, Bool, Option, None, IsSome, IfSome, MatchOption}
-use Rattle.std.specs.Borrow.{Bor}
+use Rattle.std.specs.Prelude.{◌≡◌, Bool, Option, IsSome, MatchOption}
 use Rattle.wkb_geom.specs.declared.common.Form.{Form}
-use Rattle.wkb_geom.specs.Geometries.{Geometry, geometry_of}
-use Rattle.wkb_geom.specs.Encodings.{form_srid, form_with_flags, encoding, fault}
+use Rattle.wkb_geom.specs.Geometries.{geometry_of}
+use Rattle.wkb_geom.specs.Encodings.{form_srid, form_with_flags}
 use Rattle.wkb_laws.specs.Written.{written}
 use Rattle.wkb_view.specs.Prelude.{Endianness, AreBytes, Item}
 
@@ -15,8 +14,3 @@ pub record IsSpelledAsWritten (order : Endianness) (has_flags : Bool) (item : It
 -- whether the form has EWKB's flags is found; nothing, where the form has an SRID
 abbrev pub IsFlagsOf : Form → Option Bool → Type 0
 IsFlagsOf form found = MatchOption found (IsSome (form_srid form)) (λ has_flags. form ≡ form_with_flags has_flags)
-
--- the bytes that are lent, if any, are the geometry's encoding, and it can be written
-pub record LendsEncoding (order : Endianness) (form : Form) (g : Geometry) (lent : Option (Bor (List ℕ))) : Type 0 where
-  pub encoding : IfSome lent (λ b. b.now ≡ encoding order form g)
-  pub writable : IfSome lent (λ _. fault g ≡ None)
