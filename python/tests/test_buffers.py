@@ -74,9 +74,11 @@ class Buffers(unittest.TestCase):
         ):
             self.assertEqual(wkb.write(data, Order.BIG), BIG_POINT)
         self.assertEqual(wkb.check(memoryview(BIG_POINT + b"...").cast("i")).size, 21)
-        for none in (b"", bytearray(), memoryview(b""), array.array("d")):
+        for none in (b"", bytearray(), memoryview(b""), array.array("d"), (ctypes.c_char * 5 * 0)()):
             with self.assertRaises(Refused) as raised:
                 wkb.check(none)
             self.assertEqual(raised.exception.status, Status.SHORT_HEADER)
+            self.assertEqual(list(Column(none, bytes(8), offset_size=4).check()), [Status.SHORT_HEADER])
+            self.assertRaisesRegex(ValueError, "other bytes", wkb.coordinates, none, wkb.check(POINT))
         for wrong in ("0101", None, 1, [1, 2]):
             self.assertRaises(TypeError, wkb.check, wrong)

@@ -152,6 +152,13 @@ class Coordinates(unittest.TestCase):
         capsules = levels.separated().__arrow_c_array__()
         self.assertEqual(items_of(*structs_of(capsules)), [(1.0, 2.0), None, None])
 
+    def test_no_coordinates(self):
+        """Rows without coordinates come back, and no rows."""
+        for kind, rows in ((6, []), (6, [None]), (2, [bytes.fromhex("010200000000000000")])):
+            levels = Column.of(rows).coordinates()
+            for it in (levels, levels.separated()):
+                self.assertEqual(list(column_from_coordinates(kind, it).rows), rows)
+
 
 class Boxes(unittest.TestCase):
     def boxes(self, rows):

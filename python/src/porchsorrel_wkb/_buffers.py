@@ -66,6 +66,11 @@ def bytes_in(data: Any) -> memoryview:
         return memoryview(view.tobytes())
 
 
+def flat(view: memoryview) -> memoryview:
+    """Return the bytes of a view in one piece, one after another. Python casts an empty one of one dimension only."""
+    return view.cast("B") if view.nbytes else memoryview(b"")
+
+
 class Inputs:
     """Callers' buffers, which are held while a `with` lasts, so that none gets another length or place."""
 

@@ -4,7 +4,7 @@ import ctypes
 import struct
 from typing import Any, List, NoReturn, Optional, Tuple, Union
 
-from ._buffers import Buffer, Inputs, Numbers, bytes_in, over, view_of
+from ._buffers import Buffer, Inputs, Numbers, bytes_in, flat, over, view_of
 from ._enums import Form, Kind, Order, Status, is_refusal, make_options
 from ._errors import Refused, no_such
 from ._library import (
@@ -144,7 +144,7 @@ def coordinates(data: Buffer, part: Union[Part, Found]) -> List[Tuple[float, ...
     The part is one that `parts` has found in these bytes, or `check` if it is a point or a line string. Raise
     `ValueError` where the bytes have no such part at its place.
     """
-    with bytes_in(data) as held, held.cast("B") as view:
+    with bytes_in(data) as held, flat(held) as view:
         begin, end = _words_of(data, view, part)
         return list(struct.iter_unpack(f"{'<>'[part.order == Order.BIG]}{part.dimension.width}d", view[begin:end]))
 
@@ -157,7 +157,7 @@ def view(data: Buffer, part: Union[Part, Found]) -> Numbers:
     """
     import numpy
 
-    view = view_of(data).cast("B")
+    view = flat(view_of(data))
     place = _words_of(data, view, part)
     order = ">" if part.order == Order.BIG else "<"
     return numpy.frombuffer(view[slice(*place)], order + "f8").reshape(-1, part.dimension.width)

@@ -7,7 +7,7 @@ from typing import Any, Dict, Iterable, Iterator, List, Optional, Tuple
 
 from ._arrow import ArrowArray, ArrowStream, chunks_of_arrow, pieces_of_arrow
 from ._buffers import (
-    Buffer, Inputs, Numbers, less_the_least, has_numpy, new_numbers, new_offsets, view_of,
+    Buffer, Inputs, Numbers, flat, less_the_least, has_numpy, new_numbers, new_offsets, view_of,
 )
 from ._calls import fault_of
 from ._enums import Dimension, Form, Kind, Order, Status, is_refusal, make_options
@@ -215,7 +215,7 @@ class Column:
         if end and offsets.nbytes // size < end + 1:
             raise ValueError(f"{offsets.nbytes // size} offsets are left, too few for {end} rows")
         places = inputs.hold(offsets[self._first * size : (end + 1) * size] if end else memoryview(bytes(size)))
-        data = inputs.hold(inputs.view(self._data).cast("B"))
+        data = inputs.hold(flat(inputs.view(self._data)))
         return data, inputs.hold(places.cast("i" if size == 4 else "q"))
 
     def _place(self, inputs: Inputs) -> wkb_column:

@@ -9,7 +9,7 @@ import struct
 from typing import Any, Dict, List, NamedTuple, Optional, Tuple
 
 from ._arrow import METADATA_KEY, NAME_KEY, POINTERS, Array, Schema, new_memory
-from ._buffers import Numbers, bytes_in, has_numpy, numbers_of, view_of
+from ._buffers import Numbers, bytes_in, flat, has_numpy, numbers_of, view_of
 from ._enums import Dimension, Kind
 from ._library import address_of, address_of_function
 from ._rows import bits_of
@@ -200,5 +200,5 @@ def coordinates_of(words: Numbers, expected: Dimension, is_separated: bool) -> T
     count = numbers.nbytes // 8 // width
     if not is_separated:
         return b"+w:%d" % width, (leaf(axes, numbers),), count
-    flat = bytes_in(numbers).cast("B").cast("d")
-    return b"+s", tuple(leaf(axis, flat[i::width]) for i, axis in enumerate(axes)), count
+    whole = flat(bytes_in(numbers)).cast("d")
+    return b"+s", tuple(leaf(axis, whole[i::width]) for i, axis in enumerate(axes)), count

@@ -10,7 +10,7 @@ from typing import (
     Any, Iterable, Iterator, List, NamedTuple, Optional, Sequence, Set, Tuple, Type, TypeVar, Union, overload,
 )
 
-from ._buffers import Numbers, new_numbers, numbers_of, view_of
+from ._buffers import Numbers, flat, new_numbers, numbers_of, view_of
 from ._enums import Dimension, Form, Kind
 from ._export import (
     LISTS, NARROW, Node, coordinates_of, exported, leaf, metadata_of, narrow, of_rows, through, wanted, wanted_inside,
@@ -306,7 +306,7 @@ class ColumnCoordinates(_Result, _Coordinates):  # type: ignore[misc]
         """Return the coordinates of points, with NaNs for rows that have none: lists of one size have no gaps."""
         width = self._dimension.width
         words = new_numbers("f8", width * len(self.statuses))
-        given, at = view_of(self.coordinates).cast("B").cast("d"), 0
+        given, at = flat(view_of(self.coordinates)).cast("d"), 0
         held = view_of(words)
         for i, status in enumerate(bytes(view_of(self.statuses))):
             place = slice(width * i, width * i + width)
