@@ -1,6 +1,7 @@
 # SPDX-License-Identifier: MIT OR Apache-2.0
 """Callers' buffers, and memory for results."""
 import array
+import builtins
 from typing import TYPE_CHECKING, Any, Dict, List, Tuple, Union
 
 from ._library import Call, address_of
@@ -11,6 +12,9 @@ try:
     has_numpy = True
 except ImportError:
     has_numpy = False
+
+# What has min, max and sum of many numbers: Python's own make an object of each.
+many: Any = numpy if has_numpy else builtins
 
 # Numbers: numbers in one piece of memory, an array of numpy where it is installed, else of the module array.
 # Buffer: anything with the buffer protocol. Arrays of numpy are told by a property, so that nothing else becomes a

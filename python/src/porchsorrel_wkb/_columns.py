@@ -2,6 +2,8 @@
 """The calls for columns of geometries."""
 import ctypes
 import operator
+import re
+import struct
 import sys
 from typing import Any, Dict, Iterable, Iterator, List, Optional, Tuple
 
@@ -22,8 +24,8 @@ from ._results import (
 )
 from ._rows import Pieces, object_of, pieces_of
 
-# The statuses that are none.
-NO_REFUSALS = bytes(it for it in range(256) if not is_refusal(it))
+# Which statuses of a column are refusals.
+REFUSALS = re.compile(rb"[\x20-\xff]")
 # An encoding may be four bytes longer than its row: an SRID.
 SRID_SIZE = 4
 # What a collection has before its members, at most.
@@ -255,7 +257,8 @@ class Column:
         statuses = bytes(view_of(self.check()))
         with Inputs() as inputs:
             data, offsets = self._shown(inputs)
-            return {i: fault_of(data[offsets[i] : offsets[i + 1]]) for i, it in enumerate(statuses) if is_refusal(it)}
+            rows = [it.start() for it in REFUSALS.finditer(statuses)]
+            return {i: fault_of(data[offsets[i] : offsets[i + 1]]) for i in rows}
 
     def bounds(self) -> ColumnBounds:
         """Return the bounds of each row."""
@@ -273,11 +276,13 @@ class Column:
         """Return what the rows have together: types and SRIDs that occur, the bounds of all, and how many are there."""
         statuses, found = self.found()
         held = bytes(view_of(statuses))
-        # Of a row that is null or rejected all of these are zeros, and no geometry is a ring.
-        rows = {*zip(*(every(found, name) for name in ("kind", "dimension", "has_srid", "srid")))}
-        types = sorted({(dimension, kind) for kind, dimension, _, _ in rows if kind})
-        srids = {srid if has_srid else None for kind, _, has_srid, srid in rows if kind}
-        refused = len(held.translate(None, NO_REFUSALS))
+        # Words 5 and 6 of a struct are the SRID and whether there is one, and kind and dimension. Of a row that is null
+        # or rejected all of these are zeros, and no geometry is a ring.
+        words = memoryview(found._memory).cast("B").cast("Q")
+        rows = [struct.unpack("=4I", struct.pack("=2Q", *it)) for it in {*zip(words[5::8], words[6::8])}]
+        types = sorted({(dimension, kind) for _, _, kind, dimension in rows if kind})
+        srids = {srid if has_srid else None for srid, has_srid, kind, _ in rows if kind}
+        refused = len(REFUSALS.findall(held))
         return Facts(len(held), held.count(Status.OK), held.count(Status.NULL_ROW), refused,
                      [(Kind(kind), Dimension(dimension)) for dimension, kind in types], srids,
                      box_of_all(self.bounds().boxes))
@@ -322,7 +327,7 @@ class Column:
         expect_same((out.coordinates, out.rings, out.singles) == counts)
         if has_numpy:
             words = words.reshape(-1, dimension.width)
-        kinds = {*every(self.found().found, "kind")} - {0}
+        kinds = {*every(self.found().found, "kind").tolist()} - {0}
         known = {"_kind": Kind(kinds.pop()) if len(kinds) == 1 else None, "_dimension": dimension}
         return ColumnCoordinates._made(statuses, row_offsets, singles, rings, words, **known, _metadata=self._metadata)
 

@@ -159,7 +159,7 @@ def of_rows(statuses: Numbers, form: bytes, metadata: Optional[bytes], *buffers:
     """Return an array of rows, of which those with a status are null."""
     held = bytes(view_of(statuses))
     nulls = len(held) - held.count(0)
-    bits = bits_of([not status for status in held])
+    bits = bits_of(held)
     validity = None if bits is None else memoryview(bits)
     return Node(form, b"", len(held), (validity, *buffers), children, metadata, nulls, NULLABLE)
 

@@ -9,6 +9,7 @@ import struct
 from functools import partial
 from typing import Any, Dict, Iterator, List, NamedTuple, Optional, Sequence, Tuple, Type, TypeVar, Union, overload
 
+from ._buffers import Numbers, has_numpy
 from ._enums import Dimension, Kind, Order, Status
 from ._library import FAULT_TEXT, TEXT_ROOM
 
@@ -283,13 +284,19 @@ class Table(Sequence[Record]):
         return f"<table><thead><tr>{head}</tr></thead><tbody>{rows}</tbody></table>{more}"
 
 
-def every(table: Table[Any], *names: str) -> "array.array[Any]":
+def every(table: Table[Any], *names: str) -> Numbers:
     """Return a number of each record: that of a field, or of a range and the field in it."""
     kind: Any = FIELDS[table._record]
+    if has_numpy:
+        numbers: Any = table.__array__()
+        for name in names:
+            numbers = numbers[name]
+        return numbers  # type: ignore[no-any-return]
     place = 0
     for name in names:
         before = list(itertools.takewhile(lambda it: it[0] != name, kind))
         place, kind = place + struct.calcsize("=" + format_of(before)), kind[len(before)][1]
     size, step = struct.calcsize(FORMATS[kind]), STRUCTS[table._record].size
     words = memoryview(table._memory).cast("B")[: len(table) * step].cast(FORMATS[kind])
-    return array.array(FORMATS[kind], words[place // size :: step // size].tobytes())
+    made: Any = array.array(FORMATS[kind], words[place // size :: step // size].tobytes())
+    return made  # type: ignore[no-any-return]

@@ -10,7 +10,7 @@ from typing import (
     Any, Iterable, Iterator, List, NamedTuple, Optional, Sequence, Set, Tuple, Type, TypeVar, Union, overload,
 )
 
-from ._buffers import Numbers, flat, new_numbers, numbers_of, view_of
+from ._buffers import Numbers, flat, many, new_numbers, numbers_of, view_of
 from ._enums import Dimension, Form, Kind
 from ._export import (
     LISTS, NARROW, Node, coordinates_of, exported, leaf, metadata_of, narrow, of_rows, through, wanted, wanted_inside,
@@ -77,7 +77,7 @@ class ColumnBounds(_Result, _Bounds):  # type: ignore[misc]
     def __arrow_c_array__(self, requested_schema: Any = None) -> Tuple[Any, Any]:
         """Return the boxes as an array of Arrow."""
         metadata = metadata_of("geoarrow.box", self._metadata)
-        axes = [axis for axis in "xyzm" if axis in "xy" or any(every(self.boxes, axis, "count"))]
+        axes = [axis for axis in "xyzm" if axis in "xy" or many.sum(every(self.boxes, axis, "count"))]
         ends = [leaf(axis + end, view_of(numbers_of("f8", every(self.boxes, axis, name))))
                 for end, name in (("min", "least"), ("max", "greatest")) for axis in axes]
         return exported(of_rows(self.statuses, b"+s", metadata, children=tuple(ends)))
@@ -135,15 +135,15 @@ def box_of_all(boxes: Table[Box]) -> Box:
 
 def _range_of_all(boxes: Table[Box], axis: str) -> Range:
     """Return the range of all numbers of an axis; -0 is below +0."""
-    count = sum(every(boxes, axis, "count"))
+    count = int(many.sum(every(boxes, axis, "count")))
     if not count:
         return Range(math.inf, -math.inf, 0)
     least, greatest = every(boxes, axis, "least"), every(boxes, axis, "greatest")
-    first, last = min(least), max(greatest)
+    first, last = float(many.min(least)), float(many.max(greatest))
     # The bits of +0 are 0, and of -0 the sign alone.
-    if first == 0 and -(2**63) in memoryview(least.tobytes()).cast("q"):
+    if first == 0 and -(2**63) in numbers_of("i8", memoryview(least.tobytes()).cast("q")):
         first = -0.0
-    if last == 0 and 0 in memoryview(greatest.tobytes()).cast("q"):
+    if last == 0 and 0 in numbers_of("i8", memoryview(greatest.tobytes()).cast("q")):
         last = 0.0
     return Range(first, last, count)
 
@@ -195,10 +195,8 @@ class Rows(Sequence[Optional[bytes]]):
         places = view_of(self._of.offsets)[first : end + 1].tolist()
         data = io.BytesIO(view_of(self._of.data)[max(places[0], 0) : max(places[-1], 0)])
         rows: List[Optional[bytes]] = list(map(data.read, map(operator.sub, places[1:], places)))
-        for i, status in enumerate(bytes(view_of(self._of.statuses)[first:end])):
-            if status:
-                rows[i] = None
-        return rows
+        held = bytes(view_of(self._of.statuses)[first:end])
+        return [None if status else row for row, status in zip(rows, held)] if held.strip(b"\0") else rows
 
     def __repr__(self) -> str:
         return f"<{len(self)} encodings>"

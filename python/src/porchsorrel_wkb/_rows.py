@@ -31,12 +31,15 @@ def _bytes_of_row(i: int, row: Any) -> bytes:
         raise TypeError(f"row {i} is of type {type(row).__name__}, and neither bytes nor None{hint}") from None
 
 
-def bits_of(flags: List[bool]) -> Optional[bytes]:
-    """Return a bitmap of the flags, least significant bit first; None if all are set."""
-    if all(flags):
+# The digit of a status in a bitmap.
+_DIGITS = b"1".ljust(256, b"0")
+
+
+def bits_of(statuses: bytes) -> Optional[bytes]:
+    """Return a bitmap of rows, least significant bit first, with 0 for each that has a status; None if none has."""
+    if not statuses.strip(b"\0"):
         return None
-    digits = "".join("1" if flag else "0" for flag in reversed(flags))
-    return int(digits, 2).to_bytes((len(flags) + 7) // 8, "little")
+    return int(statuses.translate(_DIGITS)[::-1], 2).to_bytes((len(statuses) + 7) // 8, "little")
 
 
 def pieces_of(rows: Iterable[Optional[Buffer]]) -> Pieces:
@@ -61,7 +64,7 @@ def pieces_of(rows: Iterable[Optional[Buffer]]) -> Pieces:
         data, offsets, validity = *_joined(items), None
     except (TypeError, ValueError, BufferError):  # one is None, or no bytes, or not in one piece
         held = [b"" if row is None else _bytes_of_row(i, row) for i, row in enumerate(items)]
-        data, offsets, validity = *_joined(held), bits_of([row is not None for row in items])
+        data, offsets, validity = *_joined(held), bits_of(bytes(row is None for row in items))
     return Pieces(data, offsets, validity, rows=len(items), metadata=metadata)
 
 
