@@ -22,7 +22,7 @@ class Collected(unittest.TestCase):
         self.assertEqual(collect(points, 4, 0, 0, 2, 3390), big)
         own = collect(points, Kind.MULTI_POINT, form=Form.EWKB_OWN_SRID)
         self.assertEqual(own, collect(points, Kind.MULTI_POINT, form=Form.EWKB_WITHOUT_SRID))
-        self.assertEqual(collect(Column.of([POINT, EMPTY_POINT]), Kind.MULTI_POINT), POINTS)
+        self.assertEqual(collect([POINT, EMPTY_POINT], Kind.MULTI_POINT), POINTS)
         line = collect(Column.of([LINE]), Kind.MULTI_LINE_STRING, Dimension.XYZ)
         self.assertEqual(line, bytes.fromhex("01ed03000001000000") + LINE)
         self.assertEqual(type(line), bytes)
@@ -77,7 +77,7 @@ class Refusals(unittest.TestCase):
             self.assertRaises(ValueError, collect, column, kind)
         for arguments in ((4,), (-1,), (0, 2), (0, 1, 4), (0, 1, 2), (0, 1, 0, 7), (0, 1, 2, 2**32)):
             self.assertRaises(ValueError, collect, column, Kind.MULTI_POINT, *arguments)
-        self.assertRaises(AttributeError, collect, [POINT], Kind.MULTI_POINT)
+        self.assertRaisesRegex(TypeError, "made of many rows", collect, POINT, Kind.MULTI_POINT)
 
     def test_many_rows(self):
         """2**32 rows, of which none is read: their offsets are addresses without memory."""

@@ -48,7 +48,7 @@ def wrong(part: wkb.Part, column: wkb.Column) -> None:
     wkb.column_from_coordinates(wkb.Kind.POINT, [1.0, 2.0])  # type: ignore[arg-type]
     column.coordinates(3)  # type: ignore[arg-type]
     wkb.collect(column, 4)  # type: ignore[arg-type]
-    wkb.collect([b""], wkb.Kind.MULTI_POINT)  # type: ignore[arg-type]
+    wkb.collect(b"", wkb.Kind.MULTI_POINT)  # type: ignore[arg-type]
     part.count = 0  # type: ignore[misc]
     column.write().rows[0] + b""  # type: ignore[operator]
     wkb.column_from_coordinates(wkb.Kind.POINT, NotArrow())  # type: ignore[arg-type]

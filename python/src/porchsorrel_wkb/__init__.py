@@ -30,7 +30,7 @@ A column of geometries, in one piece of memory as Arrow has it::
     Facts.joined(several)           the facts of several columns together
     geoparquet(column[, name, covering])  what a file of GeoParquet says of it
     collect(column, kind[, dimension, order, form, srid])
-                                    the multi geometry or the collection whose members are the rows
+                                    the multi geometry or the collection whose members are the rows, also of a list
     column_from_coordinates(kind, coordinates[, ring_offsets, single_offsets, row_offsets])
                                     the encodings of rows of one kind, from coordinates of your own, or of an
                                     array of GeoArrow in their place

@@ -6,7 +6,7 @@ from typing import Any, List, NoReturn, Optional, Tuple, Union
 
 from ._buffers import Buffer, Inputs, Numbers, bytes_in, flat, over, view_of
 from ._enums import Form, Kind, Order, Status, is_refusal, make_options
-from ._errors import Refused, no_such
+from ._errors import Refused, expect_same, no_such
 from ._library import (
     BOUNDS, CHECK, DUMP, OTHER, PARTS, PUT, READ_HEADER, SAME, WRITE, status_text, wkb_dump_header, wkb_dump_options,
     wkb_options,
@@ -26,21 +26,15 @@ def _refuse(data: Buffer, which: int = 1) -> NoReturn:
         at, size = inputs.place(data)
         status = inputs.choose(CHECK, size)(at, size, None, fault)
         other = OTHER.locked(fault, at, size)
-    _expect_same(is_refusal(status))
+    expect_same(is_refusal(status))
     raise Refused(record_in(Fault, fault), which, status_text(status), other.decode())
 
 
 def fault_of(data: Any) -> Fault:
     """Return why bytes are rejected, which are."""
     fault = _Fault()
-    _expect_same(is_refusal(over(CHECK, data, None, fault)))
+    expect_same(is_refusal(over(CHECK, data, None, fault)))
     return record_in(Fault, fault)  # type: ignore[no-any-return]
-
-
-def _expect_same(holds: bool) -> None:
-    """Raise an error if a second call finds something else than the first one."""
-    if not holds:
-        raise RuntimeError("the input has changed during the call")
 
 
 def check(data: Buffer) -> Found:
@@ -86,7 +80,7 @@ def write(
         _refuse(data)
     room, made = size.value, ctypes.create_string_buffer(size.value)
     status = over(WRITE, data, options, made, room, ctypes.byref(size), None)
-    _expect_same(status == Status.OK and size.value == room)
+    expect_same(status == Status.OK and size.value == room)
     return made.raw
 
 
@@ -112,7 +106,7 @@ def parts(data: Buffer) -> Table[Part]:
         _refuse(data)
     room, made = count.value, ctypes.create_string_buffer(count.value * PART_SIZE)
     status = over(PARTS, data, made, room, ctypes.byref(count), None)
-    _expect_same(status == Status.OK and count.value == room)
+    expect_same(status == Status.OK and count.value == room)
     return Table(Part, made.raw)
 
 

@@ -5,7 +5,7 @@ import operator
 import re
 import struct
 import sys
-from typing import Any, Dict, Iterable, Iterator, List, Optional, Tuple
+from typing import Any, Dict, Iterable, Iterator, List, Optional, Tuple, Union
 
 from ._arrow import ArrowArray, ArrowStream, chunks_of_arrow, pieces_of_arrow
 from ._buffers import (
@@ -13,7 +13,7 @@ from ._buffers import (
 )
 from ._calls import fault_of
 from ._enums import Dimension, Form, Kind, Order, Status, is_refusal, make_options
-from ._errors import Refused
+from ._errors import Refused, expect_same
 from ._library import (
     COLLECT, COLUMN_BOUNDS, COLUMN_CHECK, COLUMN_COORDINATES, COLUMN_FOUND, COLUMN_PARTS, COLUMN_WRITE, Call,
     address_of, status_text, wkb_column, wkb_coordinates, wkb_options,
@@ -333,10 +333,12 @@ class Column:
 
 
 def collect(
-    column: Column, kind: Kind, dimension: Dimension = Dimension.XY, order: Order = Order.LITTLE,
-    form: Optional[Form] = None, srid: Optional[int] = None,
+    column: Union[Column, Iterable[Optional[Buffer]]], kind: Kind, dimension: Dimension = Dimension.XY,
+    order: Order = Order.LITTLE, form: Optional[Form] = None, srid: Optional[int] = None,
 ) -> bytes:
     """The one encoding of the geometry of this kind and dimension whose members are all rows, in this order and form.
+
+    In the place of a column it takes what `Column.of` takes, such as a list of bytes.
 
     The kind is MULTI_POINT, MULTI_LINE_STRING, MULTI_POLYGON or GEOMETRY_COLLECTION, which takes rows of any kind and
     dimension. The byte orders and SRIDs of rows don't matter. The form and the SRID are as `wkb.write` has them.
@@ -347,6 +349,8 @@ def collect(
     kind, dimension, options = Kind(kind), Dimension(dimension), make_options(order, form, srid)
     if kind < Kind.MULTI_POINT:
         raise ValueError(f"a {kind.name} has no geometries as members")
+    if not isinstance(column, Column):
+        column = Column.of(column)
     fault, size, row = ctypes.create_string_buffer(STRUCTS[Fault].size), ctypes.c_size_t(), ctypes.c_size_t()
     status, size.value = Status.NO_ROOM, column._room() + FRONT_SIZE
     while status == Status.NO_ROOM:
@@ -360,9 +364,3 @@ def collect(
         raise ValueError(text)
     told = record_in(Fault, fault) if is_refusal(status) else Fault(0, 0, 0, 0, 0, Status(status))
     raise Refused(told, 1, text, "", row.value)
-
-
-def expect_same(holds: bool) -> None:
-    """Raise an error if a second call needs another room than the first one said: not all of it is written then."""
-    if not holds:
-        raise RuntimeError("the rows have changed during the call")

@@ -53,6 +53,12 @@ class Refused(ValueError):
         return f"{which}{self.fault}{self._hint}"
 
 
+def expect_same(holds: bool) -> None:
+    """Raise an error if a second call finds something else than the first one, or needs another room than that said."""
+    if not holds:
+        raise RuntimeError("the input has changed during the call")
+
+
 def no_such(part: "Union[Part, Found]") -> NoReturn:
     """Raise the error that some bytes have no such coordinates."""
     kind = getattr(part.kind, "name", part.kind)

@@ -6,8 +6,9 @@ from typing import List, Optional, Tuple, Union
 
 from ._arrow import ArrowArray
 from ._buffers import Buffer, Inputs, new_numbers, new_offsets, numbers_of, view_of
-from ._columns import check_validity, code_of, expect_same, size_of_offsets
+from ._columns import check_validity, code_of, size_of_offsets
 from ._enums import Dimension, Form, Kind, Order, make_options
+from ._errors import expect_same
 from ._geoarrow import Levels, levels_of_arrow
 from ._library import COLUMN_FROM_COORDINATES, address_of, wkb_levels, wkb_options
 from ._results import ColumnEncodings
