@@ -40,16 +40,6 @@ inline void widen(wkb_range &whole, const wkb_range &by) noexcept {
   whole.count += by.count;
 }
 
-// Rows beside each other mostly have one SRID. The others are sorted once, however many there are.
-inline void add_srid(std::vector<std::uint32_t> &srids, std::uint32_t srid) {
-  if (srids.empty() || srids.back() != srid) srids.push_back(srid);
-}
-
-inline void sort_srids(std::vector<std::uint32_t> &srids) {
-  std::sort(srids.begin(), srids.end());
-  srids.erase(std::unique(srids.begin(), srids.end()), srids.end());
-}
-
 }  // namespace detail
 
 // Returns the facts of the rows, by the entry and the bounds of each: both of one column.
@@ -68,9 +58,11 @@ inline void sort_srids(std::vector<std::uint32_t> &srids) {
     const wkb_found &it = found.found[row];
     facts.of_kind[it.kind][it.dimension]++;
     if (it.has_srid == 0) facts.without_srid++;
-    else detail::add_srid(facts.srids, it.srid);
+    else if (facts.srids.empty() || facts.srids.back() != it.srid) facts.srids.push_back(it.srid);
   }
-  detail::sort_srids(facts.srids);
+  // Rows beside each other mostly have one SRID. The others are sorted once, however many there are.
+  std::sort(facts.srids.begin(), facts.srids.end());
+  facts.srids.erase(std::unique(facts.srids.begin(), facts.srids.end()), facts.srids.end());
   for (const wkb_box &box : bounds.boxes) {
     detail::widen(facts.box.x, box.x), detail::widen(facts.box.y, box.y);
     detail::widen(facts.box.z, box.z), detail::widen(facts.box.m, box.m);
