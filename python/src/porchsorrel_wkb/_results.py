@@ -1,16 +1,16 @@
 # SPDX-License-Identifier: MIT OR Apache-2.0
 """What the calls for columns return, and its ways out: rows of bytes, and arrays of Arrow."""
-import array
 import functools
 import io
 import itertools
 import math
 import operator
+import struct
 from typing import (
     Any, Iterable, Iterator, List, NamedTuple, Optional, Sequence, Set, Tuple, Type, TypeVar, Union, overload,
 )
 
-from ._buffers import Numbers, flat, many, new_numbers, numbers_of, view_of
+from ._buffers import Numbers, flat, many, numbers_of, view_of
 from ._enums import Dimension, Form, Kind
 from ._export import (
     LISTS, NARROW, Node, coordinates_of, exported, leaf, metadata_of, narrow, of_rows, through, wanted, wanted_inside,
@@ -302,15 +302,8 @@ class ColumnCoordinates(_Result, _Coordinates):  # type: ignore[misc]
 
     def _one_for_each_row(self) -> Numbers:
         """Return the coordinates of points, with NaNs for rows that have none: lists of one size have no gaps."""
-        width = self._dimension.width
-        words = new_numbers("f8", width * len(self.statuses))
-        given, at = flat(view_of(self.coordinates)).cast("d"), 0
-        held = view_of(words)
-        for i, status in enumerate(bytes(view_of(self.statuses))):
-            place = slice(width * i, width * i + width)
-            if status:
-                held[place] = array.array("d", width * [float("nan")])
-            else:
-                held[place] = given[at : at + width]
-                at += width
-        return words
+        given, size, out = flat(view_of(self.coordinates)), 8 * self._dimension.width, io.BytesIO()
+        none, held = struct.pack("=d", math.nan) * self._dimension.width, bytes(view_of(self.statuses))
+        ends = itertools.accumulate(0 if status else size for status in held)
+        out.writelines(none if status else given[end - size : end] for status, end in zip(held, ends))
+        return numbers_of("f8", out.getbuffer().cast("d"))
