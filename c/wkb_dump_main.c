@@ -79,10 +79,17 @@ static int fails_as_hex(const char *text, size_t size, size_t wrong) {
   return fails("this is not hex: ", why);
 }
 
+/* Shows an input. What is wrong with hex in several lines may be that each is a geometry. */
 static int show(const program *it, char *bytes, size_t size) {
+  const char *feed = memchr(bytes, '\n', size);
+  bool goes_on = feed != NULL && feed + 1 < bytes + size;
   size_t wrong, found = wkb_dump_from_hex(bytes, size, &wrong);
   if (found == WKB_DUMP_NOT_HEX && (it->has_lines || is_text(bytes, size))) return fails_as_hex(bytes, size, wrong);
-  return wkb_dump(bytes, found == WKB_DUMP_NOT_HEX ? size : found, &it->options, put, stdout, NULL);
+  bool is_hex = found != WKB_DUMP_NOT_HEX;
+  int status = wkb_dump(bytes, is_hex ? found : size, &it->options, put, stdout, NULL);
+  if (status == WKB_DUMP_OTHER && is_hex && goes_on)
+    fputs("wkb_dump: with -l each line is a geometry of its own\n", stderr);
+  return status;
 }
 
 /* Shows each line that isn't empty. Returns the largest status. */
@@ -114,6 +121,10 @@ static bool is_number(const char *text, unsigned long long most, unsigned long l
 /* Reads the arguments. Returns whether they are options and at most one file. */
 static bool read_arguments(program *it, char **words) {
   for (; *words != NULL && (*words)[0] == '-' && (*words)[1] != 0; words++) {
+    if (strcmp(*words, "--") == 0) {
+      words++;
+      break;
+    }
     unsigned long long number = 0;
     char option = (*words)[2] == 0 ? (*words)[1] : '-';
     if (option == 'i' || option == 'n' || option == 'b') {
