@@ -1,8 +1,13 @@
 // SPDX-License-Identifier: MIT OR Apache-2.0
-//! What views and bounds have beside the proved calls: iterators over parts, and numbers in the place of words.
+//! What views and bounds have beside the proved calls: iterators over parts, numbers in the place of words, and copies.
 use crate::check::{Bounds, Range};
-use crate::geom::{CoordTrait, MultiLineStringTrait, MultiPointTrait, MultiPolygonTrait, PolygonTrait};
-use crate::reader::{Coord, LineString, LinearRing, MultiLineString, MultiPoint, MultiPolygon, Point, Polygon};
+use crate::geom::{self, CoordTrait, MultiLineStringTrait, MultiPointTrait, MultiPolygonTrait, PolygonTrait};
+use crate::reader::{
+    Coord, GeometryCollection, LineString, LinearRing, MultiLineString, MultiPoint, MultiPolygon, Point, Polygon, Wkb,
+};
+use crate::TryClone;
+use alloc::alloc::{handle_alloc_error, Layout};
+use core::fmt;
 
 macro_rules! coords {
     ($($view:ident)*) => {$(
@@ -38,6 +43,43 @@ parts! {
     MultiLineString: line_strings by line_string below num_line_strings, LineString<'a>,
         "The line strings, in order.";
     MultiPolygon: polygons by polygon below num_polygons, &'_ Polygon<'a>, "The polygons, in order.";
+}
+
+macro_rules! clones {
+    ($($view:ident)*) => {$(
+        /// As `try_clone`; but if memory is refused, the process ends, as it does at the clone of a `Vec`.
+        impl Clone for $view<'_> {
+            fn clone(&self) -> Self {
+                self.try_clone().unwrap_or_else(|_| handle_alloc_error(Layout::new::<Self>()))
+            }
+        }
+    )*};
+}
+
+clones! { Polygon MultiLineString MultiPolygon GeometryCollection Wkb }
+
+impl fmt::Debug for geom::Geometry<'_> {
+    fn fmt(&self, f: &mut fmt::Formatter<'_>) -> fmt::Result {
+        match self {
+            geom::Geometry::Point(it) => it.fmt(f),
+            geom::Geometry::LineString(it) => it.fmt(f),
+            geom::Geometry::Polygon(it) => it.fmt(f),
+            geom::Geometry::MultiPoint(it) => it.fmt(f),
+            geom::Geometry::MultiLineString(it) => it.fmt(f),
+            geom::Geometry::MultiPolygon(it) => it.fmt(f),
+            geom::Geometry::GeometryCollection(it) => it.fmt(f),
+            geom::Geometry::Rect(it) => it.fmt(f),
+            geom::Geometry::Triangle(it) => it.fmt(f),
+            geom::Geometry::Line(it) => it.fmt(f),
+        }
+    }
+}
+
+impl fmt::Debug for geom::GeometryCollection<'_> {
+    fn fmt(&self, f: &mut fmt::Formatter<'_>) -> fmt::Result {
+        f.write_str("GeometryCollection ")?;
+        f.debug_list().entries(geom::GeometryCollectionTrait::geometries(self)).finish()
+    }
 }
 
 /// Numbers. `CoordTrait` has the same calls for words, which are their bits.

@@ -18,6 +18,7 @@
 pub use crate::wkb::writer::*;
 
 use crate::rt::io;
+use core::fmt;
 
 /// Any writer, as it is. An interrupted write is tried again.
 impl<W: io::Write> Sink for W {
@@ -35,3 +36,15 @@ impl<W: io::Write> Sink for W {
         false
     }
 }
+
+macro_rules! debug {
+    ($($sink:ident $(<$of:tt>)?)*) => {$(
+        impl$(<$of>)? fmt::Debug for $sink$(<$of>)? {
+            fn fmt(&self, f: &mut fmt::Formatter<'_>) -> fmt::Result {
+                f.debug_struct(stringify!($sink)).finish_non_exhaustive()
+            }
+        }
+    )*};
+}
+
+debug! { Out<W> SliceSink<'a> VecSink }

@@ -4,7 +4,7 @@ use porchsorrel_wkb::canon::{canonical, same};
 use porchsorrel_wkb::check::{bounds, check, Refused, WkbType};
 use porchsorrel_wkb::columns::{NotCollected, Status};
 use porchsorrel_wkb::error::{General, Overflow, WkbError};
-use porchsorrel_wkb::geom::{CoordTrait, GeometryTrait, GeometryType, LineStringTrait, PointTrait};
+use porchsorrel_wkb::geom::{self, CoordTrait, GeometryTrait, GeometryType, LineStringTrait, PointTrait};
 use porchsorrel_wkb::geopackage::{read_header, NoHeader};
 use porchsorrel_wkb::reader::{read_wkb, Dimension, Wkb};
 use porchsorrel_wkb::writer::{geometry_wkb_size, write_geometry, write_point, WriteOptions};
@@ -41,6 +41,27 @@ fn a_program_for_upstream() -> Result<(), Box<dyn std::error::Error>> {
         Err(why) => println!("{why}"),
     }
     Ok(())
+}
+
+/// What a type of one's own derives over those of the crate, and what is collected of them.
+#[test]
+fn copies_and_keys() {
+    #[derive(Clone, Debug)]
+    struct Row<'a>(Wkb<'a>, geom::Dimensions);
+    let polygon = b"\x01\x03\0\0\0\x01\0\0\0\0\0\0\0".as_slice();
+    let lines = b"\x01\x05\0\0\0\x01\0\0\0\x01\x02\0\0\0\0\0\0\0";
+    let polygons = [b"\x01\x06\0\0\0\x01\0\0\0", polygon].concat();
+    let all = [b"\x01\x07\0\0\0\x04\0\0\0", POINT, polygon, lines, &polygons].concat();
+    let row = Row(read_wkb(&all).unwrap(), geom::Dimensions::Xy);
+    assert_eq!((row.clone().0.buf(), format!("{:?}", row.clone())), (&all[..], format!("{row:?}")));
+
+    let types = [WkbType::Point(Dimension::Xy), WkbType::Point(Dimension::Xyz), WkbType::Point(Dimension::Xy)];
+    assert_eq!(types.iter().collect::<std::collections::HashSet<_>>().len(), 2);
+
+    let point = geom::Point::empty(row.1).unwrap();
+    let own = geom::GeometryCollection::new(row.1, vec![geom::Geometry::Point(point)]);
+    let printed = format!("{:?}", geom::Geometry::GeometryCollection(own));
+    assert_eq!(printed, format!("GeometryCollection [{point:?}]"));
 }
 
 /// A writer that is interrupted before each write, and then takes one byte.

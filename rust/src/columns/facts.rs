@@ -21,7 +21,7 @@ use alloc::vec::Vec;
 /// assert_eq!((facts.bounds.x.min(), facts.bounds.y.max()), (1.0, 2.0));
 /// # Ok::<(), porchsorrel_wkb::AllocError>(())
 /// ```
-#[derive(Clone, Debug, PartialEq)]
+#[derive(Clone, Debug, PartialEq, Eq)]
 pub struct Facts {
     /// How many rows there are.
     pub rows: usize,
