@@ -2,7 +2,7 @@
 use Rattle.wkb_sink.proofs.Prelude.{◌≡◌, ℕ, zero, suc, ◌+◌, ◌-◌, ◌*◌, ◌<◌, ◌≤◌, List, [], ◌∷◌, ◌++◌, length, take, drop}
 use Rattle.wkb_sink.proofs.Prelude.{Some, refl, sym, ap, ◌∙◌, arith, slice_get, slice_index, length-append, flat_map}
 use Rattle.wkb_sink.proofs.Prelude.{flat_map-append, length-drop, length-take-le, Endianness, words_encoding}
-use Rattle.wkb_sink.proofs.Prelude.{take_all, append_assoc}
+use Rattle.wkb_sink.proofs.Prelude.{take_all, append_assoc, append-nil}
 use Rattle.std.proofs.Math.Nat.{mul-add}
 use Rattle.std.specs.List.{AllByRecursion, concat}
 use Rattle.std.proofs.lemmas.Option.{slice_get-get_or}
@@ -11,6 +11,7 @@ use Rattle.wkb_geom.specs.declared.common.Dimensions.{Dimensions}
 use Rattle.wkb_geom.specs.Dimensions.{size}
 use Rattle.wkb_geom.specs.Numbers.{number, number_bytes, IsWord}
 use Rattle.wkb_geom.specs.Geometries.{AreCoordinates}
+use Rattle.wkb_sink.specs.Runs.{Turns}
 use Rattle.wkb_sink.proofs.Lengths.{length-number}
 use Rattle.wkb_sink.proofs.Stores.{stored_next, flat_map_step}
 use borrow.Rule.Slice.PartMut.{put_mid}
@@ -54,12 +55,6 @@ two_words_more order words all part i k first second behind one two stored fits 
     ∙ ap (λ l. l ++ each second) (sym (flat_map_step each words (2 * i) first one))
     ∙ sym (flat_map_step each words (2 * i + 1) second two))
 
--- what the pairs leave behind, by the number of the words
-pub behind_pairs : (order : Endianness) (words all : List ℕ) (pair i : ℕ)
-    → take (16 * pair) all ≡ words_encoding order (take (2 * pair) words) → 2 * pair ≡ i
-    → take (8 * i) all ≡ words_encoding order (take i words)
-behind_pairs order words all pair i behind many = grind arith
-
 -- of words at hand
 pub stored_two_more : (order : Endianness) (words all part : List ℕ) (i k : ℕ)
     → take (16 * i) all ≡ words_encoding order (take (2 * i) words)
@@ -71,7 +66,7 @@ stored_two_more order words all part i k behind stored more fits part_fits =
     grind (arith, two_words_more, slice_get-get_or)
 
 -- the last of an odd number of words
-pub stored_last : (order : Endianness) (words all part : List ℕ) (i k n word : ℕ) → n ≡ 8 * length words
+stored_last : (order : Endianness) (words all part : List ℕ) (i k n word : ℕ) → n ≡ 8 * length words
     → take (8 * i) all ≡ words_encoding order (take i words) → slice_get words i ≡ Some word
     → take 8 part ≡ number_bytes order 8 word → i + 1 ≡ length words → 8 * i ≤ length all → 8 ≤ length part
     → take n (put_mid (8 * i) k all part) ≡ words_encoding order words
@@ -101,10 +96,6 @@ pub turned_two_more : (held order : Endianness) (words lent all part : List ℕ)
 turned_two_more held order words lent all part i k first second fit is behind one two stored more fits part_fits =
     grind (arith, two_words_more, word_held)
 
-pub ruleset each_laws = (stored_two_more, stored_last, behind_pairs, slice_get-get_or)
-
-pub ruleset turned_laws = (turned_two_more, words_length, behind_pairs, take_all)
-
 -- a run of items of k bytes each
 run_front : {X : Type 0} (f : X → List ℕ) (k : ℕ) (xs : List X) (to : ℕ) → AllByRecursion (λ x. length (f x) ≡ k) xs
     → to ≤ length xs
@@ -115,6 +106,53 @@ run_front f k (x ∷ xs) (suc to) h within =
     let place : k * suc to ≡ length (f x) + k * to = omega (arith, h.0) in
     rw (place, take-append-add (f x) (flat_map f xs) (k * to))
     (ap (λ l. f x ++ l) (run_front f k xs to h.1 (omega arith)))
+
+each_word : (order : Endianness) (ws : List ℕ) → AllByRecursion (λ w. length (number_bytes order 8 w) ≡ 8) ws
+each_word order [] = tt
+each_word order (w ∷ ws) = (length-number order 8 w, each_word order ws)
+
+front_fits : (ws : List ℕ) (i : ℕ) → AllByRecursion IsWord ws → AllByRecursion IsWord (take i ws)
+front_fits ws zero h = tt
+front_fits [] (suc i) h = tt
+front_fits (w ∷ ws) (suc i) h = (h.0, front_fits ws i h.1)
+
+-- the first words, whose bytes were turned
+pub turned_front : (held order : Endianness) (words lent part : List ℕ) (at i : ℕ) → AllByRecursion IsWord words
+    → lent ≡ words_encoding held words → Turns held order (take at lent) part → at ≡ 8 * i → i ≤ length words
+    → part ≡ words_encoding order (take i words)
+unfolding words_encoding
+turned_front held order words lent part at i fit is turns place within =
+    turns (take i words) (front_fits words i fit)
+    (rw (is, place) (run_front (number_bytes held 8) 8 words i (each_word held words) within))
+
+-- the first words, and what was there behind them
+front_length : (order : Endianness) (words part rest : List ℕ) (i : ℕ) → part ≡ words_encoding order (take i words)
+    → i ≤ length words
+    → 8 * i ≡ length part
+front_length order words part rest i is within = grind (arith, words_length, length-take-le)
+
+pub stored_alone : (order : Endianness) (words part rest : List ℕ) (i n : ℕ) → n ≡ 8 * length words
+    → part ≡ words_encoding order (take i words) → i ≡ length words
+    → take n (part ++ rest) ≡ words_encoding order words
+stored_alone order words part rest i n is front all =
+    let size = front_length order words part rest i front (omega (arith, all)) in
+    grind (arith, take-append-add part rest 0, append-nil, take_all)
+
+-- the last of an odd number of words, behind the others
+pub stored_behind : (order : Endianness) (words part rest last : List ℕ) (at i k n word : ℕ) → n ≡ 8 * length words
+    → part ≡ words_encoding order (take i words) → at ≡ 8 * i → slice_get words i ≡ Some word
+    → take 8 last ≡ number_bytes order 8 word → i + 1 ≡ length words → 8 ≤ length last
+    → take n (put_mid at k (part ++ rest) last) ≡ words_encoding order words
+stored_behind order words part rest last at i k n word is front place item stored more fits =
+    let size = front_length order words part rest i front (omega (arith, more)) in
+    let kept : take (8 * i) (part ++ rest) ≡ words_encoding order (take i words) =
+    grind (arith, take-append-add part rest 0, append-nil) in
+    rw place (stored_last order words (part ++ rest) last i k n word is kept item stored more
+    (omega (arith, size, length-append part rest)) fits)
+
+pub ruleset each_laws = (stored_two_more, stored_behind, slice_get-get_or)
+
+pub ruleset turned_laws = (turned_two_more, words_length, take_all)
 
 run_bytes : {X : Type 0} (f : X → List ℕ) (k : ℕ) (xs : List X) (from to : ℕ)
     → AllByRecursion (λ x. length (f x) ≡ k) xs → from ≤ to → to ≤ length xs

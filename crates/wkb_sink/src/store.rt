@@ -111,6 +111,24 @@ fn items_between<T>(all: &[T], size: usize, from: usize, to: usize) -> &[T]
     &all[size * from..size * to]
 }
 
+/// As `store_words`, so many pairs. Where it is inlined the lengths are known to be those of the pairs, so that no index
+/// is tested.
+#[inline(always)]
+#[tactic(auto, using(crate::proofs::Turned::turned_laws), unfolding(wkb_geom::specs::Encodings::words_encoding))]
+fn store_pairs(bytes: &mut [u8], lent: &[u8], pairs: usize, held: Endianness, order: Endianness)
+    requires whole { length lent.now ≡ 16 * pairs }
+    requires same { length bytes.old ≡ 16 * pairs }
+    ensures { Turns held order lent.now bytes.new }
+{
+    // Two words per iteration: a processor that can swap both at once then does.
+    for pair in 0..pairs {
+        let at = 2 * WORD_SIZE * pair;
+        let first = u64_at(lent, at, held);
+        let second = u64_at(lent, at + WORD_SIZE, held);
+        store_two(&mut bytes[at..], order, first, second);
+    }
+}
+
 /// Stores words in one order out of bytes that hold them in another.
 #[inline(always)]
 #[tactic(auto, using(crate::proofs::Turned::turned_laws), unfolding(wkb_geom::specs::Encodings::words_encoding))]
@@ -118,18 +136,27 @@ pub fn store_words(bytes: &mut [u8], lent: &[u8], held: Endianness, order: Endia
     requires { length lent.now ≤ length bytes.old }
     ensures { Turns held order lent.now (take (length lent.now) bytes.new) }
 {
-    // Two words per iteration: a processor that can swap both at once then does.
-    let words = lent.len() / WORD_SIZE;
-    for pair in 0..words / 2 {
-        let at = 2 * WORD_SIZE * pair;
-        let first = u64_at(lent, at, held);
-        let second = u64_at(lent, at + WORD_SIZE, held);
-        store_two(&mut bytes[at..], order, first, second);
-    }
-    if words % 2 == 1 {
-        let at = WORD_SIZE * (words - 1);
+    let pairs = lent.len() / (2 * WORD_SIZE);
+    let at = 2 * WORD_SIZE * pairs;
+    store_pairs(&mut bytes[..at], &lent[..at], pairs, held, order);
+    if lent.len() - at >= WORD_SIZE {
         let last = u64_at(lent, at, held);
         store_word(&mut bytes[at..], order, last);
+    }
+}
+
+/// As `store_each`, so many pairs. Where it is inlined the lengths are known to be those of the pairs, so that no index
+/// is tested.
+#[inline(always)]
+#[tactic(auto, using(crate::proofs::Turned::each_laws), unfolding(wkb_geom::specs::Encodings::words_encoding))]
+fn store_each_pair(bytes: &mut [u8], words: &[u64], pairs: usize, order: Endianness)
+    requires whole { length words.now ≡ 2 * pairs }
+    requires same { length bytes.old ≡ 16 * pairs }
+    ensures { bytes.new ≡ words_encoding order words.now }
+{
+    for pair in 0..pairs {
+        let (first, second) = (words[2 * pair], words[2 * pair + 1]);
+        store_two(&mut bytes[2 * WORD_SIZE * pair..], order, first, second);
     }
 }
 
@@ -140,13 +167,11 @@ fn store_each(bytes: &mut [u8], words: &[u64], order: Endianness)
     requires { 8 * length words.now ≤ length bytes.old }
     ensures { take (8 * length words.now) bytes.new ≡ words_encoding order words.now }
 {
-    for pair in 0..words.len() / 2 {
-        let (first, second) = (words[2 * pair], words[2 * pair + 1]);
-        store_two(&mut bytes[2 * WORD_SIZE * pair..], order, first, second);
-    }
-    if words.len() % 2 == 1 {
-        let last = words.len() - 1;
-        store_word(&mut bytes[WORD_SIZE * last..], order, words[last]);
+    let pairs = words.len() / 2;
+    let at = 2 * pairs;
+    store_each_pair(&mut bytes[..WORD_SIZE * at], &words[..at], pairs, order);
+    if at < words.len() {
+        store_word(&mut bytes[WORD_SIZE * at..], order, words[at]);
     }
 }
 

@@ -1,7 +1,7 @@
 use Rattle.wkb_sink.proofs.Prelude.{◌≡◌, ℕ, List, ◌*◌, take, words_encoding}
 use Rattle.std.specs.List.{AllByRecursion}
 use Rattle.wkb_geom.specs.Numbers.{IsWord}
-use Rattle.wkb_sink.proofs.store.store_words.Given as goal
+use Rattle.wkb_sink.proofs.store.store_pairs.Given as goal
 
 abbrev pub invariant-loop-pair : goal.invariant-loop-pair
 invariant-loop-pair l =
