@@ -14,14 +14,12 @@
 //! ```
 pub use crate::wkb::canon::*;
 
-use crate::check::check;
-use crate::columns::numbers;
+use crate::check::{check, Summary, WkbType};
 use crate::error::WkbResult;
 use crate::rt::TryVec;
-use crate::wkb_abi::fault::NO_FAULT;
-use crate::wkb_abi::status::OK;
-use crate::wkb_c::wkb_raw_write;
-use crate::writer::WriteOptions;
+use crate::wkb_geom::header::SRID_SIZE;
+use crate::wkb_rewrite::{lay_encoding, lay_one_piece, lay_polygon, size_with_own_srid};
+use crate::writer::{Form, WriteOptions};
 use alloc::vec::Vec;
 
 /// What [`canonical`] returns, in a vector that keeps its memory for the next input. Of rejected bytes it is empty.
@@ -30,14 +28,29 @@ use alloc::vec::Vec;
 ///
 /// As [`canonical`].
 pub fn canonical_into(bytes: &[u8], options: &WriteOptions, out: &mut Vec<u8>) -> WkbResult<()> {
-    // An encoding is at most four bytes longer than its geometry, which may be a small part of a long input.
-    let most = if bytes.len() > 1 << 16 { check(bytes).map_or(0, |it| it.bytes) } else { bytes.len() };
-    out.try_resize(out.len().max(most + 4), 0)?;
-    let (mut size, mut fault) = (0, NO_FAULT);
-    let status = wkb_raw_write(bytes, &numbers(options), out, &mut size, &mut fault);
-    out.truncate(size as usize);
-    match status {
-        OK => Ok(()),
-        _ => Err(check(bytes).expect_err("bytes that are rejected").into()),
+    let found = match check(bytes) {
+        Ok(found) => found,
+        Err(why) => {
+            out.clear();
+            return Err(why.into());
+        }
+    };
+    // Only an SRID makes an encoding longer than its geometry.
+    let srid = if matches!(options.form, Form::Ewkb { srid: Some(_) }) { SRID_SIZE } else { 0 };
+    if out.len() < found.bytes + srid {
+        out.try_resize(found.bytes + srid, 0)?;
     }
+    let size = lay(bytes, &found, *options, out);
+    out.truncate(size);
+    Ok(())
+}
+
+/// Lays the encoding, and returns its size.
+fn lay(bytes: &[u8], found: &Summary, options: WriteOptions, out: &mut [u8]) -> usize {
+    match found.wkb_type {
+        WkbType::Point(_) | WkbType::LineString(_) => lay_one_piece(bytes, found, options, out),
+        WkbType::Polygon(_) => lay_polygon(bytes, found, options, out),
+        _ => return lay_encoding(bytes, found, options, out),
+    }
+    size_with_own_srid(bytes, found, options.form)
 }

@@ -40,7 +40,7 @@ use crate::writer::{Form, WriteOptions};
 use crate::Endianness;
 
 /// The options by their numbers.
-pub(crate) fn numbers(options: &WriteOptions) -> Options {
+fn numbers(options: &WriteOptions) -> Options {
     let (form, srid) = match options.form {
         Form::Iso => (ISO, 0),
         Form::Ewkb { srid: Some(srid) } => (EWKB_WITH_SRID, srid),
