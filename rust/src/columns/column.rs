@@ -213,7 +213,7 @@ impl Rows {
                 made.data.try_extend_from_slice(bytes.as_ref())?;
                 made.validity[row / 8] |= 1 << (row % 8);
             }
-            made.offsets.try_extend_from_slice(&made.data.len().to_le_bytes())?;
+            made.offsets.try_extend_from_slice(&(made.data.len() as u64).to_le_bytes())?;
         }
         Ok(made)
     }

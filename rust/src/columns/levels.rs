@@ -65,9 +65,10 @@ impl Levels<'_> {
         let mut call = |out: &mut [u8]| {
             let (kind, dimension) = (wkb_type.kind(), wkb_type.dimension().thousands());
             wkb_raw_column_from_coordinates(&levels, kind, dimension, &numbers(options), out, &mut ends, &mut statuses);
-            ends.last().map_or(0, |end| *end as usize)
+            ends.last().copied().unwrap_or(0)
         };
-        let mut data = try_filled(0, call(&mut []))?;
+        let size = usize::try_from(call(&mut [])).map_err(|_| AllocError)?;
+        let mut data = try_filled(0, size)?;
         call(&mut data);
         Ok(Encodings { data, ends, statuses: Status::all(statuses) })
     }
