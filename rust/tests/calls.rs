@@ -4,10 +4,13 @@ use porchsorrel_wkb::canon::{canonical, same};
 use porchsorrel_wkb::check::{bounds, check, Refused, WkbType};
 use porchsorrel_wkb::columns::{NotCollected, Status};
 use porchsorrel_wkb::error::{General, Overflow, WkbError};
-use porchsorrel_wkb::geom::{self, CoordTrait, GeometryTrait, GeometryType, LineStringTrait, PointTrait};
+use porchsorrel_wkb::geom::levels::{Ends, Polygons, Rings};
+use porchsorrel_wkb::geom::{self, Coord, PointTrait};
+use porchsorrel_wkb::geom::{CoordTrait, Dimensioned, Dimensions, GeometryTrait, GeometryType, LineStringTrait};
 use porchsorrel_wkb::geopackage::{read_header, NoHeader};
 use porchsorrel_wkb::reader::{read_wkb, Dimension, Wkb};
-use porchsorrel_wkb::writer::{geometry_wkb_size, write_geometry, write_point, WriteOptions};
+use porchsorrel_wkb::writer::{geometry_wkb_size, line_string_wkb_size, write_geometry, write_line_string};
+use porchsorrel_wkb::writer::{write_point, WriteOptions};
 use porchsorrel_wkb::{AllocError, Endianness};
 
 const TEXTS: &str = include_str!("../../c/test/texts.c");
@@ -215,6 +218,53 @@ fn names_of_codes() {
             assert!(why.starts_with(&format!("unknown geometry type code {code}, {name}, which this")), "{why}");
         }
     }
+}
+
+/// A line string of so many coordinates, none of which is in memory.
+struct Zeros(usize);
+
+impl Dimensioned for Zeros {
+    fn dim(&self) -> Dimensions {
+        Dimensions::Xy
+    }
+}
+
+impl LineStringTrait for Zeros {
+    type CoordType = Coord<'static>;
+
+    fn num_coords(&self) -> usize {
+        self.0
+    }
+
+    fn coord(&self, i: usize) -> Option<Self::CoordType> {
+        (i < self.0).then(|| self.coord_at(i))
+    }
+
+    fn coord_at(&self, _: usize) -> Self::CoordType {
+        Coord::new(Dimensions::Xy, &[0, 0]).unwrap()
+    }
+}
+
+/// Whatever the width of `usize`: a size is what is written, or it is said that `usize` doesn't hold it.
+#[test]
+fn sizes_that_usize_may_not_hold() {
+    for count in [0, (1 << 28) - 1, 1 << 28, (1 << 28) + 1, u32::MAX] {
+        let (line, meant) = (Zeros(count as usize), usize::try_from(9 + 16 * u64::from(count)));
+        match (line_string_wkb_size(&line), meant) {
+            (Ok(size), Ok(meant)) => assert_eq!(size, meant),
+            (Err(WkbError::OverflowError(Overflow::Size)), Err(_)) => {
+                let written = write_line_string(&mut Vec::new(), &line, &WriteOptions::default());
+                assert!(matches!(written, Err(WkbError::OverflowError(Overflow::Size))));
+            }
+            (size, _) => panic!("{count} coordinates: {size:?}"),
+        }
+    }
+    for to in [1, u64::from(u32::MAX), 1 << 32, u64::MAX] {
+        assert_eq!(Ends::Each { from: 0, to }.len() as u64, to.min(usize::MAX as u64));
+    }
+    let ends = Ends::At { start: u64::from(u32::MAX), ends: &[] };
+    let rings = Rings::new(Dimensions::Xy, &[0; 8], Ends::Each { from: 0, to: 4 }).unwrap();
+    assert!(Polygons::new(rings, ends).is_some());
 }
 
 /// Iterators go from both ends, and know how long they are; numbers have the bits of words.

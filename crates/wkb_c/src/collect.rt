@@ -306,7 +306,7 @@ pub extern "C" fn wkb_raw_collect(
     let Some(target) = collect_target_of(kind, dimension, options) else {
         return UNKNOWN_OPTION;
     };
-    if rows >= 1 << 32 {
+    if rows as u64 >= 1 << 32 {
         return TOO_MANY_ROWS;
     }
     // Without room the members are only checked and measured.

@@ -33,7 +33,7 @@ impl<'w> Ends<'w> {
         ensures { result ≡ length (ends_of self.now) }
     {
         match self {
-            Ends::Each { from, to } => to.saturating_sub(*from) as usize,
+            Ends::Each { from, to } => number_of_items(to.saturating_sub(*from)),
             Ends::At { ends, .. } => ends.len(),
         }
     }
@@ -122,6 +122,13 @@ impl<'w> Ends<'w> {
             Ends::At { start, ends } => are_ones(*start, ends),
         }
     }
+}
+
+/// A number of items as `usize`. Where that has 64 bits it holds each.
+pub(crate) fn number_of_items(n: u64) -> usize
+    ensures { result ≡ n }
+{
+    n.min(usize::MAX as u64) as usize
 }
 
 /// `from + i`, which fits: it is at most `last`, or `i` is 0. The proof takes the bound from `last`.

@@ -7,7 +7,7 @@ ghost use Rattle.wkb_levels.specs.Cuts.{only, only_each};
 ghost use Rattle.wkb_levels.specs.EndLists.{start_of};
 ghost use Rattle.wkb_levels.specs.RingLists.{rings_dimensions, rings_rings, FitRings};
 
-use crate::ends::Ends;
+use crate::ends::{Ends, number_of_items};
 use crate::rings::Rings;
 use wkb_geom::{Dimensioned, Dimensions};
 use wkb_write::MadePolygons;
@@ -34,7 +34,7 @@ impl<'w> Polygons<'w> {
         ensures polygons { IfSome result
             (λ p. polygons_polygons p ≡ polygons_of rings.entry ends.entry) }
     {
-        if !ends.are_within(ends.start() as usize + rings.len()) {
+        if !ends.are_within(number_of_items(ends.start() + rings.len() as u64)) {
             return None;
         }
         Some(Polygons { rings, ends })

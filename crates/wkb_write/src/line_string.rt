@@ -15,7 +15,7 @@ pub fn measure_coordinates<L: LineStringTrait>(line: &L) -> Measured
     ensures { IsMeasureOf (ring_measure (L.dimensions line.now) (L.coordinates line.now)) result }
 {
     match count_to_write(line.num_coords() as u128) {
-        Some(count) => Measured::Bytes(COUNT_SIZE + words_size(line.dim(), count)),
+        Some(count) => Measured::Bytes(words_size(line.dim(), count).saturating_add(COUNT_SIZE)),
         None => Measured::Count,
     }
 }

@@ -80,13 +80,21 @@ pub fn words_to_measure(dim: Dimensions) -> usize
     dim.size().min(4)
 }
 
+/// A size as it is measured. Where `usize` has 64 bits it holds each.
+#[inline(always)]
+pub fn measured_size(size: u64) -> usize
+    ensures { result ≡ size }
+{
+    size.min(usize::MAX as u64) as usize
+}
+
 /// The size of `n` coordinates.
 #[inline(always)]
 pub fn words_size(dim: Dimensions, n: u32) -> usize
     ensures sum { result ≡ 8 * coordinate_words dim * n }
     ensures bound { result < 2 ^ 40 }
 {
-    WORD_SIZE * words_to_measure(dim) * n as usize
+    measured_size(WORD_SIZE as u64 * words_to_measure(dim) as u64 * n as u64)
 }
 
 /// A geometry of these dimensions, by what was measured of its body.

@@ -8,7 +8,7 @@ ghost use Rattle.wkb_write.specs.Prelude.{encoding_of, form_with_flags, inner};
 ghost use Rattle.wkb_write.specs.Prelude.{IsAdded, IsLeaf, IsMeasured, Lays, member_encoding, result_of};
 
 use crate::common::*;
-use crate::measure::{count_to_write, unsupported_dimension};
+use crate::measure::{count_to_write, measured_size, unsupported_dimension};
 use wkb_geom::{Dimensions, Endianness, Fault};
 
 /// A kind whose geometries may be collections of more of them. This is all that the recursion knows of a geometry, so
@@ -55,8 +55,9 @@ pub fn add_members<G: Dimensioned, K: Nested<G>>(
     let Some(count) = count_to_write(members.len() as u128) else {
         return Measured::from(Fault::Count);
     };
+    let own = measured_size(COUNT_SIZE as u64 + MEMBER_HEADER_SIZE as u64 * count as u64);
     let count = count as usize;
-    let mut total = before.saturating_add(COUNT_SIZE + MEMBER_HEADER_SIZE * count);
+    let mut total = before.saturating_add(own);
     for (i, member) in members.iter().enumerate() {
         if i + 1 == count {
             if let Some(inner) = K::members_of(member) {

@@ -8,7 +8,9 @@ use Rattle.wkb_write.proofs.nested.+measure.Goals as goal
 
 pub add_members-loop-i-init : goal.add_members-loop-i-init
 add_members-loop-i-init g t c = record {
-  ahead = members_ahead _ _ _ _ _ c.in_default.ensures c.in-Some-count_to_write.ensures c.saturating_add-total.ensures;
+  ahead =
+      members_ahead _ _ _ _ _ c.in_default.ensures c.in-Some-count_to_write.ensures
+      (omega (arith, c.measured_size-own.ensures, c.saturating_add-total.ensures));
   fits = omega (arith, c.saturating_add-total.ensures);
 }
 
