@@ -4,9 +4,6 @@
 #![warn(missing_debug_implementations)]
 #![no_std]
 
-#[cfg(not(target_pointer_width = "64"))]
-compile_error!("the sources are proved for a usize of 64 bits, and no other");
-
 extern crate alloc;
 #[cfg(feature = "std")]
 extern crate std;
