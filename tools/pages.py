@@ -30,7 +30,7 @@ def paths(*patterns):
     return [str(it.relative_to(ROOT)) for pattern in patterns for it in sorted({*files()} & {*ROOT.glob(pattern)})]
 
 
-PAGES = paths("*.md", "docs/*.md", "c/package/package.md", "python/README.md", "rust/**/README.md")
+PAGES = paths("*.md", "docs/*.md", "c/package/package.md", "python/README.md", "rust/**/README.md", "web/README.md")
 
 
 @functools.lru_cache(maxsize=None)

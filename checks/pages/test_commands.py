@@ -36,6 +36,7 @@ SOURCES = {
     "c": ["c/examples/*.c", "docs/START_C.md", "README.md"],
     "cpp": ["c/examples/example.cpp"],
     "python": ["c/examples/*.py", "python/**/*.py", "examples/*.py", "docs/START_PYTHON.md", "README.md"],
+    "js": ["web/README.md"],
     "sql": ["sqlite/queries.sql", "postgres/queries.sql", "docs/START_SQL.md", "README.md"],
 }
 # Whose examples are proved nowhere.
@@ -43,7 +44,7 @@ SKETCHED = ["crates/wkb/src/check.rt", "crates/wkb/src/lib.rt"]
 # The program as such commands run it: in its folder, or at the top.
 RUNS = re.compile(r"\(cd crates/wkb_hex && rt try -- (\S+) < \.\./\.\./(\S+)\)|\./wkb_hex (\S+) < (\S+)$")
 # The folders of our scripts.
-OURS = r"(?:\.ci|bench|c|checks|crates|docs|edits|examples|postgres|python|rust|sqlite|tools)"
+OURS = r"(?:\.ci|bench|c|checks|crates|docs|edits|examples|postgres|python|rust|sqlite|tools|web)"
 # With the kit these commands build and test everything, and README names them.
 KIT = "./wkb_hex be < examples/point.hex", "rt ci"
 # What runs the line that a page has for another processor.

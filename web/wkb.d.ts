@@ -1,0 +1,111 @@
+// SPDX-License-Identifier: MIT OR Apache-2.0
+export type Bytes = ArrayBufferView | ArrayBuffer;
+export type Kind = 'Point' | 'LineString' | 'Polygon' | 'MultiPoint' | 'MultiLineString' | 'MultiPolygon'
+  | 'GeometryCollection';
+export type Dimension = 'xy' | 'xyz' | 'xym' | 'xyzm';
+export type ByteOrder = 'big' | 'little';
+export type Reason = 'SHORT_HEADER' | 'INVALID_BYTE_ORDER' | 'CODE_OUT_OF_RANGE' | 'INCORRECT_TYPE'
+  | 'NESTING_DEPTH_EXCEEDED' | 'SHORT_POINT' | 'SHORT_LINE_STRING' | 'SHORT_MULTI_POINT' | 'SHORT_LINEAR_RING'
+  | 'NO_HEADER';
+export type Position = number[];
+export type Geometry =
+  | { type: 'Point'; coordinates: Position }
+  | { type: 'LineString' | 'MultiPoint'; coordinates: Position[] }
+  | { type: 'Polygon' | 'MultiLineString'; coordinates: Position[][] }
+  | { type: 'MultiPolygon'; coordinates: Position[][][] }
+  | { type: 'GeometryCollection'; geometries: Geometry[] };
+
+/** The kinds by their numbers, of which 0 is a ring, and the dimensions by theirs. */
+export const KINDS: readonly (Kind | 'Ring')[];
+export const DIMENSIONS: readonly Dimension[];
+
+/** Why some bytes are rejected: the first fault from their start on. */
+export class WkbError extends Error {
+  readonly reason: Reason;
+  /** The rejected part: how many geometries and rings begin before it. */
+  readonly part: number;
+  /** The byte at which that part begins. */
+  readonly offset: number;
+  /** Of CODE_OUT_OF_RANGE: the type code. */
+  readonly code: number | null;
+  /** Of a part that is cut off inside its coordinates: how many bytes it needs, and how many there are from `offset` on. */
+  readonly needed: number | null;
+  readonly has: number | null;
+}
+
+export interface Header {
+  kind: Kind;
+  dimension: Dimension;
+  byteOrder: ByteOrder;
+  srid: number | null;
+}
+
+export interface Found extends Header {
+  /** Its length in bytes; bytes after it aren't looked at. */
+  size: number;
+  /** How many parts it has: itself, and its rings and members at every level. */
+  parts: number;
+  /** How many coordinates these have; a point has one, an empty point too. */
+  coordinates: number;
+}
+
+export interface Part extends Omit<Header, 'kind'> {
+  kind: Kind | 'Ring';
+  /** Where it begins and ends. */
+  begin: number;
+  end: number;
+  /** Where its own coordinates, rings or members begin, and how many there are. */
+  offset: number;
+  count: number;
+  /** The index of the part after all that is inside it. */
+  next: number;
+}
+
+/** Without a number it is from Infinity to -Infinity. */
+export interface Range {
+  min: number;
+  max: number;
+  count: number;
+}
+
+export interface WriteOptions {
+  /** By default 'little'. */
+  byteOrder?: ByteOrder;
+  /** By default 'iso', which has no SRID. */
+  form?: 'iso' | 'ewkb';
+  /** Of 'ewkb': a number, null for none; by default the geometry's own. */
+  srid?: number | null;
+}
+
+export interface GeopackageHeader {
+  /** Where the geometry begins. */
+  size: number;
+  /** 0 and -1 stand for undefined ones. */
+  srsId: number;
+  isEmpty: boolean;
+  axes: '' | Dimension;
+  /** Of each axis the least and the greatest number, as the header says. */
+  envelope: [number, number][];
+}
+
+/** Each call throws a WkbError for rejected bytes, a TypeError or RangeError for wrong arguments or want of memory. */
+export function check(bytes: Bytes): Found;
+/** The bounds of all coordinates; NaNs are left out. */
+export function bounds(bytes: Bytes): { x: Range; y: Range; z: Range; m: Range };
+/** The geometry, its rings and members at every level, each before what is inside it. */
+export function parts(bytes: Bytes): Part[];
+/** As `parts`; of rejected bytes the error, and the parts before the rejected one. In these `end` and `next` are those
+ * without rings and members. */
+export function inspect(bytes: Bytes): { parts: Part[]; error: WkbError | null };
+/** The numbers of the coordinates of a ring, a point or a line string of these bytes. */
+export function words(bytes: Bytes, part: Part): Float64Array;
+/** The geometry as GeoJSON has it: without M, and without SRIDs. An empty point has no coordinates. */
+export function toGeoJSON(bytes: Bytes): Geometry;
+/** The one encoding that a geometry has under the options. */
+export function write(bytes: Bytes, options?: WriteOptions): Uint8Array;
+/** The key of a geometry: two have the same bytes exactly if they are equal. */
+export function canonical(bytes: Bytes): Uint8Array;
+/** Whether two geometries are equal, coordinates bit for bit; byte orders and SRIDs don't count. */
+export function equal(a: Bytes, b: Bytes): boolean;
+/** The header before the geometry in a GeoPackage's blob. */
+export function geopackageHeader(blob: Bytes): GeopackageHeader;

@@ -1,0 +1,228 @@
+// SPDX-License-Identifier: MIT OR Apache-2.0
+// Reads and writes WKB and EWKB in browsers, workers and Node.js. What is checked, measured, compared and written is so
+// by the proved sources, as WebAssembly (wasm.rs). This file copies the input there, and makes objects of the numbers.
+import code from './code.js';
+
+const { instance } = await WebAssembly.instantiate(Uint8Array.from(atob(code), (it) => it.charCodeAt(0)));
+const calls = instance.exports;
+const desk = calls.wkb_desk();
+let bytesThere, wordsThere, doublesThere, viewThere;
+
+/** Views of the module's memory, which is another one when it has grown. */
+function look() {
+  if (bytesThere?.buffer === calls.memory.buffer) return;
+  const { buffer } = calls.memory;
+  bytesThere = new Uint8Array(buffer);
+  viewThere = new DataView(buffer);
+  wordsThere = new Uint32Array(buffer);
+  doublesThere = new Float64Array(buffer);
+}
+
+// The places of `Desk` in wasm.rs, in words of four bytes and in doubles.
+const [FOUND, FAULT, HEADER, RESULT] = [0, 16, 66, 70].map((it) => desk / 4 + it);
+const [BOUNDS, ENVELOPE] = [13, 25].map((it) => desk / 8 + it);
+const PART_WORDS = 16;
+const STATUS = { noMemory: 1, code: 34, shortPoint: 48 };
+const REASONS = {
+  32: 'SHORT_HEADER', 33: 'INVALID_BYTE_ORDER', 34: 'CODE_OUT_OF_RANGE', 35: 'INCORRECT_TYPE',
+  36: 'NESTING_DEPTH_EXCEEDED', 48: 'SHORT_POINT', 49: 'SHORT_LINE_STRING', 50: 'SHORT_MULTI_POINT',
+  51: 'SHORT_LINEAR_RING',
+};
+/** The kinds by their numbers, and the ordinates by those of dimensions. */
+export const KINDS = ['Ring', 'Point', 'LineString', 'Polygon', 'MultiPoint', 'MultiLineString', 'MultiPolygon',
+  'GeometryCollection'];
+export const DIMENSIONS = ['xy', 'xyz', 'xym', 'xyzm'];
+const ORDERS = ['big', 'little'];
+const AXES = ['', ...DIMENSIONS];
+
+const NO_NUMBERS = { part: 0, offset: 0, code: null, needed: null, has: null };
+
+/** Why some bytes are rejected: the first fault from their start on. */
+export class WkbError extends Error {
+  constructor(message, fields) {
+    super(message);
+    this.name = 'WkbError';
+    Object.assign(this, fields);
+  }
+}
+
+function asBytes(input) {
+  if (input instanceof Uint8Array) return input;
+  if (ArrayBuffer.isView(input)) return new Uint8Array(input.buffer, input.byteOffset, input.byteLength);
+  if (input instanceof ArrayBuffer) return new Uint8Array(input);
+  throw new TypeError('the input has to be a Uint8Array, another view or an ArrayBuffer');
+}
+
+const lengthOf = Object.getOwnPropertyDescriptor(Object.getPrototypeOf(Uint8Array.prototype), 'length').get;
+
+/** Copies an input, and returns where it is. Its length is the true one, whatever a subclass says, and no more is
+ * copied, also if another thread makes the input longer. */
+function put(input) {
+  const bytes = asBytes(input);
+  const length = lengthOf.call(bytes);
+  const at = calls.wkb_input(desk, length) >>> 0;
+  look();
+  if (at === 0) throw new RangeError('out of memory');
+  bytesThere.subarray(at, at + length).set(bytes);
+  return at;
+}
+
+/** A copy of the last result of many bytes. */
+const result = () => bytesThere.slice(wordsThere[RESULT], wordsThere[RESULT] + wordsThere[RESULT + 1]);
+
+function text() {
+  look();
+  return new TextDecoder().decode(result());
+}
+
+function error(status) {
+  if (status === STATUS.noMemory) return new RangeError('out of memory');
+  const it = wordsThere.subarray(FAULT, FAULT + 10);
+  const ends = status >= STATUS.shortPoint;
+  const fields = { reason: REASONS[status], part: it[0], offset: it[2], code: status === STATUS.code ? it[8] : null,
+    needed: ends ? it[4] + it[5] * 2 ** 32 : null, has: ends ? it[6] : null };
+  calls.wkb_text(desk);
+  return new WkbError(text(), fields);
+}
+
+/** Makes a call over the input, and throws if it is rejected. */
+function ask(call, input) {
+  put(input);
+  const status = call(desk);
+  look();
+  if (status !== 0) throw error(status);
+}
+
+/** Adds the header of a geometry or of a part, whose numbers are at a place. */
+function withHeader(it, at) {
+  it.kind = KINDS[wordsThere[at + 12]];
+  it.dimension = DIMENSIONS[wordsThere[at + 13]];
+  it.byteOrder = ORDERS[wordsThere[at + 15]];
+  it.srid = wordsThere[at + 11] ? wordsThere[at + 10] : null;
+  return it;
+}
+
+/** What is at the start of the bytes. */
+export function check(bytes) {
+  ask(calls.wkb_check, bytes);
+  const [size, parts, coordinates] = [wordsThere[FOUND], wordsThere[FOUND + 2], wordsThere[FOUND + 4]];
+  return withHeader({ size, parts, coordinates }, FOUND);
+}
+
+/** The range of each ordinate, without NaNs; of none it is from Infinity to -Infinity. */
+export function bounds(bytes) {
+  ask(calls.wkb_bounds, bytes);
+  const range = (at) => ({ min: doublesThere[at], max: doublesThere[at + 1], count: wordsThere[2 * at + 4] });
+  return { x: range(BOUNDS), y: range(BOUNDS + 3), z: range(BOUNDS + 6), m: range(BOUNDS + 9) };
+}
+
+const partAt = (at) => withHeader({ begin: wordsThere[at], end: wordsThere[at + 2], offset: wordsThere[at + 4],
+  count: wordsThere[at + 6], next: wordsThere[at + 8] }, at);
+
+/** The parts in preorder; of rejected bytes the error, and the parts before the rejected one. */
+export function inspect(bytes) {
+  put(bytes);
+  const status = calls.wkb_parts(desk);
+  look();
+  if (status === STATUS.noMemory) throw error(status);
+  const [place, count] = wordsThere.subarray(RESULT, RESULT + 2);
+  const parts = [];
+  for (let i = 0; i < count; i++) parts.push(partAt(place / 4 + PART_WORDS * i));
+  return { parts, error: status === 0 ? null : error(status) };
+}
+
+/** A table of a geometry, its rings and members at every level, in preorder. */
+export function parts(bytes) {
+  const found = inspect(bytes);
+  if (found.error) throw found.error;
+  return found.parts;
+}
+
+/** The numbers of the coordinates of a ring, a point or a line string, bit for bit. */
+export function words(bytes, part) {
+  const width = KINDS.indexOf(part.kind) < 3 ? part.dimension.length : 0;
+  const own = asBytes(bytes).slice(part.offset, part.offset + 8 * width * part.count);
+  if (part.byteOrder === 'big') for (let i = 0; i < own.length; i += 8) own.subarray(i, i + 8).reverse();
+  return new Float64Array(own.buffer);
+}
+
+/** Writes the one encoding that a geometry has under the options. */
+export function write(bytes, { byteOrder = 'little', form = 'iso', srid } = {}) {
+  const order = ORDERS.indexOf(byteOrder);
+  if (order < 0 || !['iso', 'ewkb'].includes(form)) throw new TypeError(`no byte order or form: ${byteOrder}, ${form}`);
+  const isNumber = Number.isInteger(srid) && srid >= 0 && srid < 2 ** 32;
+  if (!isNumber && srid != null) throw new RangeError(`no SRID: ${srid}`);
+  const number = form === 'iso' ? 0 : isNumber ? 2 : srid === null ? 3 : 1;
+  ask(() => calls.wkb_write(desk, order, number, srid ?? 0), bytes);
+  return result();
+}
+
+/** The key of a geometry: two have the same bytes exactly if they are equal. */
+export const canonical = (bytes) => write(bytes);
+
+/** Whether two geometries are equal, whatever their byte orders and SRIDs are: no key is the start of another. */
+export function equal(a, b) {
+  const [one, other] = [canonical(a), canonical(b)];
+  return one.every((it, i) => it === other[i]);
+}
+
+/** The header of a GeoPackage's blob: the geometry begins at `size`. */
+export function geopackageHeader(blob) {
+  put(blob);
+  const status = calls.wkb_geopackage(desk);
+  look();
+  if (status !== 0) throw new WkbError(text(), { ...NO_NUMBERS, reason: 'NO_HEADER' });
+  const [size, srsId, isEmpty, axes] = wordsThere.subarray(HEADER, HEADER + 4);
+  const envelope = Array.from({ length: AXES[axes].length }, (_, i) => [...doublesThere.subarray(ENVELOPE + 2 * i, ENVELOPE + 2 * i + 2)]);
+  return { size, srsId: srsId | 0, isEmpty: isEmpty === 1, axes: AXES[axes], envelope };
+}
+
+/** The geometry as GeoJSON has it. M is left out, and so are SRIDs. */
+export function toGeoJSON(bytes) {
+  const from = put(bytes);
+  const status = calls.wkb_parts(desk);
+  look();
+  if (status !== 0) throw error(status);
+  return new Geometries(from, wordsThere[RESULT] / 4).next();
+}
+
+/** Makes objects of the table of parts, from one to the next. */
+class Geometries {
+  constructor(from, at) {
+    this.from = from;
+    this.at = at;
+  }
+
+  next() {
+    const kind = wordsThere[this.at + 12];
+    const count = wordsThere[this.at + 6];
+    if (kind < 3) return { type: KINDS[kind], coordinates: this.own(kind === 1) };
+    this.at += PART_WORDS;
+    if (kind === 7) return { type: KINDS[kind], geometries: this.list(count, () => this.next()) };
+    const member = kind === 3 ? () => this.own(false) : () => this.next().coordinates;
+    return { type: KINDS[kind], coordinates: this.list(count, member) };
+  }
+
+  list(count, member) {
+    const items = [];
+    for (let i = 0; i < count; i++) items.push(member());
+    return items;
+  }
+
+  /** The coordinates of a point, a line string or a ring; none of an empty point. */
+  own(isPoint) {
+    const [it, view] = [this.at, viewThere];
+    const [hasZ, width, isLittle] = [wordsThere[it + 13] % 2 === 1, wordsThere[it + 14], wordsThere[it + 15] === 1];
+    const items = [];
+    let at = this.from + wordsThere[it + 4];
+    for (const end = at + 8 * width * wordsThere[it + 6]; at < end; at += 8 * width) {
+      const position = [view.getFloat64(at, isLittle), view.getFloat64(at + 8, isLittle)];
+      if (hasZ) position.push(view.getFloat64(at + 16, isLittle));
+      items.push(position);
+    }
+    this.at += PART_WORDS;
+    if (!isPoint) return items;
+    const isNaNs = items[0].every(Number.isNaN) && Number.isNaN(view.getFloat64(at - 8, isLittle));
+    return isNaNs ? [] : items[0];
+  }
+}
