@@ -13,7 +13,7 @@ from checks import judge
 from pages import PAGES, ROOT, files, lines_of, paths, prose_of, rows_of, spans, texts
 
 # What commands make, and a folder of the C package.
-MADE_PATHS = {"rust/src/wkb*", "source/", "web/out/package"}
+MADE_PATHS = {"rust/src/wkb*", "source/", "web/out/package", "web/out/inspector.html"}
 # How a path in a command begins that is ours, and not built.
 OURS = re.compile(r"(bench|c|checks|crates|docs|edits|examples|postgres|python|rust|sqlite|tools|web)/(?!out)")
 # The words in capitals that stand for a part of a path.

@@ -1,0 +1,180 @@
+// SPDX-License-Identifier: MIT OR Apache-2.0
+// What the bytes of an input mean, field by field, also of rejected ones, as far as they go.
+import { DIMENSIONS, KINDS, geopackageHeader, inspect } from './wkb.js';
+
+const SRID_FLAG = 0x20000000;
+const NOUNS = { Point: 'coordinate', LineString: 'coordinate', Ring: 'coordinate', Polygon: 'ring' };
+export const nounOf = (kind) => NOUNS[kind] ?? 'member';
+export const counted = (count, noun) => `${count.toLocaleString('en')} ${noun}${count === 1 ? '' : 's'}`;
+const hex = (number) => `0x${number.toString(16).padStart(8, '0')}`;
+
+/** A number in the fewest digits, as JavaScript has it, but with the sign of zero. */
+export const spelled = (it) => Object.is(it, -0) ? '-0' : String(it).replace('Infinity', 'infinity');
+
+/** The parts with their depth, and the one that they are inside of; the rejected one is the last. */
+export function readParts(bytes, front) {
+  const { parts, error } = inspect(bytes.subarray(front));
+  const open = [];
+  for (const [index, part] of parts.entries()) {
+    place(part, open);
+    part.index = index;
+    if (KINDS.indexOf(part.kind) > 2) open.push({ part, left: part.count });
+  }
+  if (!error) return { parts, error };
+  const rejected = { index: parts.length, begin: error.offset, error };
+  place(rejected, open);
+  describe(rejected, bytes, front);
+  return { parts: [...parts, rejected], error };
+}
+
+/** Gives the rejected part what there is of a part: its kind, and the coordinates that are whole. */
+function describe(part, bytes, front) {
+  if (part.inside?.kind === 'Polygon') {
+    Object.assign(part, { kind: 'Ring', dimension: part.inside.dimension, byteOrder: part.inside.byteOrder });
+  }
+  const fields = new Fields(bytes, front + part.begin, part);
+  const header = fields.front();
+  if (!header) return;
+  const byteOrder = header.isLittle ? 'little' : 'big';
+  Object.assign(part, { kind: header.kind, dimension: header.axes, byteOrder, offset: 0, count: 0 });
+  const count = header.kind === 'Point' ? 1 : fields.count(header.kind, header.isLittle);
+  const left = Math.floor((bytes.length - fields.at) / (8 * header.axes.length));
+  if (KINDS.indexOf(header.kind) < 3) Object.assign(part, { offset: fields.at - front, count: Math.min(count, left) });
+}
+
+function place(part, open) {
+  while (open.length > 0 && open[open.length - 1].left === 0) open.pop();
+  const around = open[open.length - 1];
+  if (around) around.left--;
+  part.depth = open.length;
+  part.inside = around?.part ?? null;
+  part.number = around ? around.part.count - around.left - 1 : 0;
+}
+
+/** Reads the fields of a part in order, as many as there are. */
+class Fields {
+  constructor(bytes, at, part) {
+    this.view = new DataView(bytes.buffer, bytes.byteOffset, bytes.byteLength);
+    this.at = at;
+    this.part = part;
+    this.rows = [];
+    this.isWhole = true;
+  }
+
+  /** Goes past a field, and says what it means. One that is cut off is the last. */
+  take(length, name, say) {
+    if (!this.isWhole) return null;
+    const there = Math.min(length, this.view.byteLength - this.at);
+    this.isWhole = there === length;
+    const value = this.isWhole ? say(this.at) : null;
+    const text = value?.text ?? `cut off: ${there} of ${length} bytes`;
+    const isBad = !this.isWhole || value.isBad;
+    this.rows.push({ at: this.at, spans: [{ length: there, name }], text, part: this.part, isBad });
+    this.at += there;
+    return value;
+  }
+
+  number(isLittle) {
+    return (at) => this.view.getUint32(at, isLittle);
+  }
+
+  /** The header, which a ring has of its polygon; null if it isn't whole. */
+  front() {
+    const { kind, dimension, byteOrder } = this.part;
+    return kind === 'Ring' ? { kind, axes: dimension, isLittle: byteOrder === 'little' } : this.header();
+  }
+
+  header() {
+    const order = this.take(1, 'order', (at) => {
+      const byte = this.view.getUint8(at);
+      const text = ['big endian', 'little endian'][byte] ?? `no byte order: ${byte}, which is neither 0 nor 1`;
+      return { byte, text, isBad: byte > 1 };
+    });
+    if (!order || order.isBad) return null;
+    const isLittle = order.byte === 1;
+    const { reason, offset } = this.part.error ?? {};
+    const isCode = offset !== undefined && !reason.startsWith('SHORT');
+    const code = this.take(4, 'code', (at) => this.code(this.number(isLittle)(at), isCode));
+    if (!code?.kind) return null;
+    if (code.hasSrid) this.take(4, 'srid', (at) => ({ text: `SRID ${this.number(isLittle)(at)}` }));
+    return this.isWhole ? { ...code, isLittle } : null;
+  }
+
+  code(code, isBad) {
+    const bare = code & ~0xe0000000;
+    const dimension = Math.floor(bare / 1000) | code >>> 31 | code >>> 29 & 2;
+    const kind = bare < 4000 ? KINDS[bare % 1000 || 8] : undefined;
+    const spelt = `code ${code > 0xffff ? hex(code) : code}`;
+    if (!kind) return { text: `${spelt}, which no geometry here has`, isBad: true };
+    return { kind, axes: DIMENSIONS[dimension], hasSrid: (code & SRID_FLAG) !== 0, isBad,
+      text: `${spelt}: ${kind}, ${DIMENSIONS[dimension]}${code & SRID_FLAG ? ', with an SRID' : ''}` };
+  }
+
+  /** A count of what the part has; if less is there, it may be the culprit. */
+  count(kind, isLittle) {
+    const { needed, has } = this.part.error ?? {};
+    return this.take(4, 'count', (at) => {
+      const count = this.number(isLittle)(at);
+      const claim = needed ? `: the part would have ${counted(needed, 'byte')}, and there are ${has.toLocaleString('en')}` : '';
+      return { count, text: counted(count, nounOf(kind)) + claim, isBad: Boolean(needed) };
+    })?.count ?? 0;
+  }
+
+  /** Coordinates: so many from the first one on, and the last; or as many as there are. */
+  coordinates(count, axes, isLittle, most) {
+    const size = 8 * axes.length;
+    const whole = Math.min(count, Math.floor((this.view.byteLength - this.at) / size));
+    for (let i = 0; i < whole && this.isWhole; i++) {
+      if (whole > most && i === most - 1) {
+        const more = whole - most;
+        this.rows.push({ at: this.at, spans: [], text: `.. ${counted(more, 'more coordinate')}`, part: this.part, isGap: true });
+        this.at += size * more;
+        i += more;
+      }
+      this.coordinate(axes, isLittle);
+    }
+    if (whole === count) return;
+    for (const axis of axes) this.take(8, axis, (at) => this.word(at, axis, isLittle));
+  }
+
+  word(at, axis, isLittle) {
+    return { text: `${axis} ${spelled(this.view.getFloat64(at, isLittle))}` };
+  }
+
+  coordinate(axes, isLittle) {
+    const texts = [...axes].map((axis, i) => this.word(this.at + 8 * i, axis, isLittle).text);
+    const spans = [...axes].map((name) => ({ length: 8, name }));
+    this.rows.push({ at: this.at, spans, text: texts.join('  '), part: this.part });
+    this.at += 8 * axes.length;
+  }
+}
+
+/** The rows of one part: its fields, of long lists the first coordinates and the last. */
+export function rowsOf(bytes, front, part, most) {
+  const fields = new Fields(bytes, front + part.begin, part);
+  const header = fields.front();
+  if (header) {
+    const { kind, axes, isLittle } = header;
+    const count = kind === 'Point' ? 1 : fields.count(kind, isLittle);
+    if (fields.isWhole && KINDS.indexOf(kind) < 3) fields.coordinates(count, axes, isLittle, most);
+  }
+  const { rows } = fields;
+  if (part.error && !rows.some((it) => it.isBad)) {
+    rows.push({ at: fields.at, spans: [], text: 'the input ends here', part, isBad: true });
+  }
+  return rows;
+}
+
+/** The header of a GeoPackage's blob, if the bytes begin with one: its size, and the rows of its fields. */
+export function readFront(bytes) {
+  if (bytes[0] !== 0x47 || bytes[1] !== 0x50) return { size: 0, rows: [] };
+  const header = geopackageHeader(bytes);
+  const row = (at, length, name, text) => ({ at, spans: [{ length, name }], text, part: null });
+  const rows = [row(0, 2, 'order', 'the header of a GeoPackage'), row(2, 1, 'code', `version ${bytes[2] + 1}`),
+    row(3, 1, 'code', `flags: ${bytes[3] & 1 ? 'little' : 'big'} endian, ${header.axes || 'no'} envelope${header.isEmpty ? ', empty' : ''}`),
+    row(4, 4, 'srid', `SRID ${header.srsId}`)];
+  header.envelope.forEach(([least, greatest], i) => rows.push({ at: 8 + 16 * i, part: null,
+    spans: [{ length: 8, name: header.axes[i] }, { length: 8, name: header.axes[i] }],
+    text: `${header.axes[i]} from ${spelled(least)} to ${spelled(greatest)}` }));
+  return { size: header.size, rows, header };
+}

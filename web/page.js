@@ -1,0 +1,346 @@
+// SPDX-License-Identifier: MIT OR Apache-2.0
+// The inspector: what is put into the page is put as text, never as HTML.
+import { KINDS, bounds, check, toGeoJSON, write } from './wkb.js';
+import { decode, inputsOf, isText } from './input.js';
+import { counted, nounOf, readFront, readParts, rowsOf, spelled } from './explain.js';
+import { draw } from './drawing.js';
+
+const MOST = { typed: 200000, parts: 300, rows: 400, hex: 4000, checked: 100000 };
+const EXAMPLES = [
+  ['A point', '0101000000000000000000f03f0000000000000040'],
+  ['A polygon with a hole, from PostGIS', '0103000020E6100000020000000500000000000000000000000000000000000000000000000000000000000000000024400000000000002440000000000000244000000000000024400000000000000000000000000000000000000000000000000500000000000000000000400000000000000040000000000000004000000000000010400000000000001040000000000000104000000000000010400000000000000040' + '00000000000000400000000000000040'],
+  ['A collection in both byte orders', '0107000000020000000101000080000000000000f03f000000000000004000000000000008400000000002000000023ff0000000000000400000000000000040080000000000004010000000000000'],
+  ['A ring that is cut off', '0103000020e610000001000000050000000000000000000000000000000000000000000000000024400000'],
+  ['A count that lies', '0102000000ffffffff000000000000f03f0000000000000040'],
+  ['A curve', '0108000000030000000000000000000000000000000000f03f'],
+  ['A blob of a GeoPackage', '47500001e61000000101000000000000000000f03f0000000000000040'],
+  ['Three lines, one of them wrong', '0101000000000000000000f03f0000000000000040\n0201000000000000000000f03f0000000000000040\nAQEAAAAAAAAAAAAIQAAAAAAAABBA'],
+];
+const $ = (id) => document.getElementById(id);
+/** The inputs, as texts or bytes; the one that is shown; and how many of its rows are. */
+const state = { inputs: [], index: 0, rows: MOST.rows, bytes: null, parts: [], front: null, statuses: [] };
+
+/** An element with a class, and texts or elements in it. */
+function make(name, className, ...children) {
+  const it = document.createElement(name);
+  if (className) it.className = className;
+  it.append(...children);
+  return it;
+}
+
+function hexOf(bytes) {
+  let text = '';
+  for (const it of bytes) text += it.toString(16).padStart(2, '0');
+  return text;
+}
+
+const bytesAt = (index) => typeof state.inputs[index] === 'string' ? decode(state.inputs[index]) : state.inputs[index];
+
+/** Why an input is rejected, or null. */
+function faultOf(index) {
+  try {
+    const bytes = bytesAt(index);
+    check(bytes.subarray(readFront(bytes).size));
+    return null;
+  } catch (error) {
+    return error;
+  }
+}
+
+function take(inputs, source) {
+  Object.assign(state, { inputs, statuses: [] });
+  $('source').textContent = source;
+  $('rows').hidden = inputs.length < 2;
+  if (inputs.length > 1) {
+    state.statuses = inputs.slice(0, MOST.checked).map((_, i) => faultOf(i) === null);
+    const bad = state.statuses.filter((it) => !it).length;
+    const all = state.statuses.length < inputs.length ? `the first ${counted(MOST.checked, 'line')}: ` : '';
+    $('summary').textContent = all + (bad ? `${bad.toLocaleString('en')} rejected` : 'none is rejected');
+    $('next-bad').disabled = bad === 0;
+    $('count').textContent = inputs.length.toLocaleString('en');
+    $('row').max = inputs.length;
+  }
+  show(0);
+}
+
+/** Shows one of the inputs. */
+function show(index) {
+  state.index = Math.max(0, Math.min(index, state.inputs.length - 1));
+  state.rows = MOST.rows;
+  $('row').value = state.index + 1;
+  $('before').disabled = state.index === 0;
+  $('after').disabled = state.index + 1 >= state.inputs.length;
+  $('found').hidden = true;
+  say('', false);
+  if (state.inputs.length === 0) return;
+  try {
+    state.bytes = bytesAt(state.index);
+    state.front = readFront(state.bytes);
+    showBytes();
+  } catch (error) {
+    say(error.name === 'WkbError' ? `Rejected: ${error.message}` : `No bytes: ${error.message}`, true);
+  }
+}
+
+function say(text, isBad) {
+  $('verdict').textContent = text;
+  $('verdict').classList.toggle('bad', isBad);
+}
+
+function showBytes() {
+  const { bytes, front } = state;
+  const { parts, error } = readParts(bytes, front.size);
+  state.parts = parts;
+  const own = bytes.subarray(front.size);
+  const found = error ? null : check(own);
+  if (error) {
+    const ends = error.needed ? `; it needs ${counted(error.needed, 'byte')} from there on, and has ${error.has.toLocaleString('en')}` : '';
+    const text = error.message.replace(/, at byte .*/, '');
+    say(`Rejected: ${text}, in the part at byte ${(error.offset + front.size).toLocaleString('en')}${ends}.`, true);
+  } else {
+    say(`${found.kind}, ${found.dimension}${found.srid === null ? '' : `, SRID ${found.srid}`}, ${found.byteOrder} endian, ${counted(found.size, 'byte')}.`, false);
+  }
+  $('found').hidden = false;
+  $('forms').hidden = Boolean(error);
+  showFacts(own, found, error);
+  showDrawing(own, found ? bounds(own) : null);
+  showParts();
+  showRows();
+  if (found) showForms(own, found);
+}
+
+function showFacts(own, found, error) {
+  const facts = [];
+  if (found) {
+    const more = own.length - found.size;
+    facts.push(['Kind', found.kind], ['Dimension', found.dimension], ['SRID', found.srid ?? 'none'],
+      ['Byte order', `${found.byteOrder} endian`], ['Size', counted(found.size, 'byte')]);
+    if (more > 0) facts.push(['Behind it', counted(more, 'more byte')]);
+    facts.push(['Parts', found.parts.toLocaleString('en')], ['Coordinates', found.coordinates.toLocaleString('en')]);
+    for (const [axis, { min, max, count }] of Object.entries(bounds(own))) {
+      if (count > 0) facts.push([`Least ${axis}`, spelled(min)], [`Greatest ${axis}`, spelled(max)]);
+      else if (found.dimension.includes(axis)) facts.push([axis, 'no number']);
+    }
+  } else {
+    facts.push(['Reason', error.reason], ['Part', error.part.toLocaleString('en')], ['Its byte', error.offset.toLocaleString('en')]);
+    if (error.needed) facts.push(['It needs', counted(error.needed, 'byte')], ['It has', counted(error.has, 'byte')]);
+    facts.push(['Input', counted(own.length, 'byte')]);
+  }
+  if (state.front.header) facts.push(['GeoPackage', `${counted(state.front.size, 'byte')} of header, SRID ${state.front.header.srsId}`]);
+  $('facts').replaceChildren(...facts.flatMap(([name, value]) => [make('dt', '', name), make('dd', '', String(value))]));
+}
+
+function showDrawing(own, box) {
+  const width = Math.max(280, $('drawing').clientWidth);
+  const drawn = draw(own, state.parts, box ?? boundsOfWhole(own, state.parts), width);
+  $('drawing').replaceChildren(...(drawn ? [drawn.picture] : []));
+  drawn?.picture.setAttribute('aria-label', `A drawing of ${counted(drawn.drawn, 'coordinate')}`);
+  const { drawn: count, all } = drawn ?? {};
+  $('drawn').textContent = !drawn ? 'There is no coordinate to draw.'
+    : count < all ? `A sample: ${count.toLocaleString('en')} of ${counted(all, 'coordinate')}.`
+      : box ? `x to the right, y upwards: ${counted(all, 'coordinate')}.` : 'The coordinates before the fault.';
+}
+
+/** The bounds of the coordinates before a fault. */
+function boundsOfWhole(own, parts) {
+  const box = { x: { min: Infinity, max: -Infinity, count: 0 }, y: { min: Infinity, max: -Infinity, count: 0 } };
+  for (const part of parts.slice(0, MOST.checked)) {
+    if (!(KINDS.indexOf(part.kind) < 3) || !part.count) continue;
+    const view = new DataView(own.buffer, own.byteOffset);
+    for (let i = 0, at = part.offset; i < part.count; i++, at += 8 * part.dimension.length) {
+      [box.x, box.y].forEach((it, n) => {
+        const value = view.getFloat64(at + 8 * n, part.byteOrder === 'little');
+        if (Number.isNaN(value)) return;
+        Object.assign(it, { min: Math.min(it.min, value), max: Math.max(it.max, value), count: it.count + 1 });
+      });
+    }
+  }
+  return box;
+}
+
+/** What a part is called. */
+function nameOf(part) {
+  if (!part.kind) return 'rejected part';
+  if (part.kind !== 'Ring') return part.kind;
+  return part.number === 0 ? 'exterior ring' : `interior ring ${part.number}`;
+}
+
+/** The parts that are shown of many: the first ones, and the rejected one. */
+function shownParts(most) {
+  const { parts } = state;
+  if (parts.length <= most) return parts;
+  const last = parts[parts.length - 1];
+  return last.error ? [...parts.slice(0, most - 1), last] : parts.slice(0, most);
+}
+
+function showParts() {
+  const shown = shownParts(MOST.parts);
+  const items = shown.map((part) => {
+    const button = make('button', part.error ? 'bad' : '', nameOf(part));
+    if (!part.error) button.append(' ', make('small', '', KINDS.indexOf(part.kind) === 1 ? '' : counted(part.count, nounOf(part.kind))));
+    button.type = 'button';
+    button.dataset.part = part.index;
+    button.style.paddingLeft = `${0.4 + Math.min(part.depth, 12)}rem`;
+    button.setAttribute('aria-pressed', 'false');
+    return make('li', '', button);
+  });
+  const more = state.parts.length - shown.length;
+  if (more > 0) items.push(make('li', 'note', `and ${counted(more, 'more part')}`));
+  $('parts').replaceChildren(...items);
+}
+
+/** Marks a part where it is shown, and goes to its bytes. */
+function choose(index, isToScroll) {
+  for (const it of document.querySelectorAll('.is-chosen')) it.classList.remove('is-chosen');
+  for (const it of $('parts').querySelectorAll('button')) it.setAttribute('aria-pressed', String(it.dataset.part === index));
+  const [rows, shapes] = ['#bytes tr', '.shapes path'].map((it) => document.querySelectorAll(`${it}[data-part="${CSS.escape(index)}"]`));
+  for (const it of [...rows, ...shapes]) it.classList.add('is-chosen');
+  if (isToScroll) rows[0]?.scrollIntoView({ block: 'nearest' });
+}
+
+function rowOf(row) {
+  const hex = make('td', row.isBad ? 'bad' : '');
+  let at = row.at;
+  for (const { length, name } of row.spans) {
+    const digits = hexOf(state.bytes.subarray(at, at + Math.min(length, 32))).replace(/..(?!$)/g, '$& ');
+    if (length > 0) hex.append(make('span', `span ${name}`, digits + (length > 32 ? ' ..' : '')), ' ');
+    at += length;
+  }
+  const it = make('tr', '', make('td', '', row.isGap ? '' : row.at.toLocaleString('en')), hex, make('td', row.isBad ? 'bad' : '', row.text));
+  if (row.part) it.dataset.part = row.part.index;
+  return it;
+}
+
+function headingOf(part) {
+  const place = part.inside && part.kind !== 'Ring' ? `member ${part.number}: ${nameOf(part)}` : nameOf(part);
+  const heading = make('th', '', place);
+  heading.colSpan = 3;
+  const it = make('tr', '', heading);
+  it.dataset.part = part.index;
+  return it;
+}
+
+function showRows() {
+  const { bytes, front, parts } = state;
+  const out = front.rows.map(rowOf);
+  let [count, last] = [0, -1];
+  for (const part of [...parts.slice(0, -1), ...parts.slice(-1)]) {
+    const isLast = part === parts[parts.length - 1];
+    if (count > state.rows && !(isLast && part.error)) continue;
+    if (part.index > last + 1) out.push(make('tr', '', make('td'), make('td'), make('td', '', `.. ${counted(part.index - last - 1, 'more part')}`)));
+    const rows = rowsOf(bytes, front.size, part, Math.max(6, state.rows / 50));
+    out.push(...(parts.length > 1 ? [headingOf(part)] : []), ...rows.map(rowOf));
+    count += rows.length + 1;
+    last = part.index;
+  }
+  const left = parts.length - 1 - last;
+  if (left > 0) out.push(make('tr', '', make('td'), make('td'), make('td', '', `.. ${counted(left, 'more part')}`)));
+  out.push(...endRows());
+  $('bytes').replaceChildren(...out);
+  $('more').hidden = left === 0 && !$('bytes').textContent.includes('.. ');
+  const names = [...new Set([...$('bytes').querySelectorAll('.span')].map((it) => it.classList[1]))];
+  const words = { order: 'byte order', code: 'type code', srid: 'SRID', rest: 'behind it' };
+  $('legend').replaceChildren(...names.map((it) => make('span', `span ${it}`, words[it] ?? it)));
+}
+
+/** The end of a geometry, and the bytes behind it. */
+function endRows() {
+  const { bytes, front, parts } = state;
+  if (parts[parts.length - 1].error) return [];
+  const at = front.size + parts[0].end;
+  const more = bytes.length - at;
+  const spans = more > 0 ? [{ length: more, name: 'rest' }] : [];
+  return [rowOf({ at, spans, text: more > 0 ? `${counted(more, 'byte')} behind the geometry` : 'the end', part: null })];
+}
+
+function showForms(own, found) {
+  const forms = [['Canonical key', {}], ['Big endian', { byteOrder: 'big' }], ['EWKB', { form: 'ewkb' }],
+    ['EWKB, big endian', { form: 'ewkb', byteOrder: 'big' }]];
+  const isLong = found.size > MOST.hex * 16;
+  const items = forms.map(([name, options]) => formOf(name, isLong, () => hexOf(write(own, options))));
+  items.push(formOf('GeoJSON', isLong, () => JSON.stringify(toGeoJSON(own))));
+  $('encodings').replaceChildren(...items);
+}
+
+/** A form of the geometry, which is made when it is copied if it is long. */
+function formOf(name, isLong, textOf) {
+  const text = isLong ? null : textOf();
+  const code = make('code', '', text === null ? 'too long to show' : text.length > MOST.hex ? `${text.slice(0, MOST.hex)} ..` : text);
+  const button = make('button', '', 'Copy');
+  button.type = 'button';
+  button.setAttribute('aria-label', `Copy: ${name}`);
+  button.addEventListener('click', async () => {
+    try {
+      await navigator.clipboard.writeText(text ?? textOf());
+      button.textContent = 'Copied';
+    } catch {
+      button.textContent = 'Not allowed';
+    }
+    setTimeout(() => { button.textContent = 'Copy'; }, 1500);
+  });
+  return make('div', 'form', make('span', '', name), code, button);
+}
+
+function takeText(text, source = '') {
+  take(inputsOf(text), source);
+}
+
+async function takeFile(file) {
+  const bytes = new Uint8Array(await file.arrayBuffer());
+  const source = `${file.name}, ${counted(bytes.length, 'byte')}`;
+  $('text').value = '';
+  if (isText(bytes)) takeText(new TextDecoder().decode(bytes), source);
+  else take([bytes], source);
+}
+
+function listen() {
+  EXAMPLES.forEach(([name], i) => $('example').append(new Option(name, i)));
+  $('example').addEventListener('change', ({ target }) => {
+    $('text').value = target.value === '' ? '' : EXAMPLES[target.value][1];
+    takeText($('text').value);
+  });
+  $('text').addEventListener('input', () => {
+    $('example').value = '';
+    takeText($('text').value);
+  });
+  $('text').addEventListener('paste', (event) => {
+    const text = event.clipboardData.getData('text');
+    if (text.length <= MOST.typed) return;
+    event.preventDefault();
+    $('text').value = '';
+    takeText(text, `pasted: ${counted(text.length, 'character')}`);
+  });
+  $('file').addEventListener('change', ({ target }) => target.files[0] && takeFile(target.files[0]));
+  $('row').addEventListener('change', ({ target }) => show(target.value - 1));
+  $('before').addEventListener('click', () => show(state.index - 1));
+  $('after').addEventListener('click', () => show(state.index + 1));
+  $('next-bad').addEventListener('click', () => {
+    const bad = [...state.statuses.keys()].filter((i) => !state.statuses[i]);
+    show(bad.find((i) => i > state.index) ?? bad[0]);
+  });
+  $('more').addEventListener('click', () => {
+    state.rows *= 4;
+    showRows();
+  });
+  for (const id of ['parts', 'bytes', 'drawing']) {
+    $(id).addEventListener('click', ({ target }) => {
+      const index = target.closest('[data-part]')?.dataset.part;
+      if (index !== undefined) choose(index, id !== 'bytes');
+    });
+  }
+  document.addEventListener('dragover', (event) => {
+    event.preventDefault();
+    document.body.classList.add('is-over');
+  });
+  for (const it of ['dragleave', 'drop']) document.addEventListener(it, () => document.body.classList.remove('is-over'));
+  document.addEventListener('drop', (event) => {
+    event.preventDefault();
+    const [file] = event.dataTransfer.files;
+    if (file) takeFile(file);
+    else takeText(event.dataTransfer.getData('text'), 'dropped');
+  });
+}
+
+listen();
+$('example').value = 1;
+$('example').dispatchEvent(new Event('change'));

@@ -1,0 +1,58 @@
+// SPDX-License-Identifier: MIT OR Apache-2.0
+// What the inspector says of the bytes of c/test/lasting.rows: each byte is in one field, up to the end or the fault.
+import assert from 'node:assert/strict';
+import { cpSync, mkdtempSync, readFileSync, rmSync } from 'node:fs';
+import { tmpdir } from 'node:os';
+import { join } from 'node:path';
+import { after, test } from 'node:test';
+import { fileURLToPath, pathToFileURL } from 'node:url';
+
+const here = (name) => fileURLToPath(new URL(name, import.meta.url));
+const WORK = mkdtempSync(join(tmpdir(), 'explain-'));
+after(() => rmSync(WORK, { recursive: true, force: true }));
+cpSync(here('../out/package'), WORK, { recursive: true });
+for (const it of ['explain.js', 'input.js']) cpSync(here(`../${it}`), join(WORK, it));
+const { readParts, rowsOf } = await import(pathToFileURL(join(WORK, 'explain.js')));
+const { decode, inputsOf, isText } = await import(pathToFileURL(join(WORK, 'input.js')));
+
+test('each byte of each row', () => {
+  const lines = readFileSync(here('../../c/test/lasting.rows'), 'utf8').split('\n').filter((it) => it && it[0] !== '#');
+  assert.equal(lines.length, 1387);
+  for (const line of lines) {
+    const [hex, status, first] = line.split(' ');
+    const bytes = decode(hex);
+    const { parts, error } = readParts(bytes, 0);
+    for (const it of status === '0' ? parts : []) {
+      const around = parts.filter((other) => other.index < it.index && it.index < other.next);
+      assert.deepEqual([it.depth, it.inside], [around.length, around[around.length - 1] ?? null], hex);
+    }
+    const rows = parts.flatMap((it) => rowsOf(bytes, 0, it, Infinity));
+    let at = 0;
+    for (const row of rows) {
+      assert.equal(row.at, at, hex);
+      for (const span of row.spans) at += span.length;
+    }
+    const bad = rows.filter((it) => it.isBad);
+    if (status === '0') assert.deepEqual([at, bad.length, error], [Number(first), 0, null], hex);
+    else assert.ok(bad.length > 0 && bad.every((it) => it.part === parts[parts.length - 1]), hex);
+    if (error?.reason.startsWith('SHORT') && error.reason !== 'SHORT_MULTI_POINT') assert.equal(at, bytes.length, hex);
+    for (const it of parts.slice(0, -1)) assert.deepEqual(describedBy(rowsOf(bytes, 0, it, 0)), [it.kind, it.dimension], hex);
+  }
+});
+
+/** The kind and the dimension that the rows of a part tell. */
+function describedBy(rows) {
+  const { text, part } = rows[1] ?? rows[0];
+  return part.kind === 'Ring' ? ['Ring', part.dimension] : /: (\w+), (\w+)/.exec(text).slice(1);
+}
+
+test('texts', () => {
+  const point = '0101000000000000000000f03f0000000000000040';
+  for (const it of [point, `\\x${point}`, `\\\\x${point}`, `0x${point}`, `x'${point}'`, ` "${point.toUpperCase()}"\r\n`,
+    'AQEAAAAAAAAAAADwPwAAAAAAAPC_', 'AQEAAAAA\nAAAAAADwPwAAAAAAAABA']) assert.equal(decode(it).length, 21);
+  for (const it of ['g', '0', 'POINT (1 2)', '<b>']) assert.throws(() => decode(it));
+  assert.deepEqual(inputsOf(`${point}\n\n${point}\n`), [point, point]);
+  assert.deepEqual(inputsOf(`${point.slice(0, 10)}\n${point.slice(10)}`), [point]);
+  assert.deepEqual(inputsOf('01\n02'), ['01', '02']);
+  assert.deepEqual([decode(point), new TextEncoder().encode(point)].map(isText), [false, true]);
+});

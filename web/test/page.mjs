@@ -1,0 +1,167 @@
+// SPDX-License-Identifier: MIT OR Apache-2.0
+// The inspector in Chromium, by chromedriver: what it shows of inputs, good and hostile, and how long it takes.
+import assert from 'node:assert/strict';
+import { spawn } from 'node:child_process';
+import { mkdtempSync, rmSync } from 'node:fs';
+import { tmpdir } from 'node:os';
+import { join } from 'node:path';
+import { after, before, test } from 'node:test';
+
+const PAGE = new URL('../out/inspector.html', import.meta.url).href;
+const WORK = mkdtempSync(join(tmpdir(), 'inspector-'));
+// Of a machine that does much else; a quiet one takes a tenth of it.
+const MOST_TIME = 10000;
+const POINT = '0101000000000000000000f03f0000000000000040';
+let driver, base, session;
+
+async function call(method, path, body) {
+  const answer = await fetch(base + path, { method, body: body && JSON.stringify(body) });
+  const { value } = await answer.json();
+  if (value?.error) throw new Error(`${value.error}: ${value.message}`);
+  return value;
+}
+
+const run = (script, ...args) => call('POST', `/session/${session}/execute/sync`, { script, args });
+
+/** Puts a text, made by a script in the page if it is a function, into the page, and returns what it shows. */
+const shown = (text) => run(`
+  const text = arguments[1] ? Function('return ' + arguments[0])()() : arguments[0];
+  const begin = performance.now();
+  if (text instanceof Uint8Array) {
+    const transfer = new DataTransfer();
+    transfer.items.add(new File([text], '<i>name</i>.wkb'));
+    document.dispatchEvent(new DragEvent('drop', { dataTransfer: transfer }));
+    return null;
+  }
+  const clipboardData = new DataTransfer();
+  clipboardData.setData('text/plain', text);
+  const field = document.getElementById('text');
+  field.value = text.length > 200000 ? '' : text;
+  if (field.value) field.dispatchEvent(new Event('input'));
+  else field.dispatchEvent(new ClipboardEvent('paste', { clipboardData, cancelable: true }));
+  return { ...read(), time: performance.now() - begin };
+  function read() { return (${READ})(); }`, String(text), typeof text === 'function');
+const READ = `() => {
+  const textOf = (id) => document.getElementById(id).textContent;
+  const isHidden = document.getElementById('found').hidden;
+  const bad = isHidden ? [] : [...document.querySelectorAll('#bytes td.bad:nth-child(3)')].map((it) => it.parentNode);
+  return { verdict: textOf('verdict'), isHidden,
+    bad: bad.map((it) => [it.cells[0].textContent, it.cells[2].textContent]), source: textOf('source'),
+    rows: document.querySelectorAll('#bytes tr').length, parts: document.querySelectorAll('#parts button').length,
+    shapes: [...document.querySelectorAll('.shapes path')].filter((it) => it.getAttribute('d')).length,
+    drawn: textOf('drawn'), forms: [...document.querySelectorAll('.form code')].map((it) => it.textContent) };
+}`;
+
+before(async () => {
+  driver = spawn('chromedriver', ['--port=0'], { stdio: ['ignore', 'pipe', 'ignore'] });
+  for await (const line of driver.stdout) {
+    const port = /on port (\d+)\./.exec(String(line))?.[1];
+    if (!port) continue;
+    base = `http://127.0.0.1:${port}`;
+    break;
+  }
+  const args = ['--headless=new', '--no-sandbox', '--disable-gpu', '--disable-dev-shm-usage', `--user-data-dir=${WORK}`];
+  const capabilities = { alwaysMatch: { 'goog:chromeOptions': { args }, 'goog:loggingPrefs': { browser: 'ALL' } } };
+  ({ sessionId: session } = await call('POST', '/session', { capabilities }));
+  await call('POST', `/session/${session}/url`, { url: PAGE });
+});
+
+after(async () => {
+  if (session) await call('DELETE', `/session/${session}`);
+  driver?.kill();
+  rmSync(WORK, { recursive: true, force: true });
+});
+
+// An input, what the verdict begins with, and for rejected ones the byte of the row that is marked, and its text.
+const CASES = [
+  [POINT, 'Point, xy, little endian, 21 bytes.'],
+  [`\\x${POINT}`, 'Point, xy'],
+  [`0x${POINT.toUpperCase()}`, 'Point, xy'],
+  [`X'${POINT}'`, 'Point, xy'],
+  ['AQEAAAAAAAAAAADwPwAAAAAAAABA', 'Point, xy'],
+  [POINT.replace(/(.{10})/g, '$1\n'), 'Point, xy, little endian, 21 bytes.'],
+  [`47500001e6100000${POINT}`, 'Point, xy'],
+  ['0107000000020000000101000080000000000000f03f000000000000004000000000000008400000000002000000023ff0000000000000400000000000000040080000000000004010000000000000', 'GeometryCollection, xy'],
+  ['0010000001', 'Rejected: unknown geometry type code 268435457, in the part at byte 0', '1', /no geometry/],
+  ['01e90300000000000000f87f000000000000f87f000000000000f87f', 'Rejected: the input ends inside a point, in', '21', 'cut off: 7 of 8 bytes'],
+  ['01e9030000000000000000f87f000000000000f87f000000000000f87f', 'Point, xyz'],
+  ['010300000000000000', 'Polygon, xy'],
+  ['0201000000', 'Rejected: a byte order is neither 0 nor 1', '0', /^no byte order: 2/],
+  ['0108000000', 'Rejected: unknown geometry type code 8, a circular string', '1', /no geometry/],
+  ['01020000', 'Rejected: the input ends inside a header', '1', 'cut off: 3 of 4 bytes'],
+  ['01', 'Rejected: the input ends inside a header', '1', 'cut off: 0 of 4 bytes'],
+  ['0102000000ffffffff', 'Rejected: the input ends inside a line string', '5', /^4,294,967,295 coordinates: .* 68,719,476,729 bytes/],
+  ['010400000001000000' + '0102000000', 'Rejected: the input ends inside a multi point', '5', /^1 coordinate|^1 member/],
+  [`010500000001000000${POINT}`, 'Rejected: a member has the wrong kind', '10', /^code 1: Point/],
+  ['0107000000ffffffff'.repeat(129), 'Rejected: a collection is inside 128 others', '1,153', /^code 7/],
+  ['47500001', 'Rejected: the input ends inside its GeoPackage header'],
+  ['zz', 'No bytes: neither hex nor base64'],
+  ['012', 'No bytes: 3 digits of hex'],
+  ['<img src=x onerror=document.title=1>', 'No bytes: neither hex nor base64'],
+];
+
+for (const [text, verdict, at, why] of CASES) {
+  test(text.slice(0, 60), async () => {
+    const found = await shown(text);
+    assert.ok(found.verdict.startsWith(verdict), found.verdict);
+    if (at) assert.ok(found.bad.some((row) => row[0] === at && (why.test?.(row[1]) ?? row[1] === why)), `${found.bad}`);
+    else assert.deepEqual([found.bad, found.isHidden], [[], /^No bytes|Package/.test(verdict)]);
+  });
+}
+
+test('what is drawn, listed and written', async () => {
+  const line = await shown('01020000000200000000000000000000000000000000000000000000000000f03f000000000000f87f');
+  assert.deepEqual([line.shapes, line.forms.length], [2, 5]);
+  assert.equal(line.forms[4], '{"type":"LineString","coordinates":[[0,0],[1,null]]}');
+  const huge = await shown('010200000002000000' + 'ffffffffffffefff'.repeat(2) + 'ffffffffffffef7f'.repeat(2));
+  assert.match(huge.drawn, /2 coordinates/);
+  const empty = await shown('0101000000' + '000000000000f87f'.repeat(2));
+  assert.equal(empty.drawn, 'There is no coordinate to draw.');
+});
+
+test('many lines', async () => {
+  const found = await shown(() => Array(50000).fill('0101000000000000000000f03f0000000000000040').join('\n') + '\n02');
+  assert.ok(found.time < MOST_TIME, `${found.time} ms`);
+  await run('document.getElementById("next-bad").click()');
+  const last = await run(`return (${READ})()`);
+  assert.match(last.verdict, /neither 0 nor 1/);
+  assert.match(await run('return document.getElementById("summary").textContent'), /^1 rejected/);
+});
+
+const LONG = {
+  'a line of 1 MB': [() => '0102000000' + '00000100' + '000000000000f03f0000000000000040'.repeat(65536), /^LineString/],
+  'a multi point of 5 MB': [() => '010400000000d00300' + '0101000000000000000000f03f0000000000000040'.repeat(249856), /^MultiPoint/],
+  'a collection of 1 MB of empty members': [() => '010700000000c80100' + '010700000000000000'.repeat(116736), /^Geometry/],
+  'members that each claim the rest': [() => '0107000000ffffffff'.repeat(128) + '010400000000000000'.repeat(60000), /^Rejected/],
+};
+for (const [name, [text, verdict]] of Object.entries(LONG)) {
+  test(name, async (it) => {
+    const found = await shown(text);
+    assert.match(found.verdict, verdict);
+    assert.ok(found.rows < 1200 && found.parts <= 300, `${found.rows} rows, ${found.parts} parts`);
+    assert.ok(found.time < MOST_TIME, `${found.time} ms`);
+    it.diagnostic(`${Math.round(found.time)} ms`);
+  });
+}
+
+test('a file of 5 MB', async () => {
+  await shown(() => {
+    const bytes = new Uint8Array(9 + 16 * 327680);
+    bytes.set([1, 2, 0, 0, 0, 0, 0, 5, 0]);
+    const view = new DataView(bytes.buffer);
+    for (let i = 0; i < 327680; i++) view.setFloat64(9 + 16 * i, i, true);
+    return bytes;
+  });
+  await new Promise((resolve) => { setTimeout(resolve, 1500); });
+  const found = await run(`return (${READ})()`);
+  assert.match(found.verdict, /5,242,889 bytes/);
+  assert.match(found.drawn, /^A sample: .* of 327,680 coordinates/);
+  assert.equal(found.source, '<i>name</i>.wkb, 5,242,889 bytes');
+});
+
+test('nothing is loaded, logged or made HTML', async () => {
+  const errors = (await call('POST', `/session/${session}/se/log`, { type: 'browser' })).map((it) => it.message);
+  assert.deepEqual(errors, []);
+  const [loaded, tags] = await run('return [performance.getEntriesByType("resource").length, document.querySelectorAll("img, i").length]');
+  assert.deepEqual([loaded, tags], [0, 0]);
+});
