@@ -101,6 +101,8 @@ export function inspect(bytes: Bytes): { parts: Part[]; error: WkbError | null }
 export function words(bytes: Bytes, part: Part): Float64Array;
 /** The geometry as GeoJSON has it: without M, and without SRIDs. An empty point has no coordinates. */
 export function toGeoJSON(bytes: Bytes): Geometry;
+/** The encoding of a geometry whose positions all have two numbers, or all three. */
+export function fromGeoJSON(geometry: Geometry, options?: WriteOptions): Uint8Array;
 /** The one encoding that a geometry has under the options. */
 export function write(bytes: Bytes, options?: WriteOptions): Uint8Array;
 /** The key of a geometry: two have the same bytes exactly if they are equal. */

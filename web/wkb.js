@@ -226,3 +226,73 @@ class Geometries {
     return isNaNs ? [] : items[0];
   }
 }
+
+/** The encoding of a geometry of GeoJSON under the options. */
+export function fromGeoJSON(geometry, options) {
+  const out = new Encoder();
+  out.geometry(geometry);
+  return write(out.bytes.subarray(0, out.at), options);
+}
+
+/** How many numbers the first position has, if there is one. */
+function widthOf(positions) {
+  if (typeof positions[0] === 'number') return positions.length;
+  for (const it of positions) {
+    const width = widthOf(it);
+    if (width) return width;
+  }
+  return undefined;
+}
+
+/** Lays ISO WKB in little endian, which `write` checks. */
+class Encoder {
+  bytes = new Uint8Array(64);
+  view = new DataView(this.bytes.buffer);
+  at = 0;
+
+  room(size) {
+    const at = this.at;
+    this.at += size;
+    if (this.at > this.bytes.length) {
+      const longer = new Uint8Array(2 * this.at);
+      longer.set(this.bytes);
+      this.bytes = longer;
+      this.view = new DataView(longer.buffer);
+    }
+    return at;
+  }
+
+  number(it) {
+    const at = this.room(4);
+    this.view.setUint32(at, it, true);
+  }
+
+  position(it, width) {
+    if (it.length !== width) throw new TypeError(`a position of ${it.length} numbers where others have ${width}`);
+    if (!it.every((number) => typeof number === 'number')) throw new TypeError('a position of other things than numbers');
+    const at = this.room(8 * width);
+    it.forEach((number, i) => this.view.setFloat64(at + 8 * i, number, true));
+  }
+
+  list(items, put) {
+    this.number(items.length);
+    for (const it of items) put(it);
+  }
+
+  geometry(it, width) {
+    const kind = KINDS.indexOf(it?.type);
+    const own = kind === 7 ? it.geometries : it?.coordinates;
+    if (kind < 1 || !Array.isArray(own)) throw new TypeError('no geometry of GeoJSON');
+    width ??= kind === 7 ? 2 : widthOf(own) ?? 2;
+    if (width !== 2 && width !== 3) throw new TypeError(`a position of ${width} numbers`);
+    const at = this.room(1);
+    this.bytes[at] = 1;
+    this.number(kind + (width - 2) * 1000);
+    const line = (positions) => this.list(positions, (position) => this.position(position, width));
+    if (kind === 1) this.position(own.length > 0 ? own : Array(width).fill(NaN), width);
+    else if (kind === 2) line(own);
+    else if (kind === 3) this.list(own, line);
+    else if (kind === 7) this.list(own, (member) => this.geometry(member));
+    else this.list(own, (coordinates) => this.geometry({ type: KINDS[kind - 3], coordinates }, width));
+  }
+}

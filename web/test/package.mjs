@@ -117,6 +117,22 @@ test('GeoJSON', () => {
   for (const [hex, geometry] of Object.entries(geometries)) assert.deepEqual(wkb.toGeoJSON(bytesOf(hex)), geometry);
 });
 
+test('GeoJSON there and back', () => {
+  const isLike = (it) => it.status === 0 && it.fields[8] < 2
+    && wkb.parts(it.input).every((part) => part.dimension === DIMENSIONS[it.fields[8]]);
+  for (const { input } of ROWS.filter(isLike)) {
+    const geometry = wkb.toGeoJSON(input);
+    const again = wkb.fromGeoJSON(geometry, { form: 'ewkb', srid: 3857 });
+    assert.equal(wkb.check(again).srid, 3857);
+    assert.deepEqual(wkb.toGeoJSON(again), geometry);
+  }
+  const polygon = { type: 'Polygon', coordinates: [[[0, 0], [4, 0], [2, 3], [0, 0]], []] };
+  assert.deepEqual(wkb.toGeoJSON(wkb.fromGeoJSON(polygon, { byteOrder: 'big' })), polygon);
+  for (const it of [null, {}, { type: 'Feature' }, { type: 'Ring', coordinates: [] }, { type: 'Point', coordinates: [1] },
+    { type: 'Point', coordinates: [1, '2'] },
+    { type: 'LineString', coordinates: [[1, 2], [1, 2, 3]] }]) assert.throws(() => wkb.fromGeoJSON(it), TypeError);
+});
+
 test('the example of the page', async () => {
   const page = readFileSync(new URL('../README.md', import.meta.url), 'utf8');
   const code = /```js\n([^]*?)```/.exec(page)[1].replace('porchsorrel-wkb', new URL('../out/package/wkb.js', import.meta.url));
