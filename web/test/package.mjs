@@ -136,7 +136,7 @@ test('GeoJSON there and back', () => {
 test('the example of the page', async () => {
   const page = readFileSync(new URL('../README.md', import.meta.url), 'utf8');
   const code = /```js\n([^]*?)```/.exec(page)[1].replace('porchsorrel-wkb', new URL('../out/package/wkb.js', import.meta.url));
-  await import(`data:text/javascript,${encodeURIComponent(`import assert from 'node:assert/strict';\n${code}`)}`);
+  await import(`data:text/javascript,${encodeURIComponent(code)}`);
 });
 
 test('in a worker', async () => {
