@@ -1,5 +1,5 @@
 // SPDX-License-Identifier: MIT OR Apache-2.0
-export type Bytes = ArrayBufferView | ArrayBuffer;
+export type Bytes = ArrayBufferView | ArrayBufferLike;
 export type Kind = 'Point' | 'LineString' | 'Polygon' | 'MultiPoint' | 'MultiLineString' | 'MultiPolygon'
   | 'GeometryCollection';
 export type Dimension = 'xy' | 'xyz' | 'xym' | 'xyzm';

@@ -3,19 +3,32 @@
 // by the proved sources, as WebAssembly (wasm.rs). This file copies the input there, and makes objects of the numbers.
 import code from './code.js';
 
-const { instance } = await WebAssembly.instantiate(Uint8Array.from(atob(code), (it) => it.charCodeAt(0)));
-const calls = instance.exports;
-const desk = calls.wkb_desk();
-let bytesThere, wordsThere, doublesThere, viewThere;
+// Compiled at once: with a top-level `await` it couldn't be had by `require`.
+const module = new WebAssembly.Module(Uint8Array.from(atob(code), (it) => it.charCodeAt(0)));
+let calls, desk, bytesThere, wordsThere, doublesThere, viewThere;
 
-/** Views of the module's memory, which is another one when it has grown. */
-function look() {
-  if (bytesThere?.buffer === calls.memory.buffer) return;
+function start() {
+  calls = new WebAssembly.Instance(module).exports;
+  desk = calls.wkb_desk();
+}
+start();
+
+/** Makes a call, and looks at the memory, which is another one when it has grown. A call that doesn't come back, as of a
+ * full stack, may leave the desk in disorder; so the next one gets another. */
+function ask(name, ...values) {
+  let answer;
+  try {
+    answer = calls[name](desk, ...values);
+  } catch (error) {
+    start();
+    throw error;
+  }
   const { buffer } = calls.memory;
-  bytesThere = new Uint8Array(buffer);
-  viewThere = new DataView(buffer);
-  wordsThere = new Uint32Array(buffer);
-  doublesThere = new Float64Array(buffer);
+  if (bytesThere?.buffer !== buffer) {
+    [bytesThere, wordsThere] = [new Uint8Array(buffer), new Uint32Array(buffer)];
+    [doublesThere, viewThere] = [new Float64Array(buffer), new DataView(buffer)];
+  }
+  return answer;
 }
 
 // The places of `Desk` in wasm.rs, in words of four bytes and in doubles.
@@ -46,34 +59,25 @@ export class WkbError extends Error {
   }
 }
 
+/** The bytes of an input in a view of our own: a subclass may say another length, or have another `slice`, as Buffer has. */
 function asBytes(input) {
-  if (input instanceof Uint8Array) return input;
   if (ArrayBuffer.isView(input)) return new Uint8Array(input.buffer, input.byteOffset, input.byteLength);
-  if (input instanceof ArrayBuffer) return new Uint8Array(input);
+  if (/^.object (Shared)?ArrayBuffer.$/.test(Object.prototype.toString.call(input))) return new Uint8Array(input);
   throw new TypeError('the input has to be a Uint8Array, another view or an ArrayBuffer');
 }
 
-const lengthOf = Object.getOwnPropertyDescriptor(Object.getPrototypeOf(Uint8Array.prototype), 'length').get;
-
-/** Copies an input, and returns where it is. Its length is the true one, whatever a subclass says, and no more is
- * copied, also if another thread makes the input longer. */
+/** Copies an input, and returns where it is. */
 function put(input) {
   const bytes = asBytes(input);
-  const length = lengthOf.call(bytes);
-  const at = calls.wkb_input(desk, length) >>> 0;
-  look();
+  const at = ask('wkb_input', bytes.length) >>> 0;
   if (at === 0) throw new RangeError('out of memory');
-  bytesThere.subarray(at, at + length).set(bytes);
+  bytesThere.set(bytes, at);
   return at;
 }
 
 /** A copy of the last result of many bytes. */
 const result = () => bytesThere.slice(wordsThere[RESULT], wordsThere[RESULT] + wordsThere[RESULT + 1]);
-
-function text() {
-  look();
-  return new TextDecoder().decode(result());
-}
+const text = () => new TextDecoder().decode(result());
 
 function error(status) {
   if (status === STATUS.noMemory) return new RangeError('out of memory');
@@ -81,16 +85,16 @@ function error(status) {
   const ends = status >= STATUS.shortPoint;
   const fields = { reason: REASONS[status], part: it[0], offset: it[2], code: status === STATUS.code ? it[8] : null,
     needed: ends ? it[4] + it[5] * 2 ** 32 : null, has: ends ? it[6] : null };
-  calls.wkb_text(desk);
+  ask('wkb_text');
   return new WkbError(text(), fields);
 }
 
-/** Makes a call over the input, and throws if it is rejected. */
-function ask(call, input) {
-  put(input);
-  const status = call(desk);
-  look();
+/** Makes a call over an input, whose place it returns, and throws if the input is rejected. */
+function over(input, name, ...values) {
+  const at = put(input);
+  const status = ask(name, ...values);
   if (status !== 0) throw error(status);
+  return at;
 }
 
 /** Adds the header of a geometry or of a part, whose numbers are at a place. */
@@ -104,14 +108,14 @@ function withHeader(it, at) {
 
 /** What is at the start of the bytes. */
 export function check(bytes) {
-  ask(calls.wkb_check, bytes);
+  over(bytes, 'wkb_check');
   const [size, parts, coordinates] = [wordsThere[FOUND], wordsThere[FOUND + 2], wordsThere[FOUND + 4]];
   return withHeader({ size, parts, coordinates }, FOUND);
 }
 
 /** The range of each ordinate, without NaNs; of none it is from Infinity to -Infinity. */
 export function bounds(bytes) {
-  ask(calls.wkb_bounds, bytes);
+  over(bytes, 'wkb_bounds');
   const range = (at) => ({ min: doublesThere[at], max: doublesThere[at + 1], count: wordsThere[2 * at + 4] });
   return { x: range(BOUNDS), y: range(BOUNDS + 3), z: range(BOUNDS + 6), m: range(BOUNDS + 9) };
 }
@@ -122,8 +126,7 @@ const partAt = (at) => withHeader({ begin: wordsThere[at], end: wordsThere[at + 
 /** The parts in preorder; of rejected bytes the error, and the parts before the rejected one. */
 export function inspect(bytes) {
   put(bytes);
-  const status = calls.wkb_parts(desk);
-  look();
+  const status = ask('wkb_parts');
   if (status === STATUS.noMemory) throw error(status);
   const [place, count] = wordsThere.subarray(RESULT, RESULT + 2);
   const parts = [];
@@ -153,7 +156,7 @@ export function write(bytes, { byteOrder = 'little', form = 'iso', srid } = {}) 
   const isNumber = Number.isInteger(srid) && srid >= 0 && srid < 2 ** 32;
   if (!isNumber && srid != null) throw new RangeError(`no SRID: ${srid}`);
   const number = form === 'iso' ? 0 : isNumber ? 2 : srid === null ? 3 : 1;
-  ask(() => calls.wkb_write(desk, order, number, srid ?? 0), bytes);
+  over(bytes, 'wkb_write', order, number, srid ?? 0);
   return result();
 }
 
@@ -169,9 +172,7 @@ export function equal(a, b) {
 /** The header of a GeoPackage's blob: the geometry begins at `size`. */
 export function geopackageHeader(blob) {
   put(blob);
-  const status = calls.wkb_geopackage(desk);
-  look();
-  if (status !== 0) throw new WkbError(text(), { ...NO_NUMBERS, reason: 'NO_HEADER' });
+  if (ask('wkb_geopackage') !== 0) throw new WkbError(text(), { ...NO_NUMBERS, reason: 'NO_HEADER' });
   const [size, srsId, isEmpty, axes] = wordsThere.subarray(HEADER, HEADER + 4);
   const envelope = Array.from({ length: AXES[axes].length }, (_, i) => [...doublesThere.subarray(ENVELOPE + 2 * i, ENVELOPE + 2 * i + 2)]);
   return { size, srsId: srsId | 0, isEmpty: isEmpty === 1, axes: AXES[axes], envelope };
@@ -179,10 +180,7 @@ export function geopackageHeader(blob) {
 
 /** The geometry as GeoJSON has it. M is left out, and so are SRIDs. */
 export function toGeoJSON(bytes) {
-  const from = put(bytes);
-  const status = calls.wkb_parts(desk);
-  look();
-  if (status !== 0) throw error(status);
+  const from = over(bytes, 'wkb_parts');
   return new Geometries(from, wordsThere[RESULT] / 4).next();
 }
 
@@ -230,15 +228,19 @@ class Geometries {
 /** The encoding of a geometry of GeoJSON under the options. */
 export function fromGeoJSON(geometry, options) {
   const out = new Encoder();
-  out.geometry(geometry);
-  return write(out.bytes.subarray(0, out.at), options);
+  out.geometry(geometry, widthOf(geometry) ?? 2);
+  return write(new Uint8Array(out.view.buffer, 0, out.size), options);
 }
 
-/** How many numbers the first position has, if there is one. */
-function widthOf(positions) {
-  if (typeof positions[0] === 'number') return positions.length;
-  for (const it of positions) {
-    const width = widthOf(it);
+const isList = (it) => Array.isArray(it) || ArrayBuffer.isView(it);
+
+/** How many numbers the first position of a geometry or in a list has, if there is one. */
+function widthOf(it) {
+  const list = it?.geometries ?? it?.coordinates ?? it;
+  if (!isList(list)) return undefined;
+  if (typeof list[0] === 'number') return list.length;
+  for (const item of list) {
+    const width = widthOf(item);
     if (width) return width;
   }
   return undefined;
@@ -246,53 +248,47 @@ function widthOf(positions) {
 
 /** Lays ISO WKB in little endian, which `write` checks. */
 class Encoder {
-  bytes = new Uint8Array(64);
-  view = new DataView(this.bytes.buffer);
-  at = 0;
+  view = new DataView(new ArrayBuffer(64));
+  size = 0;
 
-  room(size) {
-    const at = this.at;
-    this.at += size;
-    if (this.at > this.bytes.length) {
-      const longer = new Uint8Array(2 * this.at);
-      longer.set(this.bytes);
-      this.bytes = longer;
+  put(set, length, number) {
+    const at = this.size;
+    this.size += length;
+    if (this.size > this.view.byteLength) {
+      const longer = new Uint8Array(2 * this.size);
+      longer.set(new Uint8Array(this.view.buffer));
       this.view = new DataView(longer.buffer);
     }
-    return at;
-  }
-
-  number(it) {
-    const at = this.room(4);
-    this.view.setUint32(at, it, true);
+    this.view[set](at, number, true);
   }
 
   position(it, width) {
-    if (it.length !== width) throw new TypeError(`a position of ${it.length} numbers where others have ${width}`);
-    if (!it.every((number) => typeof number === 'number')) throw new TypeError('a position of other things than numbers');
-    const at = this.room(8 * width);
-    it.forEach((number, i) => this.view.setFloat64(at + 8 * i, number, true));
+    if (!isList(it) || it.length !== width) throw new TypeError(`a position that isn't a list of ${width} numbers`);
+    for (let i = 0; i < width; i++) {
+      if (typeof it[i] !== 'number') throw new TypeError(`a position with ${String(it[i])}, which is no number`);
+      this.put('setFloat64', 8, it[i]);
+    }
   }
 
   list(items, put) {
-    this.number(items.length);
-    for (const it of items) put(it);
+    if (!isList(items)) throw new TypeError('coordinates that are no list');
+    const count = items.length;
+    this.put('setUint32', 4, count);
+    for (let i = 0; i < count; i++) put(items[i]);
   }
 
   geometry(it, width) {
     const kind = KINDS.indexOf(it?.type);
     const own = kind === 7 ? it.geometries : it?.coordinates;
-    if (kind < 1 || !Array.isArray(own)) throw new TypeError('no geometry of GeoJSON');
-    width ??= kind === 7 ? 2 : widthOf(own) ?? 2;
+    if (kind < 1 || !isList(own)) throw new TypeError('no geometry of GeoJSON');
     if (width !== 2 && width !== 3) throw new TypeError(`a position of ${width} numbers`);
-    const at = this.room(1);
-    this.bytes[at] = 1;
-    this.number(kind + (width - 2) * 1000);
+    this.put('setUint8', 1, 1);
+    this.put('setUint32', 4, kind + (width - 2) * 1000);
     const line = (positions) => this.list(positions, (position) => this.position(position, width));
     if (kind === 1) this.position(own.length > 0 ? own : Array(width).fill(NaN), width);
     else if (kind === 2) line(own);
     else if (kind === 3) this.list(own, line);
-    else if (kind === 7) this.list(own, (member) => this.geometry(member));
+    else if (kind === 7) this.list(own, (member) => this.geometry(member, widthOf(member) ?? width));
     else this.list(own, (coordinates) => this.geometry({ type: KINDS[kind - 3], coordinates }, width));
   }
 }

@@ -2,7 +2,9 @@
 // The package over c/test/lasting.rows, and what the types say besides.
 import assert from 'node:assert/strict';
 import { readFileSync } from 'node:fs';
+import { createRequire } from 'node:module';
 import { test } from 'node:test';
+import { runInNewContext } from 'node:vm';
 import { Worker } from 'node:worker_threads';
 import * as wkb from '../out/package/wkb.js';
 
@@ -128,15 +130,44 @@ test('GeoJSON there and back', () => {
   }
   const polygon = { type: 'Polygon', coordinates: [[[0, 0], [4, 0], [2, 3], [0, 0]], []] };
   assert.deepEqual(wkb.toGeoJSON(wkb.fromGeoJSON(polygon, { byteOrder: 'big' })), polygon);
-  for (const it of [null, {}, { type: 'Feature' }, { type: 'Ring', coordinates: [] }, { type: 'Point', coordinates: [1] },
-    { type: 'Point', coordinates: [1, '2'] },
-    { type: 'LineString', coordinates: [[1, 2], [1, 2, 3]] }]) assert.throws(() => wkb.fromGeoJSON(it), TypeError);
+  const collection = { type: 'GeometryCollection', geometries: [{ type: 'Point', coordinates: [1, 2, 3] }] };
+  assert.equal(wkb.check(wkb.fromGeoJSON(collection)).dimension, 'xyz');
+  for (const it of [null, {}, { type: 'Feature' }, { type: 'Ring', coordinates: [] }]) {
+    assert.throws(() => wkb.fromGeoJSON(it), TypeError);
+  }
+  for (const it of [[1], [1, '2'], ['1', '2'], [null, null], [[1, 2]], [1, , 3]]) {
+    assert.throws(() => wkb.fromGeoJSON({ type: 'Point', coordinates: it }), TypeError);
+  }
+  for (const it of [[[1, 2], [1, 2, 3]], ['ab'], [1, 2], [null]]) {
+    assert.throws(() => wkb.fromGeoJSON({ type: 'LineString', coordinates: it }), TypeError);
+  }
 });
 
 test('the example of the page', async () => {
   const page = readFileSync(new URL('../README.md', import.meta.url), 'utf8');
   const code = /```js\n([^]*?)```/.exec(page)[1].replace('porchsorrel-wkb', new URL('../out/package/wkb.js', import.meta.url));
   await import(`data:text/javascript,${encodeURIComponent(code)}`);
+});
+
+test('by require, where Node.js has that', { skip: !process.features.require_module }, () => {
+  const { check } = createRequire(import.meta.url)('../out/package/wkb.js');
+  assert.equal(check(Uint8Array.of(1, 7, 0, 0, 0, 0, 0, 0, 0)).size, 9);
+});
+
+test('a call that traps', async (it) => {
+  const { Instance } = WebAssembly;
+  let made = 0;
+  it.after(() => { WebAssembly.Instance = Instance; });
+  // The first one has its desk behind the memory.
+  WebAssembly.Instance = function (...values) {
+    const { exports } = new Instance(...values);
+    const wkb_write = made++ > 0 ? exports.wkb_write : (_, ...more) => exports.wkb_write(-16, ...more);
+    return { exports: { ...exports, wkb_write } };
+  };
+  const own = await import('../out/package/wkb.js?own');
+  const point = bytesOf('0101000000000000000000f03f0000000000000040');
+  assert.throws(() => own.canonical(point), WebAssembly.RuntimeError);
+  assert.deepEqual([own.check(point).size, own.canonical(point), made], [21, point, 2]);
 });
 
 test('in a worker', async () => {
@@ -164,6 +195,11 @@ test('arguments, and inputs that are long or claim much', () => {
   assert.equal(wkb.check(new DataView(Uint8Array.of(7, ...point).buffer, 1)).kind, 'Point');
   class Liar extends Uint8Array { get length() { return 1; } }
   assert.equal(wkb.check(Liar.from(point)).size, 21);
+  const big = Buffer.from(wkb.write(point, { byteOrder: 'big' }));
+  assert.deepEqual([...wkb.words(big, wkb.parts(big)[0])], [1, 2]);
+  assert.equal(big.readDoubleBE(5), 1);
+  const { buffer } = runInNewContext('Uint8Array.of(1, 7, 0, 0, 0, 0, 0, 0, 0)');
+  assert.equal(wkb.check(buffer).kind, 'GeometryCollection');
   for (const it of [{ byteOrder: 'middle' }, { form: 'wkt' }]) assert.throws(() => wkb.write(point, it), TypeError);
   for (const srid of [-1, 1.5, 2 ** 32]) assert.throws(() => wkb.write(point, { form: 'ewkb', srid }), RangeError);
   const claims = { 2: 9 + 16 * 0xffffffff, 4: 9 + 21 * 0xffffffff };
