@@ -12,7 +12,7 @@ export function svg(name, attributes = {}, ...children) {
   return it;
 }
 
-/** A scale from numbers to places, whose ends are finite. Halves can't overflow. */
+/** A scale from numbers to places. Halves can't overflow. */
 function scaleOf({ min, max }, from, to) {
   let [least, most] = [Math.max(min, -1.7e308), Math.min(max, 1.7e308)];
   if (!(least < most)) {
@@ -64,50 +64,58 @@ function axes(scales, { width, height }) {
   return box;
 }
 
-/** A path through each so-manieth coordinate, and the last, of a part. */
-function pathOf(bytes, part, scales, every) {
-  const numbers = words(bytes, part);
-  const width = part.dimension.length;
-  let [path, isOn, drawn] = ['', false, 0];
-  for (let i = 0; i < part.count; i = i + every < part.count || i === part.count - 1 ? i + every : part.count - 1) {
-    const [x, y] = [numbers[width * i], numbers[width * i + 1]];
-    if (!Number.isFinite(x) || !Number.isFinite(y)) {
-      isOn = false;
-      continue;
-    }
-    path += `${isOn ? 'L' : 'M'}${scales.x.at(x).toFixed(2)} ${scales.y.at(y).toFixed(2)}`;
-    isOn = true;
-    drawn++;
+/** The places of a part, each so-manieth and the last; null where a number isn't finite, which breaks a line. */
+function placesOf(bytes, part, every) {
+  const [numbers, width, places] = [words(bytes, part), part.dimension.length, []];
+  for (let i = 0; i < part.count; i += i + every < part.count ? every : Math.max(1, part.count - 1 - i)) {
+    const place = [numbers[width * i], numbers[width * i + 1]];
+    places.push(place.every(Number.isFinite) ? place : null);
   }
-  return { path, drawn };
+  return places;
+}
+
+function rangeOf(numbers) {
+  const range = { min: Infinity, max: -Infinity };
+  for (const it of numbers) [range.min, range.max] = [Math.min(range.min, it), Math.max(range.max, it)];
+  return range;
+}
+
+/** The shapes of parts with their places: rings in the area of their polygon, many points as one. */
+function shapesOf(chosen, scales) {
+  const shapes = new Map();
+  const add = (name, index, path) => {
+    const key = `${name} ${index}`;
+    shapes.set(key, { name, index, path: (shapes.get(key)?.path ?? '') + path });
+  };
+  const at = ([x, y]) => `${scales.x.at(x).toFixed(2)} ${scales.y.at(y).toFixed(2)}`;
+  for (const { part, places } of chosen) {
+    const path = places.map((it, i) => it && (places[i - 1] ? 'L' : 'M') + at(it)).join('');
+    if (path === '') continue;
+    if (part.kind === 'Point') add('point', chosen.length > LIMITS.vertices ? '' : part.index, `${path}h0`);
+    else if (part.error) add('line bad', part.index, path);
+    else if (part.kind === 'Ring') add('area', part.inside.index, `${path}Z`);
+    else add('line', part.index, path);
+  }
+  const whole = chosen.flatMap((it) => it.places.filter(Boolean));
+  if (whole.length <= LIMITS.vertices) add('vertex', '', whole.map((it) => `M${at(it)}h0`).join(''));
+  // In the order of their names areas are below the others.
+  return [...shapes.values()].sort((a, b) => (a.name < b.name ? -1 : a.name > b.name ? 1 : 0))
+    .map(({ name, index, path }) => svg('path', { d: path, class: name, ...(index === '' ? {} : { 'data-part': index }) }));
 }
 
 /** The drawing, so many pixels wide, and how much of the geometry it has; none without a finite coordinate. */
-export function draw(bytes, parts, bounds, width) {
-  const finite = ['x', 'y'].every((it) => bounds[it].min < Infinity && bounds[it].max > -Infinity && bounds[it].count > 0);
-  if (!finite) return null;
-  const size = { width, height: Math.round(0.65 * width) };
-  const scales = scalesOf(bounds, size);
-  const own = parts.filter((it) => ['Point', 'LineString', 'Ring'].includes(it.kind));
+export function draw(bytes, parts, width) {
+  const own = parts.flatMap((it) => [it, ...it.members ?? []]).filter((it) => ['Point', 'LineString', 'Ring'].includes(it.kind));
   const everyPart = Math.ceil(own.length / LIMITS.parts);
-  const chosen = own.filter((_, i) => i % everyPart === 0);
-  const count = chosen.reduce((sum, it) => sum + it.count, 0);
-  const every = Math.max(1, Math.ceil(count / LIMITS.coordinates));
-  const shapes = svg('g', { class: 'shapes' });
-  const [rings, all] = [new Map(), own.reduce((sum, it) => sum + it.count, 0)];
-  let [drawn, points, vertices] = [0, '', ''];
-  for (const part of chosen) {
-    const { path, drawn: more } = pathOf(bytes, part, scales, every);
-    drawn += more;
-    vertices += path;
-    if (part.kind === 'Point') points += path && `${path}h0`;
-    else if (part.kind === 'Ring') rings.set(part.inside, (rings.get(part.inside) ?? '') + (path && `${path}Z`));
-    else shapes.append(svg('path', { d: path, class: 'line', 'data-part': part.index }));
-    if (part.kind === 'Point' && chosen.length <= LIMITS.vertices) shapes.append(svg('path', { d: path && `${path}h0`, class: 'point', 'data-part': part.index }));
-  }
-  for (const [polygon, path] of rings) shapes.prepend(svg('path', { d: path, class: 'area', 'data-part': polygon.index }));
-  if (chosen.length > LIMITS.vertices) shapes.append(svg('path', { d: points, class: 'point' }));
-  if (drawn <= LIMITS.vertices) shapes.append(svg('path', { d: vertices.replace(/[ML]([^ML]*)/g, 'M$1h0'), class: 'vertex' }));
-  const picture = svg('svg', { viewBox: `0 0 ${width} ${size.height}`, role: 'img' }, axes(scales, size), shapes);
-  return { picture, drawn, all };
+  const some = own.filter((_, i) => i % everyPart === 0);
+  const sum = (of) => of.reduce((count, it) => count + it.count, 0);
+  const every = Math.max(1, Math.ceil(sum(some) / LIMITS.coordinates));
+  const chosen = some.map((part) => ({ part, places: placesOf(bytes, part, every) }));
+  const places = chosen.flatMap((it) => it.places.filter(Boolean));
+  if (places.length === 0) return null;
+  const size = { width, height: Math.round(0.65 * width) };
+  const scales = scalesOf({ x: rangeOf(places.map((it) => it[0])), y: rangeOf(places.map((it) => it[1])) }, size);
+  const picture = svg('svg', { viewBox: `0 0 ${width} ${size.height}`, role: 'img' }, axes(scales, size),
+    svg('g', { class: 'shapes' }, ...shapesOf(chosen, scales)));
+  return { picture, drawn: places.length, all: sum(own), isSample: everyPart > 1 || every > 1 };
 }

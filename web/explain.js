@@ -2,7 +2,7 @@
 // What the bytes of an input mean, field by field, also of rejected ones, as far as they go.
 import { DIMENSIONS, KINDS, geopackageHeader, inspect } from './wkb.js';
 
-const SRID_FLAG = 0x20000000;
+const [SRID_FLAG, MOST_OF_POINT] = [0x20000000, 41];
 const NOUNS = { Point: 'coordinate', LineString: 'coordinate', Ring: 'coordinate', Polygon: 'ring' };
 export const nounOf = (kind) => NOUNS[kind] ?? 'member';
 export const counted = (count, noun) => `${count.toLocaleString('en')} ${noun}${count === 1 ? '' : 's'}`;
@@ -14,32 +14,46 @@ export const spelled = (it) => Object.is(it, -0) ? '-0' : String(it).replace('In
 /** The parts with their depth, and the one that they are inside of; the rejected one is the last. */
 export function readParts(bytes, front) {
   const { parts, error } = inspect(bytes.subarray(front));
+  if (error) parts.push({ begin: error.offset, error });
   const open = [];
-  for (const [index, part] of parts.entries()) {
-    place(part, open);
+  parts.forEach((part, index) => {
     part.index = index;
-    if (KINDS.indexOf(part.kind) > 2) open.push({ part, left: part.count });
-  }
-  if (!error) return { parts, error };
-  const rejected = { index: parts.length, begin: error.offset, error };
-  place(rejected, open);
-  describe(rejected, bytes, front);
-  return { parts: [...parts, rejected], error };
+    place(part, open);
+    if (part.error) describe(part, bytes, front);
+    else if (KINDS.indexOf(part.kind) > 2) open.push({ part, left: part.count });
+  });
+  return { parts, error };
 }
 
-/** Gives the rejected part what there is of a part: its kind, and the coordinates that are whole. */
+/** Gives the rejected part what there is of a part: its kind, its whole coordinates, and its whole members if these are
+ * points, which the check counts before it looks at them. */
 function describe(part, bytes, front) {
   if (part.inside?.kind === 'Polygon') {
     Object.assign(part, { kind: 'Ring', dimension: part.inside.dimension, byteOrder: part.inside.byteOrder });
   }
   const fields = new Fields(bytes, front + part.begin, part);
-  const header = fields.front();
-  if (!header) return;
-  const byteOrder = header.isLittle ? 'little' : 'big';
-  Object.assign(part, { kind: header.kind, dimension: header.axes, byteOrder, offset: 0, count: 0 });
-  const count = header.kind === 'Point' ? 1 : fields.count(header.kind, header.isLittle);
-  const left = Math.floor((bytes.length - fields.at) / (8 * header.axes.length));
-  if (KINDS.indexOf(header.kind) < 3) Object.assign(part, { offset: fields.at - front, count: Math.min(count, left) });
+  const { kind, axes, isLittle, count } = fields.front() ?? {};
+  part.members = [];
+  if (!fields.isWhole || !kind) return;
+  const left = Math.floor((bytes.length - fields.at) / (8 * axes.length));
+  Object.assign(part, { kind, dimension: axes, byteOrder: isLittle ? 'little' : 'big', offset: fields.at - front,
+    count: KINDS.indexOf(kind) < 3 ? Math.min(count, left) : 0 });
+  if (part.error.reason === 'SHORT_MULTI_POINT') part.members = pointsAt(bytes.subarray(front), part.offset, part.index);
+}
+
+/** The whole points from there on: one that begins as that before it is looked at no more. */
+function pointsAt(bytes, at, index) {
+  const copy = ({ kind, dimension, byteOrder, count, begin, offset, end }, to) => ({ kind, dimension, byteOrder, count, index,
+    begin: to, offset: to + offset - begin, end: to + end - begin });
+  const points = [];
+  for (let last; ; at = last.end) {
+    const isLike = last && 2 * last.end - last.begin <= bytes.length
+      && [0, 1, 2, 3, 4].every((i) => bytes[at + i] === bytes[last.begin + i]);
+    const { parts: [point], error } = isLike ? { parts: [last] } : inspect(bytes.subarray(at, at + MOST_OF_POINT));
+    if (error || point.kind !== 'Point') return points;
+    last = copy(point, at);
+    points.push(last);
+  }
 }
 
 function place(part, open) {
@@ -67,7 +81,7 @@ class Fields {
     const there = Math.min(length, this.view.byteLength - this.at);
     this.isWhole = there === length;
     const value = this.isWhole ? say(this.at) : null;
-    const text = value?.text ?? `cut off: ${there} of ${length} bytes`;
+    const text = value?.text ?? (there === 0 ? 'the input ends here' : `cut off: ${there} of ${length} bytes`);
     const isBad = !this.isWhole || value.isBad;
     this.rows.push({ at: this.at, spans: [{ length: there, name }], text, part: this.part, isBad });
     this.at += there;
@@ -78,10 +92,11 @@ class Fields {
     return (at) => this.view.getUint32(at, isLittle);
   }
 
-  /** The header, which a ring has of its polygon; null if it isn't whole. */
+  /** The header, which a ring has of its polygon, and the count; null if the header isn't whole. */
   front() {
     const { kind, dimension, byteOrder } = this.part;
-    return kind === 'Ring' ? { kind, axes: dimension, isLittle: byteOrder === 'little' } : this.header();
+    const header = kind === 'Ring' ? { kind, axes: dimension, isLittle: byteOrder === 'little' } : this.header();
+    return header && { ...header, count: header.kind === 'Point' ? 1 : this.count(header.kind, header.isLittle) };
   }
 
   header() {
@@ -152,17 +167,24 @@ class Fields {
 /** The rows of one part: its fields, of long lists the first coordinates and the last. */
 export function rowsOf(bytes, front, part, most) {
   const fields = new Fields(bytes, front + part.begin, part);
-  const header = fields.front();
-  if (header) {
-    const { kind, axes, isLittle } = header;
-    const count = kind === 'Point' ? 1 : fields.count(kind, isLittle);
-    if (fields.isWhole && KINDS.indexOf(kind) < 3) fields.coordinates(count, axes, isLittle, most);
-  }
+  const { kind, axes, isLittle, count } = fields.front() ?? {};
+  if (kind && fields.isWhole && KINDS.indexOf(kind) < 3) fields.coordinates(count, axes, isLittle, most);
   const { rows } = fields;
-  if (part.error && !rows.some((it) => it.isBad)) {
-    rows.push({ at: fields.at, spans: [], text: 'the input ends here', part, isBad: true });
-  }
+  if (part.error?.reason === 'SHORT_MULTI_POINT') rows.push(...memberRows(bytes, front, part, most));
   return rows;
+}
+
+/** The rows of the whole members of a rejected multi point, of many the first ones and the last, and of what is behind. */
+function memberRows(bytes, front, part, most) {
+  const [first, last] = [part.members.slice(0, most), part.members.slice(most).slice(-1)];
+  const rows = first.flatMap((it) => rowsOf(bytes, front, it, most));
+  const more = part.members.length - first.length - last.length;
+  if (more > 0) rows.push({ at: front + first.at(-1).end, spans: [], text: `.. ${counted(more, 'more member')}`, part, isGap: true });
+  rows.push(...last.flatMap((it) => rowsOf(bytes, front, it, most)));
+  const rest = new Fields(bytes, front + (part.members.at(-1)?.end ?? part.offset), part);
+  const header = rest.header();
+  if (header?.kind === 'Point') rest.coordinates(1, header.axes, header.isLittle, 1);
+  return [...rows, ...rest.rows];
 }
 
 /** The header of a GeoPackage's blob, if the bytes begin with one: its size, and the rows of its fields. */

@@ -46,6 +46,9 @@ export function inputsOf(text) {
   return lines.length > 1 && !isWhole(lines[0]) && isWhole(lines.join('')) ? [lines.join('')] : lines;
 }
 
-/** Whether the bytes of a file are text. */
-export const isText = (bytes) => bytes.length > 0
-  && bytes.subarray(0, 64).every((it) => it >= 32 && it < 127 || it >= 9 && it <= 13);
+/** The text of a file, in UTF-8 or with the mark of UTF-16; null if it has other bytes. */
+export function textOf(bytes) {
+  const mark = { 0xfffe: 'utf-16le', 0xfeff: 'utf-16be', 0xefbb: 'utf-8' }[bytes[0] << 8 | bytes[1]];
+  const isText = mark || bytes.length > 0 && bytes.subarray(0, 64).every((it) => it >= 32 && it < 127 || it >= 9 && it <= 13);
+  return isText ? new TextDecoder(mark).decode(bytes) : null;
+}

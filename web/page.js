@@ -1,7 +1,7 @@
 // SPDX-License-Identifier: MIT OR Apache-2.0
 // The inspector: what is put into the page is put as text, never as HTML.
-import { KINDS, bounds, check, toGeoJSON, write } from './wkb.js';
-import { decode, inputsOf, isText } from './input.js';
+import { bounds, check, toGeoJSON, write } from './wkb.js';
+import { decode, inputsOf, textOf } from './input.js';
 import { counted, nounOf, readFront, readParts, rowsOf, spelled } from './explain.js';
 import { draw } from './drawing.js';
 
@@ -103,7 +103,7 @@ function showBytes() {
   $('found').hidden = false;
   $('forms').hidden = Boolean(error);
   showFacts(own, found, error);
-  showDrawing(own, found ? bounds(own) : null);
+  showDrawing(own, error);
   showParts();
   showRows();
   if (found) showForms(own, found);
@@ -122,7 +122,7 @@ function showFacts(own, found, error) {
       else if (found.dimension.includes(axis)) facts.push([axis, 'no number']);
     }
   } else {
-    facts.push(['Reason', error.reason], ['Part', error.part.toLocaleString('en')], ['Its byte', error.offset.toLocaleString('en')]);
+    facts.push(['Reason', error.reason], ['Part', error.part.toLocaleString('en')], ['Begins at byte', error.offset.toLocaleString('en')]);
     if (error.needed) facts.push(['It needs', counted(error.needed, 'byte')], ['It has', counted(error.has, 'byte')]);
     facts.push(['Input', counted(own.length, 'byte')]);
   }
@@ -130,32 +130,18 @@ function showFacts(own, found, error) {
   $('facts').replaceChildren(...facts.flatMap(([name, value]) => [make('dt', '', name), make('dd', '', String(value))]));
 }
 
-function showDrawing(own, box) {
-  const width = Math.max(280, $('drawing').clientWidth);
-  const drawn = draw(own, state.parts, box ?? boundsOfWhole(own, state.parts), width);
+function showDrawing(own, error) {
+  const drawn = draw(own, state.parts, Math.max(280, $('drawing').clientWidth));
   $('drawing').replaceChildren(...(drawn ? [drawn.picture] : []));
-  drawn?.picture.setAttribute('aria-label', `A drawing of ${counted(drawn.drawn, 'coordinate')}`);
-  const { drawn: count, all } = drawn ?? {};
-  $('drawn').textContent = !drawn ? 'There is no coordinate to draw.'
-    : count < all ? `A sample: ${count.toLocaleString('en')} of ${counted(all, 'coordinate')}.`
-      : box ? `x to the right, y upwards: ${counted(all, 'coordinate')}.` : 'The coordinates before the fault.';
-}
-
-/** The bounds of the coordinates before a fault. */
-function boundsOfWhole(own, parts) {
-  const box = { x: { min: Infinity, max: -Infinity, count: 0 }, y: { min: Infinity, max: -Infinity, count: 0 } };
-  for (const part of parts.slice(0, MOST.checked)) {
-    if (!(KINDS.indexOf(part.kind) < 3) || !part.count) continue;
-    const view = new DataView(own.buffer, own.byteOffset);
-    for (let i = 0, at = part.offset; i < part.count; i++, at += 8 * part.dimension.length) {
-      [box.x, box.y].forEach((it, n) => {
-        const value = view.getFloat64(at + 8 * n, part.byteOrder === 'little');
-        if (Number.isNaN(value)) return;
-        Object.assign(it, { min: Math.min(it.min, value), max: Math.max(it.max, value), count: it.count + 1 });
-      });
-    }
+  if (!drawn) {
+    $('drawn').textContent = 'There is no coordinate to draw.';
+    return;
   }
-  return box;
+  const all = counted(drawn.all, 'coordinate');
+  const of = drawn.drawn < drawn.all ? `${drawn.drawn.toLocaleString('en')} of ${all}` : all;
+  drawn.picture.setAttribute('aria-label', `A drawing of ${of}`);
+  $('drawn').textContent = (drawn.isSample ? `A sample: ${of}` : drawn.drawn < drawn.all ? `${of}: the others aren't finite`
+    : `x to the right, y upwards: ${all}`) + (error ? ', before the fault.' : '.');
 }
 
 /** What a part is called. */
@@ -177,11 +163,12 @@ function showParts() {
   const shown = shownParts(MOST.parts);
   const items = shown.map((part) => {
     const button = make('button', part.error ? 'bad' : '', nameOf(part));
-    if (!part.error) button.append(' ', make('small', '', KINDS.indexOf(part.kind) === 1 ? '' : counted(part.count, nounOf(part.kind))));
+    if (!part.error) button.append(' ', make('small', '', part.kind === 'Point' ? '' : counted(part.count, nounOf(part.kind))));
     button.type = 'button';
     button.dataset.part = part.index;
     button.style.paddingLeft = `${0.4 + Math.min(part.depth, 12)}rem`;
     button.setAttribute('aria-pressed', 'false');
+    button.tabIndex = part.index === 0 ? 0 : -1;
     return make('li', '', button);
   });
   const more = state.parts.length - shown.length;
@@ -224,7 +211,7 @@ function showRows() {
   const { bytes, front, parts } = state;
   const out = front.rows.map(rowOf);
   let [count, last] = [0, -1];
-  for (const part of [...parts.slice(0, -1), ...parts.slice(-1)]) {
+  for (const part of parts) {
     const isLast = part === parts[parts.length - 1];
     if (count > state.rows && !(isLast && part.error)) continue;
     if (part.index > last + 1) out.push(make('tr', '', make('td'), make('td'), make('td', '', `.. ${counted(part.index - last - 1, 'more part')}`)));
@@ -286,11 +273,15 @@ function takeText(text, source = '') {
 }
 
 async function takeFile(file) {
-  const bytes = new Uint8Array(await file.arrayBuffer());
-  const source = `${file.name}, ${counted(bytes.length, 'byte')}`;
   $('text').value = '';
-  if (isText(bytes)) takeText(new TextDecoder().decode(bytes), source);
-  else take([bytes], source);
+  try {
+    const bytes = new Uint8Array(await file.arrayBuffer());
+    const text = textOf(bytes);
+    take(text === null ? [bytes] : inputsOf(text), `${file.name}, ${counted(bytes.length, 'byte')}`);
+  } catch (error) {
+    take([], file.name);
+    say(`No bytes: ${error.message}`, true);
+  }
 }
 
 function listen() {
@@ -328,6 +319,14 @@ function listen() {
       if (index !== undefined) choose(index, id !== 'bytes');
     });
   }
+  $('parts').addEventListener('keydown', (event) => {
+    const to = { ArrowDown: 'nextElementSibling', ArrowUp: 'previousElementSibling' }[event.key];
+    const next = to && event.target.closest('li')[to]?.querySelector('button');
+    if (!next) return;
+    event.preventDefault();
+    [event.target.tabIndex, next.tabIndex] = [-1, 0];
+    next.focus();
+  });
   document.addEventListener('dragover', (event) => {
     event.preventDefault();
     document.body.classList.add('is-over');

@@ -13,7 +13,7 @@ after(() => rmSync(WORK, { recursive: true, force: true }));
 cpSync(here('../out/package'), WORK, { recursive: true });
 for (const it of ['explain.js', 'input.js']) cpSync(here(`../${it}`), join(WORK, it));
 const { readParts, rowsOf } = await import(pathToFileURL(join(WORK, 'explain.js')));
-const { decode, inputsOf, isText } = await import(pathToFileURL(join(WORK, 'input.js')));
+const { decode, inputsOf, textOf } = await import(pathToFileURL(join(WORK, 'input.js')));
 
 test('each byte of each row', () => {
   const lines = readFileSync(here('../../c/test/lasting.rows'), 'utf8').split('\n').filter((it) => it && it[0] !== '#');
@@ -54,5 +54,7 @@ test('texts', () => {
   assert.deepEqual(inputsOf(`${point}\n\n${point}\n`), [point, point]);
   assert.deepEqual(inputsOf(`${point.slice(0, 10)}\n${point.slice(10)}`), [point]);
   assert.deepEqual(inputsOf('01\n02'), ['01', '02']);
-  assert.deepEqual([decode(point), new TextEncoder().encode(point)].map(isText), [false, true]);
+  const [utf8, utf16] = ['utf8', 'utf16le'].map((it) => Uint8Array.from(Buffer.from(`\ufeff${point}`, it)));
+  const files = [decode(point), new TextEncoder().encode(point), utf8, utf16];
+  assert.deepEqual(files.map(textOf), [null, point, point, point]);
 });

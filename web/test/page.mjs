@@ -89,7 +89,7 @@ const CASES = [
   ['0201000000', 'Rejected: a byte order is neither 0 nor 1', '0', /^no byte order: 2/],
   ['0108000000', 'Rejected: unknown geometry type code 8, a circular string', '1', /no geometry/],
   ['01020000', 'Rejected: the input ends inside a header', '1', 'cut off: 3 of 4 bytes'],
-  ['01', 'Rejected: the input ends inside a header', '1', 'cut off: 0 of 4 bytes'],
+  ['01', 'Rejected: the input ends inside a header', '1', 'the input ends here'],
   ['0102000000ffffffff', 'Rejected: the input ends inside a line string', '5', /^4,294,967,295 coordinates: .* 68,719,476,729 bytes/],
   ['010400000001000000' + '0102000000', 'Rejected: the input ends inside a multi point', '5', /^1 coordinate|^1 member/],
   [`010500000001000000${POINT}`, 'Rejected: a member has the wrong kind', '10', /^code 1: Point/],
@@ -112,11 +112,23 @@ for (const [text, verdict, at, why] of CASES) {
 test('what is drawn, listed and written', async () => {
   const line = await shown('01020000000200000000000000000000000000000000000000000000000000f03f000000000000f87f');
   assert.deepEqual([line.shapes, line.forms.length], [2, 5]);
+  assert.match(line.drawn, /^1 of 2 coordinates: /);
   assert.equal(line.forms[4], '{"type":"LineString","coordinates":[[0,0],[1,null]]}');
   const huge = await shown('010200000002000000' + 'ffffffffffffefff'.repeat(2) + 'ffffffffffffef7f'.repeat(2));
   assert.match(huge.drawn, /2 coordinates/);
+  const cut = await shown('010400000003000000' + POINT.repeat(2) + POINT.slice(0, 40));
+  assert.deepEqual([cut.shapes, cut.bad.at(-1)], [2, ['64', 'cut off: 7 of 8 bytes']]);
+  assert.match(cut.drawn, /2 coordinates, before the fault\.$/);
   const empty = await shown('0101000000' + '000000000000f87f'.repeat(2));
   assert.equal(empty.drawn, 'There is no coordinate to draw.');
+});
+
+test('the list of parts is one stop of Tab, and arrows go through it', async () => {
+  await shown('010400000002000000' + POINT.repeat(2));
+  const at = await run(`const all = [...document.querySelectorAll('#parts button')];
+    all[0].dispatchEvent(new KeyboardEvent('keydown', { key: 'ArrowDown', bubbles: true, cancelable: true }));
+    return [document.activeElement.dataset.part, ...all.map((it) => it.tabIndex)];`);
+  assert.deepEqual(at, ['1', -1, 0, -1]);
 });
 
 test('many lines', async () => {
