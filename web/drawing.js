@@ -51,15 +51,14 @@ const label = (it) => Math.abs(it) >= 1e7 || it !== 0 && Math.abs(it) < 1e-4 ? i
 
 function axes(scales, { width, height }) {
   const box = svg('g', { class: 'axes' });
+  const add = (it, line, text) => box.append(svg('line', line), svg('text', text, label(it)));
   for (const it of ticksOf(scales.x)) {
     const x = scales.x.at(it);
-    box.append(svg('line', { x1: x, x2: x, y1: EDGE, y2: height - BOTTOM }),
-      svg('text', { x, y: height - BOTTOM + 18, 'text-anchor': 'middle' }, label(it)));
+    add(it, { x1: x, x2: x, y1: EDGE, y2: height - BOTTOM }, { x, y: height - BOTTOM + 18, 'text-anchor': 'middle' });
   }
   for (const it of ticksOf(scales.y)) {
     const y = scales.y.at(it);
-    box.append(svg('line', { x1: LEFT, x2: width - EDGE, y1: y, y2: y }),
-      svg('text', { x: LEFT - 6, y: y + 4, 'text-anchor': 'end' }, label(it)));
+    add(it, { x1: LEFT, x2: width - EDGE, y1: y, y2: y }, { x: LEFT - 6, y: y + 4, 'text-anchor': 'end' });
   }
   return box;
 }

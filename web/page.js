@@ -151,16 +151,9 @@ function nameOf(part) {
   return part.number === 0 ? 'exterior ring' : `interior ring ${part.number}`;
 }
 
-/** The parts that are shown of many: the first ones, and the rejected one. */
-function shownParts(most) {
-  const { parts } = state;
-  if (parts.length <= most) return parts;
-  const last = parts[parts.length - 1];
-  return last.error ? [...parts.slice(0, most - 1), last] : parts.slice(0, most);
-}
-
+/** Lists the first parts, and the rejected one. */
 function showParts() {
-  const shown = shownParts(MOST.parts);
+  const shown = state.parts.filter((it, i) => i < MOST.parts - 1 || it.error);
   const items = shown.map((part) => {
     const button = make('button', part.error ? 'bad' : '', nameOf(part));
     if (!part.error) button.append(' ', make('small', '', part.kind === 'Point' ? '' : counted(part.count, nounOf(part.kind))));
@@ -207,6 +200,8 @@ function headingOf(part) {
   return it;
 }
 
+const moreRow = (count) => rowOf({ at: 0, spans: [], text: `.. ${counted(count, 'more part')}`, isGap: true });
+
 function showRows() {
   const { bytes, front, parts } = state;
   const out = front.rows.map(rowOf);
@@ -214,14 +209,14 @@ function showRows() {
   for (const part of parts) {
     const isLast = part === parts[parts.length - 1];
     if (count > state.rows && !(isLast && part.error)) continue;
-    if (part.index > last + 1) out.push(make('tr', '', make('td'), make('td'), make('td', '', `.. ${counted(part.index - last - 1, 'more part')}`)));
+    if (part.index > last + 1) out.push(moreRow(part.index - last - 1));
     const rows = rowsOf(bytes, front.size, part, Math.max(6, state.rows / 50));
     out.push(...(parts.length > 1 ? [headingOf(part)] : []), ...rows.map(rowOf));
     count += rows.length + 1;
     last = part.index;
   }
   const left = parts.length - 1 - last;
-  if (left > 0) out.push(make('tr', '', make('td'), make('td'), make('td', '', `.. ${counted(left, 'more part')}`)));
+  if (left > 0) out.push(moreRow(left));
   out.push(...endRows());
   $('bytes').replaceChildren(...out);
   $('more').hidden = left === 0 && !$('bytes').textContent.includes('.. ');

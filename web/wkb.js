@@ -181,48 +181,39 @@ export function geopackageHeader(blob) {
 /** The geometry as GeoJSON has it. M is left out, and so are SRIDs. */
 export function toGeoJSON(bytes) {
   const from = over(bytes, 'wkb_parts');
-  return new Geometries(from, wordsThere[RESULT] / 4).next();
+  return geometryAt({ from, at: wordsThere[RESULT] / 4 });
 }
 
-/** Makes objects of the table of parts, from one to the next. */
-class Geometries {
-  constructor(from, at) {
-    this.from = from;
-    this.at = at;
-  }
+function listOf(count, item) {
+  const items = [];
+  for (let i = 0; i < count; i++) items.push(item());
+  return items;
+}
 
-  next() {
-    const kind = wordsThere[this.at + 12];
-    const count = wordsThere[this.at + 6];
-    if (kind < 3) return { type: KINDS[kind], coordinates: this.own(kind === 1) };
-    this.at += PART_WORDS;
-    if (kind === 7) return { type: KINDS[kind], geometries: this.list(count, () => this.next()) };
-    const member = kind === 3 ? () => this.own(false) : () => this.next().coordinates;
-    return { type: KINDS[kind], coordinates: this.list(count, member) };
-  }
+/** Makes an object of the table of parts, and goes to the next one. */
+function geometryAt(table) {
+  const [count, kind] = [wordsThere[table.at + 6], wordsThere[table.at + 12]];
+  const type = KINDS[kind];
+  if (kind < 3) return { type, coordinates: coordinatesAt(table, kind === 1) };
+  table.at += PART_WORDS;
+  if (kind === 7) return { type, geometries: listOf(count, () => geometryAt(table)) };
+  return { type, coordinates: listOf(count, kind === 3 ? () => coordinatesAt(table, false) : () => geometryAt(table).coordinates) };
+}
 
-  list(count, member) {
-    const items = [];
-    for (let i = 0; i < count; i++) items.push(member());
-    return items;
+/** The coordinates of a point, a line string or a ring; none of an empty point. */
+function coordinatesAt(table, isPoint) {
+  const [it, view] = [table.at, viewThere];
+  const [hasZ, width, isLittle] = [wordsThere[it + 13] % 2 === 1, wordsThere[it + 14], wordsThere[it + 15] === 1];
+  const items = [];
+  let at = table.from + wordsThere[it + 4];
+  for (const end = at + 8 * width * wordsThere[it + 6]; at < end; at += 8 * width) {
+    const position = [view.getFloat64(at, isLittle), view.getFloat64(at + 8, isLittle)];
+    if (hasZ) position.push(view.getFloat64(at + 16, isLittle));
+    items.push(position);
   }
-
-  /** The coordinates of a point, a line string or a ring; none of an empty point. */
-  own(isPoint) {
-    const [it, view] = [this.at, viewThere];
-    const [hasZ, width, isLittle] = [wordsThere[it + 13] % 2 === 1, wordsThere[it + 14], wordsThere[it + 15] === 1];
-    const items = [];
-    let at = this.from + wordsThere[it + 4];
-    for (const end = at + 8 * width * wordsThere[it + 6]; at < end; at += 8 * width) {
-      const position = [view.getFloat64(at, isLittle), view.getFloat64(at + 8, isLittle)];
-      if (hasZ) position.push(view.getFloat64(at + 16, isLittle));
-      items.push(position);
-    }
-    this.at += PART_WORDS;
-    if (!isPoint) return items;
-    const isNaNs = items[0].every(Number.isNaN) && Number.isNaN(view.getFloat64(at - 8, isLittle));
-    return isNaNs ? [] : items[0];
-  }
+  table.at += PART_WORDS;
+  if (!isPoint) return items;
+  return items[0].every(Number.isNaN) && Number.isNaN(view.getFloat64(at - 8, isLittle)) ? [] : items[0];
 }
 
 /** The encoding of a geometry of GeoJSON under the options. */

@@ -23,24 +23,23 @@ async function call(method, path, body) {
 
 const run = (script, ...args) => call('POST', `/session/${session}/execute/sync`, { script, args });
 
-/** Puts a text, made by a script in the page if it is a function, into the page, and returns what it shows. */
+/** Puts a text, or what a function makes in the page, into the page, and returns what it shows. A file is read later. */
 const shown = (text) => run(`
-  const text = arguments[1] ? Function('return ' + arguments[0])()() : arguments[0];
+  const text = ${typeof text === 'function' ? `(${text})()` : JSON.stringify(text)};
   const begin = performance.now();
+  const transfer = new DataTransfer();
+  const field = document.getElementById('text');
   if (text instanceof Uint8Array) {
-    const transfer = new DataTransfer();
     transfer.items.add(new File([text], '<i>name</i>.wkb'));
     document.dispatchEvent(new DragEvent('drop', { dataTransfer: transfer }));
-    return null;
+  } else if (text.length > 200000) {
+    transfer.setData('text/plain', text);
+    field.dispatchEvent(new ClipboardEvent('paste', { clipboardData: transfer, cancelable: true }));
+  } else {
+    field.value = text;
+    field.dispatchEvent(new Event('input'));
   }
-  const clipboardData = new DataTransfer();
-  clipboardData.setData('text/plain', text);
-  const field = document.getElementById('text');
-  field.value = text.length > 200000 ? '' : text;
-  if (field.value) field.dispatchEvent(new Event('input'));
-  else field.dispatchEvent(new ClipboardEvent('paste', { clipboardData, cancelable: true }));
-  return { ...read(), time: performance.now() - begin };
-  function read() { return (${READ})(); }`, String(text), typeof text === 'function');
+  return { ...(${READ})(), time: performance.now() - begin };`);
 const READ = `() => {
   const textOf = (id) => document.getElementById(id).textContent;
   const isHidden = document.getElementById('found').hidden;
