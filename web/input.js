@@ -9,7 +9,7 @@ const digit = (text, i) => DIGITS[text.charCodeAt(i)] ?? -1;
 
 /** The bytes of hex without spaces. */
 function fromHex(text) {
-  if (text.length % 2 === 1) throw new Error(`${text.length} digits of hex: one is missing`);
+  if (text.length % 2 === 1) throw new Error(`an odd number of digits of hex: ${text.length}`);
   const bytes = new Uint8Array(text.length / 2);
   for (let i = 0; i < bytes.length; i++) bytes[i] = digit(text, 2 * i) << 4 | digit(text, 2 * i + 1);
   return bytes;

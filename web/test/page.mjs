@@ -95,7 +95,7 @@ const CASES = [
   ['0107000000ffffffff'.repeat(129), 'Rejected: a collection is inside 128 others', '1,153', /^code 7/],
   ['47500001', 'Rejected: the input ends inside its GeoPackage header'],
   ['zz', 'No bytes: neither hex nor base64'],
-  ['012', 'No bytes: 3 digits of hex'],
+  ['012', 'No bytes: an odd number of digits of hex: 3'],
   ['<img src=x onerror=document.title=1>', 'No bytes: neither hex nor base64'],
 ];
 
