@@ -153,7 +153,7 @@ class Fields {
   }
 
   word(at, axis, isLittle) {
-    return { text: `${axis} ${spelled(this.view.getFloat64(at, isLittle))}` };
+    return { text: `${axis}\u00a0${spelled(this.view.getFloat64(at, isLittle))}` };
   }
 
   coordinate(axes, isLittle) {
