@@ -120,7 +120,8 @@ function showFacts(own, found, error) {
       else if (found.dimension.includes(axis)) facts.push([axis, 'no number']);
     }
   } else {
-    facts.push(['Reason', error.reason], ['Part', error.part.toLocaleString('en')], ['Begins at byte', error.offset.toLocaleString('en')]);
+    const begin = error.offset + state.front.size;
+    facts.push(['Reason', error.reason], ['Part', error.part.toLocaleString('en')], ['Begins at byte', begin.toLocaleString('en')]);
     if (error.needed) facts.push(['It needs', counted(error.needed, 'byte')], ['It has', counted(error.has, 'byte')]);
     facts.push(['Input', counted(own.length, 'byte')]);
   }

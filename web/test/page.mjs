@@ -122,6 +122,12 @@ test('what is drawn, listed and written', async () => {
   assert.equal(empty.drawn, 'There is no coordinate to draw.');
 });
 
+test('a fault behind the header of a GeoPackage', async () => {
+  const { verdict } = await shown(`47500001e6100000${POINT.slice(0, 40)}`);
+  assert.match(verdict, /at byte 8;/);
+  assert.match(await run('return document.getElementById("facts").textContent'), /Begins at byte8It needs/);
+});
+
 test('the list of parts is one stop of Tab, and arrows go through it', async () => {
   await shown('010400000002000000' + POINT.repeat(2));
   const at = await run(`const all = [...document.querySelectorAll('#parts button')];
