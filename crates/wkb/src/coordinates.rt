@@ -25,7 +25,9 @@ pub trait Visitor {
     // What is known once a visit returned an error, and none came after it.
     ghost has_stopped: { Self → Type 0 } = { λ _. ⊤ };
 
-    /// Visits a coordinate. An error ends the walk.
+    /// Visits a coordinate.
+    ///
+    /// Fails where it has no memory, which ends the walk.
     fn visit<C: CoordTrait>(&mut self, coord: &C) -> Result<(), AllocError>
         ensures { VisitsOrStops has_visited has_stopped self.old self.new
             (C.words coord.now ∷ []) result };
@@ -116,6 +118,8 @@ fn visit_polygons<V: Visitor>(visitor: &mut V, multi: &MultiPolygon) -> Result<(
 }
 
 /// Visits all coordinates of a geometry, at every level and in order. An empty point has none.
+///
+/// Fails where a visit does.
 #[cycle(walk)]
 pub fn visit_coordinates<V: Visitor>(visitor: &mut V, geometry: &Wkb) -> Result<(), AllocError>
     ensures { VisitsOrStops V.has_visited V.has_stopped visitor.old visitor.new

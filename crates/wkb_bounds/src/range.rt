@@ -25,9 +25,13 @@ pub struct Range {
 #[repr(C)]
 #[derive(Clone, Copy, Debug, PartialEq)]
 pub struct Bounds {
+    /// The range of x.
     pub x: Range,
+    /// The range of y.
     pub y: Range,
+    /// The range of z; of a geometry without a z, that of no number.
     pub z: Range,
+    /// The range of m, likewise.
     pub m: Range,
 }
 

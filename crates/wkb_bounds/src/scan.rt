@@ -211,10 +211,10 @@ pub fn any_bounds_into(buf: &[u8], bounds: &mut Bounds) -> Result<(), Refused>
 }
 
 /// The bounds of the geometry at the start of the bytes, over its coordinates at every level. What follows it is not
-/// looked at. It accepts and rejects what `check` does, and allocates nothing.
+/// looked at. A NaN is passed over, and the other numbers of its coordinate count. The order is that of numbers, with
+/// minus zero below zero.
 ///
-/// A NaN is passed over, and the other numbers of its coordinate count. The order is that of numbers, with minus zero
-/// below zero.
+/// Rejected where `check` rejects the bytes. Nothing is allocated.
 pub fn bounds(buf: &[u8]) -> Result<Bounds, Refused>
     ensures { FindsBounds buf.now result }
 {

@@ -45,12 +45,19 @@ pub const GEOMETRY_COLLECTION: u32 = 7;
 /// A kind with its dimension.
 #[derive(Clone, Copy, Debug, PartialEq)]
 pub enum WkbType {
+    /// A point.
     Point(Dimension),
+    /// A line string.
     LineString(Dimension),
+    /// A polygon.
     Polygon(Dimension),
+    /// A multi point.
     MultiPoint(Dimension),
+    /// A multi line string.
     MultiLineString(Dimension),
+    /// A multi polygon.
     MultiPolygon(Dimension),
+    /// A collection.
     GeometryCollection(Dimension),
 }
 

@@ -66,9 +66,13 @@ macro_rules! by_order {
 /// The dimension of a geometry that was read.
 #[derive(Clone, Copy, Debug, PartialEq)]
 pub enum Dimension {
+    /// x and y.
     Xy,
+    /// x, y and z.
     Xyz,
+    /// x, y and m.
     Xym,
+    /// x, y, z and m.
     Xyzm,
 }
 
@@ -141,9 +145,13 @@ impl Dimension {
 /// The dimension of a geometry, as the geometry traits name it.
 #[derive(Clone, Copy, Debug, PartialEq)]
 pub enum Dimensions {
+    /// x and y.
     Xy,
+    /// x, y and z.
     Xyz,
+    /// x, y and m.
     Xym,
+    /// x, y, z and m.
     Xyzm,
     /// This many words in each coordinate.
     Unknown(usize),
@@ -170,7 +178,10 @@ pub enum Form {
     #[default]
     Iso,
     /// EWKB flags, with this SRID on the outermost geometry.
-    Ewkb { srid: Option<u32> },
+    Ewkb {
+        /// The SRID, if any.
+        srid: Option<u32>,
+    },
 }
 
 impl Form {

@@ -26,16 +26,36 @@ pub enum General {
     InvalidByteOrder,
     /// Where the point would end and where the input does, in bytes from the point's order byte.
     #[error("Invalid buffer length for Point: geometry would end at byte {end}, but buffer length is {len}.")]
-    ShortPoint { end: u64, len: usize },
+    ShortPoint {
+        /// Where it would end.
+        end: u64,
+        /// Where the input ends.
+        len: usize,
+    },
     /// Where the line string would end and where the input does, in bytes from the line string's order byte.
     #[error("Invalid buffer length for LineString: geometry would end at byte {end}, but buffer length is {len}.")]
-    ShortLineString { end: u64, len: usize },
+    ShortLineString {
+        /// Where it would end.
+        end: u64,
+        /// Where the input ends.
+        len: usize,
+    },
     /// Where the ring would end and where the input does, in bytes from the ring's count.
     #[error("Invalid buffer length for LinearRing: data would end at byte {end}, but buffer length is {len}.")]
-    ShortLinearRing { end: u64, len: usize },
+    ShortLinearRing {
+        /// Where it would end.
+        end: u64,
+        /// Where the input ends.
+        len: usize,
+    },
     /// Where the multi point would end and where the input does, in bytes from the multi point's order byte.
     #[error("Invalid buffer length for MultiPoint: geometry would end at byte {end}, but buffer length is {len}.")]
-    ShortMultiPoint { end: u64, len: usize },
+    ShortMultiPoint {
+        /// Where it would end.
+        end: u64,
+        /// Where the input ends.
+        len: usize,
+    },
 }
 
 /// Why bytes are rejected: the first fault from left to right.

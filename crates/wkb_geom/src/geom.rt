@@ -81,6 +81,7 @@ pub trait CoordTrait: Dimensioned {
 /// }
 /// ```
 pub trait PointTrait: Dimensioned {
+    /// The type of its coordinates.
     type CoordType: CoordTrait;
 
     // The words of the coordinate; None of an empty point.
@@ -97,6 +98,7 @@ pub trait PointTrait: Dimensioned {
 
 /// A line string, or a ring of a polygon.
 pub trait LineStringTrait: Dimensioned {
+    /// The type of its coordinates.
     type CoordType: CoordTrait;
 
     // The words of each coordinate, in order.
@@ -147,6 +149,7 @@ pub trait LineStringTrait: Dimensioned {
 
 /// A polygon: an exterior ring and the interiors, or no ring at all.
 pub trait PolygonTrait: Dimensioned {
+    /// The type of its rings.
     type RingType: LineStringTrait;
 
     // The rings, the exterior first: without one there are no interiors.
@@ -187,6 +190,7 @@ pub trait PolygonTrait: Dimensioned {
 
 /// Points of one dimension.
 pub trait MultiPointTrait: Dimensioned {
+    /// The type of its points.
     type InnerPointType: PointTrait;
 
     // The words of each point, in order; None of an empty one.
@@ -207,6 +211,7 @@ pub trait MultiPointTrait: Dimensioned {
 
 /// Line strings of one dimension.
 pub trait MultiLineStringTrait: Dimensioned {
+    /// The type of its line strings.
     type InnerLineStringType: LineStringTrait;
 
     // The coordinates of each line string, in order.
@@ -231,6 +236,7 @@ pub trait MultiLineStringTrait: Dimensioned {
 // A polygon type that contains references to types with ghost fields must be an enum, or have a ghost field itself: the
 // checker takes no `Option` of a reference to another struct of this sort.
 pub trait MultiPolygonTrait: Dimensioned {
+    /// The type of its polygons.
     type InnerPolygonType: PolygonTrait;
 
     // The rings of each polygon, in order.
@@ -254,6 +260,7 @@ pub trait MultiPolygonTrait: Dimensioned {
 /// Geometries of any kind and dimension, which it holds: they are returned by reference.
 // What is said above of a polygon's type holds for that of the members as well.
 pub trait GeometryCollectionTrait: Dimensioned {
+    /// The type of its members.
     type GeometryType: GeometryTrait;
 
     // What each member means, in order.
@@ -276,6 +283,7 @@ pub trait GeometryCollectionTrait: Dimensioned {
 
 /// A line from one coordinate to another.
 pub trait LineTrait: Dimensioned {
+    /// The type of its coordinates.
     type CoordType: CoordTrait;
 
     ghost start_words: { Self → List ℕ };
@@ -298,6 +306,7 @@ pub trait LineTrait: Dimensioned {
 
 /// A rectangle between two corners. Only x and y of them are written.
 pub trait RectTrait: Dimensioned {
+    /// The type of its coordinates.
     type CoordType: CoordTrait;
 
     ghost min_words: { Self → List ℕ };
@@ -320,6 +329,7 @@ pub trait RectTrait: Dimensioned {
 
 /// A triangle by its corners.
 pub trait TriangleTrait: Dimensioned {
+    /// The type of its coordinates.
     type CoordType: CoordTrait;
 
     ghost first_words: { Self → List ℕ };
@@ -351,36 +361,55 @@ pub trait TriangleTrait: Dimensioned {
 /// A geometry by its kind. The dimension of a collection is that of the geometry itself.
 #[derive(Debug, Drop)]
 pub enum GeometryType<'a, P, L, Y, MP, ML, MY, G, R, T, N> {
+    /// A point.
     Point(&'a P),
+    /// A line string.
     LineString(&'a L),
+    /// A polygon.
     Polygon(&'a Y),
+    /// A multi point.
     MultiPoint(&'a MP),
+    /// A multi line string.
     MultiLineString(&'a ML),
+    /// A multi polygon.
     MultiPolygon(&'a MY),
+    /// The members of a collection.
     GeometryCollection(&'a [G]),
+    /// A rectangle.
     Rect(&'a R),
+    /// A triangle.
     Triangle(&'a T),
+    /// A line.
     Line(&'a N),
 }
 
 /// A geometry of any kind.
 pub trait GeometryTrait: Dimensioned + Sized {
+    /// The type of points.
     type PointType: PointTrait;
 
+    /// That of line strings.
     type LineStringType: LineStringTrait;
 
+    /// That of polygons.
     type PolygonType: PolygonTrait;
 
+    /// That of multi points.
     type MultiPointType: MultiPointTrait;
 
+    /// That of multi line strings.
     type MultiLineStringType: MultiLineStringTrait;
 
+    /// That of multi polygons.
     type MultiPolygonType: MultiPolygonTrait;
 
+    /// That of rectangles.
     type RectType: RectTrait;
 
+    /// That of triangles.
     type TriangleType: TriangleTrait;
 
+    /// That of lines.
     type LineType: LineTrait;
 
     // What the geometry means, with all its parts.

@@ -175,6 +175,8 @@ impl<'a> GeometryCollection<'a> {
     }
 
     /// A copy with lists of its own.
+    ///
+    /// Fails where an allocation does.
     #[cycle(clones)]
     pub fn clone(&self) -> Result<GeometryCollection<'a>, AllocError>
         ensures { IfOk result (λ c. c ≡ self.now) }
@@ -247,6 +249,8 @@ impl<'a> Wkb<'a> {
 
     /// The geometry at the start of the bytes, as `read_wkb` returns it. They aren't checked first: for a hostile
     /// megabyte hundreds may be allocated before it is rejected. In Rust, `reader::read_wkb` checks collections first.
+    ///
+    /// Rejected as `read_wkb` rejects the bytes.
     pub fn try_new(alloc: Global, buf: &'a [u8]) -> WkbResult<Wkb<'a>>
         ensures { Reads buf.now result }
     {
@@ -356,6 +360,8 @@ impl<'a> Wkb<'a> {
     }
 
     /// A copy with lists of its own.
+    ///
+    /// Fails where an allocation does.
     #[cycle(clones)]
     pub fn clone(&self) -> Result<Wkb<'a>, AllocError>
         ensures same { IfOk result (λ w. w ≡ self.now) }

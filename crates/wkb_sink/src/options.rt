@@ -13,7 +13,9 @@ use wkb_geom::{Endianness, Form};
 /// The byte order and the form of what is written. By default it is little endian, with ISO codes.
 #[derive(Debug, Clone, Copy)]
 pub struct WriteOptions {
+    /// The byte order.
     pub endianness: Endianness,
+    /// The form of the codes.
     pub form: Form,
 }
 

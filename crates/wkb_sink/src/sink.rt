@@ -56,8 +56,9 @@ pub trait Sink {
     // What is known where the sink failed by this error, or, by no error, since it took nothing.
     ghost fails_by: { Self → Option Error → Type 0 } = { λ _ _. ⊤ };
 
-    /// Appends as many of the first bytes as it takes, and returns how many. With an error it appends nothing. An
-    /// error, or `Ok(0)` for a slice that isn't empty, is a failure, and lasts.
+    /// Appends as many of the first bytes as it takes, and returns how many.
+    ///
+    /// Fails by an error, with nothing appended, or by `Ok(0)` for a slice that isn't empty. A failure lasts.
     fn put(&mut self, bytes: &[u8]) -> io::Result<usize>
         ensures bound { WritesAtMost result bytes.now }
         ensures bytes { WriteAppends (appended self.old) (appended self.new) result bytes.now }
@@ -174,7 +175,9 @@ impl VecSink {
         }
     }
 
-    /// A sink that takes its first `n` bytes without another allocation. Fails if the allocation does.
+    /// A sink that takes its first `n` bytes without another allocation.
+    ///
+    /// Fails if the allocation does.
     pub fn with_capacity(alloc: Global, n: usize) -> Result<VecSink, AllocError>
         ensures bytes { IfOk result (λ s. s.bytes ≡ []) }
         ensures capacity { IfOk result (λ s. n ≤ s.capacity) }

@@ -17,15 +17,25 @@ use wkb_plain::{
 #[cycle(geometry)]
 #[derive(Drop)]
 pub enum Geometry<'w> {
+    /// A point.
     Point(Point<'w>),
+    /// A line string.
     LineString(LineString<'w>),
+    /// A polygon.
     Polygon(Polygon<'w>),
+    /// A multi point.
     MultiPoint(MultiPoint<'w>),
+    /// A multi line string.
     MultiLineString(MultiLineString<'w>),
+    /// A multi polygon.
     MultiPolygon(MultiPolygon<'w>),
+    /// A collection.
     GeometryCollection(GeometryCollection<'w>),
+    /// A rectangle.
     Rect(Rect<'w>),
+    /// A triangle.
     Triangle(Triangle<'w>),
+    /// A line.
     Line(Line<'w>),
 }
 
