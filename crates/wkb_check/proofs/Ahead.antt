@@ -71,12 +71,7 @@ says bytes (node own words ss) t rest b h head =
     (record {
       long = said.long;
       start_is = refl;
-      header_is = record {
-        kind_is = type_kind_is t;
-        dimension_is = type_dimension_is t;
-        order_is = refl;
-        srid_is = said.srid;
-      };
+      header_is = grind (arith, type_kind_is, type_dimension_is);
       counts = λ differs.
           let c = counted own.order words t y.front (y.rest ++ rest) y.first differs in
           (omega (arith, c.0, ap length cut, length-drop start bytes), ap (number own.order 4) cut ∙ c.1);
@@ -163,6 +158,4 @@ module _ (bytes : List ℕ) (begin : ℕ) {k : ℕ} {d : Dimension} {order : End
       let other : kind g.value ≢ 1 = λ e. differs ((is g).kind_is ∙ e) in
       let start = body_start (is_some (header g.spelled).srid) in
       let at : begin + 5 + size ≡ begin + start = omega (arith, size_is, srid_long g, own.start_is) in
-      piece_is begin g.spelled g.value (is g) n offset
-      (rw (n_is, (is g).order_is, at, ← drop-drop start begin bytes) (own.counts other).1)
-      (omega (arith, offset_is, size_is, srid_long g, other_leads (header g.spelled) g.value other))
+      grind (arith, piece_is, drop-drop, srid_long, other_leads)

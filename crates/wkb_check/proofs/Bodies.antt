@@ -34,11 +34,4 @@ rings_first order d (ring ∷ rings) x rest h =
     let behind = drop_front (ring_end d (number order 4 body)) h.front (h.rest ++ rest) (sym end) in
     let others = rings_first order d rings h.rest rest h.second in
     rw (then_append h rest)
-    (record {
-      whole = (
-        omega (arith, end, length-append h.front (h.rest ++ rest)),
-        omega (arith, end, length-append h.front (h.rest ++ rest)),
-        rw behind others.whole,
-      );
-      are = λ i. read.is i ∷ (ap (decoded_rings order d (length rings)) behind ∙ others.are) i;
-    })
+    (grind (arith, length-append))

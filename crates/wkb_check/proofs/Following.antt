@@ -5,7 +5,7 @@ use Rattle.std.specs.Prelude.{Some, None, nat_lt}
 use Rattle.std.specs.Iterator.{MakesProgress, Yields, at_most}
 use Rattle.wkb_laws.specs.Prelude.{Endianness, Dimension, number, any}
 use Rattle.wkb_check.specs.Known.{HasGeometry, decoded_rings}
-use Rattle.wkb_check.specs.Subjects.{whole, subjects, subjects_of_rings, subjects_of_each}
+use Rattle.wkb_check.specs.Subjects.{subjects, subjects_of_rings, subjects_of_each}
 use Rattle.wkb_check.specs.Pieces.{Ahead, own_end, ring_piece, last_end, subject_pieces, pieces_of, first_rings, IsPieceAt}
 use Rattle.wkb_check.specs.Pieces.{IsInside, IsAhead, HasAhead, Takes, Steps, bytes_left, AreRings, IsRing}
 use Rattle.wkb_check.specs.Pieces.{piece_of, OnlyMember}
@@ -59,11 +59,7 @@ module _ (w : Pieces) (ahead : HasAhead w) (some : 0 < w.rings) (p : Piece)
             are = refl;
           };
         };
-    inside = record {
-      begins = omega (arith, ap (λ (q : Piece). q.offset) is);
-      ends = ends;
-      inside = omega (arith, ends, ring_inside);
-    };
+    inside = grind (arith, ring_inside);
     same = refl;
   }
 
@@ -115,10 +111,7 @@ module _ (w : Pieces) (ahead : HasAhead w) (none : w.rings ≡ 0) (some : 0 < w.
         ∙ ap (λ l. own ++ l) (sym j.are) in
         record {
           rest = subject_pieces next behind;
-          first =
-              c.are ∙ ap (subject_pieces w.at) f.are
-              ∙ ap (λ l. subject_pieces w.at (l ++ others)) (itself_first g.spelled g.value)
-              ∙ (λ k. sym (is g) k ∷ subject_pieces (sym (ends ∙ ap own_end (is g)) k) (joins k));
+          first = grind (arith, itself_first);
           ahead = record { more = c.more; whole = i.whole; all = begun_at x.begins.whole j.all; are = refl };
         };
     inside = piece_inside next ends;
@@ -176,9 +169,7 @@ module _ (buf : List ℕ) (g : HasGeometry buf) (p : Piece) (is : p ≡ piece_of
         record {
           high = ap (λ k. nat_lt k 4) (sym (kind_of buf 0 g p is)) ∙ le-ltb p.kind 4 (omega (arith, high));
           member = f.geometry;
-          are = itself_first g.spelled g.value
-              ∙ ap (λ xs. whole g.spelled g.value ∷ xs)
-              (i.are ∙ f.are ∙ ap (λ xs. only ++ xs) none ∙ append-nil only);
+          are = grind (arith, itself_first, append-nil);
         }
 
 -- ---- the iterator

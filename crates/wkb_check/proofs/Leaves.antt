@@ -10,7 +10,7 @@ use Rattle.wkb_geom.specs.Dimensions.{width}
 use Rattle.wkb_geom.specs.Items.{length-items}
 use Rattle.wkb_geom.specs.Numbers.{number}
 use Rattle.wkb_geom.specs.Refusals.{line_string_end, ring_end}
-use Rattle.wkb_geom.specs.Reading.{Outcome, at_no_cost, body_start, count_in, ring_in, coordinate, point_at, ring_at}
+use Rattle.wkb_geom.specs.Reading.{Outcome, at_no_cost, count_in, ring_in, coordinate, point_at, ring_at}
 use Rattle.wkb_geom.specs.Reading.{line_string_at, ring_part, line_string_item, point_item, refused}
 use Rattle.wkb_laws.proofs.GeometryAt.{line_string_free}
 use Rattle.wkb_laws.proofs.Heads.{number_in}
@@ -61,8 +61,7 @@ module _ (l : Layout) (bytes : List ℕ) where
       ≡ Ok ((turns, passed + n), take (length bytes - end) (drop end bytes))
   line_string_passes n end turns passed n-is end-is whole read =
       rw (line_string_free l bytes) (leaf_passes (coordinates_by 2) (line_string_item l (take end bytes)) bytes n end
-      turns passed _ read ((coordinates_there l.order l.dimension (body_start l.has_srid) end bytes
-      (omega (arith, end-is)) whole) ∙ sym n-is))
+      turns passed _ read (grind (arith, coordinates_there) ∙ sym n-is))
 
   pub point_passes : (end turns passed : ℕ) → end ≤ length bytes
       → point_at l bytes ≡ Ok (point_item l (take end bytes), drop end bytes)

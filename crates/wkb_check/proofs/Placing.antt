@@ -184,12 +184,7 @@ first_by n m bytes more (spelling s ss) (member t ts) b counted e =
         rest = h.rest ++ more;
         begins = record { front = h.front; whole = b.whole ∙ then_append h more; first = h.first.0 };
       };
-      others = record {
-        spelled = ss;
-        values = ts;
-        begins = record { front = h.rest; whole = refl; first = h.second };
-        counted = omega (arith, counted, e);
-      };
+      others = grind arith;
       are = refl;
     }
 

@@ -1,5 +1,5 @@
 -- The next ring, and those after it.
-use Rattle.std.proofs.Common.{◌≡◌, ℕ, zero, suc, ◌*◌, ◌≤◌, List, ◌∷◌, length, drop, ap, ◌∙◌, arith, length-drop}
+use Rattle.std.proofs.Common.{◌≡◌, ℕ, zero, suc, ◌*◌, ◌≤◌, List, ◌∷◌, length, drop, arith, length-drop}
 use Rattle.std.proofs.lemmas.List.{drop-drop}
 use Rattle.wkb_geom.specs.declared.common.Dimension.{Dimension}
 use Rattle.wkb_geom.specs.declared.common.Endianness.{Endianness}
@@ -29,7 +29,6 @@ next_ring buf order d (suc r) m at next w e ends =
     let bytes = drop at buf in
     let many : ℕ = number order 4 bytes in
     let cs-many = length-items (8 * width d) (coordinate order d) many (drop 4 bytes) in
-    let rest : drop (ring_end d many) bytes ≡ drop next buf = drop-drop (ring_end d many) at buf ∙ ap (λ k. drop k buf)
-    (omega (arith, ends)) in
+    let rest : drop (ring_end d many) bytes ≡ drop next buf = grind (arith, drop-drop) in
     let m-is : r ≡ m = omega (arith, e) in
     grind (arith, length-drop)
