@@ -183,8 +183,7 @@ pub lays_last : {a b : Progress} (n : ℕ) (c : Progress) (t : List ℕ) (r : Re
     → MatchResult r (λ _. IsReady b c n) (λ _. IsShort b c n) → a.block.waiting ≡ []
     → IfOk r (λ _. c.block.waiting ≡ []) → MIN_BLOCK ≤ block_size a.block → Ends a c t r
 lays_last {a = a} {b = b} n c t (Ok x) p q none empty large =
-    let rest : b.block.waiting ≡ q.moved =
-    sym (append-nil b.block.waiting) ∙ q.whole ∙ ap (λ l. q.moved ++ l) empty ∙ append-nil q.moved in
+    let rest : b.block.waiting ≡ q.moved = grind (arith, append-nil) in
     let whole : t ≡ p.moved ++ q.moved =
     ap (λ l. l ++ t) (sym none) ∙ p.whole ∙ ap (λ l. p.moved ++ l) rest in (
       q.same ∙ p.same,

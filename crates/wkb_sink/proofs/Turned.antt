@@ -73,9 +73,7 @@ stored_last : (order : Endianness) (words all part : List ℕ) (i k n word : ℕ
 unfolding words_encoding
 stored_last order words all part i k n word is behind item stored last fits part_fits =
     let whole : n ≡ 8 * i + 8 = omega (arith, is, last) in
-    rw whole (stored_next _ _ _ _ (8 * i) 8 _ behind fits stored part_fits
-    ∙ sym (flat_map_step (number_bytes order 8) words i word item)
-    ∙ ap (words_encoding order) (take_all (i + 1) words (omega (arith, last))))
+    grind (arith, stored_next, flat_map_step, words_encoding, take_all)
 
 -- the word at an index of those that the bytes hold in this order
 pub word_held : (held : Endianness) (words lent : List ℕ) (at i word : ℕ) → AllByRecursion IsWord words
@@ -146,9 +144,7 @@ pub stored_behind : (order : Endianness) (words part rest last : List ℕ) (at i
 stored_behind order words part rest last at i k n word is front place item stored more fits =
     let size = front_length order words part rest i front (omega (arith, more)) in
     let kept : take (8 * i) (part ++ rest) ≡ words_encoding order (take i words) =
-    grind (arith, take-append-add part rest 0, append-nil) in
-    rw place (stored_last order words (part ++ rest) last i k n word is kept item stored more
-    (omega (arith, size, length-append part rest)) fits)
+    grind (arith, take-append-add part rest 0, append-nil) in grind (arith, stored_last, length-append)
 
 pub ruleset each_laws = (stored_two_more, stored_behind, slice_get-get_or)
 
