@@ -28,9 +28,9 @@ pub use Rattle.wkb_view.specs.Spells.{BytesSpell, srid_of, order_of}
 pub use Rattle.wkb_view.specs.Members.{polygon_seen, multi_line_string_seen, multi_polygon_seen, stride, ArePoints}
 pub use Rattle.wkb_view.specs.Members.{multi_point_item}
 pub use Rattle.wkb_geom.specs.Reading.{body_start, parts_start, point_item, line_string_item}
-pub use Rattle.wkb_view.specs.Fits.{fitted_line_string, fitted_line_strings, fitted_polygons, fitted_point}
-pub use Rattle.wkb_view.specs.Fits.{fitted_geometry, fitted_geometries, fitted_parts, fitted_polygon, fitted_members}
-pub use Rattle.wkb_view.specs.Fits.{fitted_rings_size}
+pub use Rattle.wkb_laws.specs.Fits.{fitted_line_string, fitted_line_strings, fitted_polygons, fitted_point}
+pub use Rattle.wkb_laws.specs.Fits.{fitted_geometry, fitted_geometries, fitted_parts, fitted_polygon, fitted_members}
+pub use Rattle.wkb_laws.specs.Fits.{fitted_rings_size}
 pub use Rattle.wkb_view.specs.Lawful.{point_value, fitted_geometry-same}
 pub use Rattle.wkb_read.specs.declared.geometry.Wkb.{Wkb}
 pub use Rattle.wkb_view.specs.declared.coord.Coord.{Coord}

@@ -12,7 +12,7 @@ use Rattle.wkb_geom.specs.Dimensions.{as_dimensions}
 use Rattle.wkb_geom.specs.declared.geom.GeometryType.{GeometryType}
 use Rattle.wkb_geom.specs.Geometries.{point}
 use Rattle.wkb_geom.specs.Parts.{CollectionMeans}
-use Rattle.wkb_view.specs.Fits.{fitted_geometry, fitted_geometries}
+use Rattle.wkb_laws.specs.Fits.{fitted_geometry, fitted_geometries}
 use Rattle.wkb_view.specs.Views.{point_seen, point_dimension, seen_coordinate}
 use Rattle.wkb_view.specs.Lawful.{fitted_geometry-same, point_value, point_item_lawful}
 use Rattle.wkb_view.specs.declared.point.Point.{Point}

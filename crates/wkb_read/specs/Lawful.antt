@@ -6,7 +6,7 @@ use Rattle.wkb_read.specs.Prelude.{IsGeometry, AreGeometries, Item}
 use Rattle.std.proofs.Common.{refl}
 use Rattle.wkb_geom.specs.Values as value
 use Rattle.wkb_geom.specs.Geometries.{dimensions_of}
-use Rattle.wkb_view.specs.Fits.{fitted_geometry}
+use Rattle.wkb_laws.specs.Fits.{fitted_geometry}
 use Rattle.wkb_view.specs.Lawful.{IsGeometry-fitted, fitted_geometry-same}
 use Rattle.wkb_read.specs.Meanings.{geometry_seen, members_seen}
 

@@ -2,7 +2,7 @@
 -- coordinate fitted. Of a geometry that was read it is the geometry of its value, unchanged.
 use Rattle.std.specs.Prelude.{List, map}
 use Rattle.wkb_read.specs.Prelude.{Values, Geometry, geometry_of, list_of_values}
-use Rattle.wkb_view.specs.Fits.{fitted_geometry}
+use Rattle.wkb_laws.specs.Fits.{fitted_geometry}
 pub use Rattle.wkb_view.specs.Lends.{geometry_seen}
 
 -- what the members of a collection mean

@@ -16,7 +16,7 @@ use Rattle.wkb_laws.specs.Written.{written, written_header, each_spelling}
 use Rattle.wkb_laws.proofs.EncodingBytes.{as_written}
 use Rattle.wkb_view.specs.Prelude.{Spellings, spelled_in, spelling_at, members_spelled}
 use Rattle.wkb_geom.specs.Dimensions.{written_dimension}
-use Rattle.wkb_view.specs.Fits.{fitted_geometry}
+use Rattle.wkb_laws.specs.Fits.{fitted_geometry}
 use Rattle.wkb_view.specs.BytesAsWritten.{IsSpelledAsWritten}
 use Rattle.wkb_view.proofs.Members.{spelled_each}
 

@@ -11,7 +11,7 @@ use Rattle.std.specs.Prelude.{IsOk}
 use Rattle.std.specs.List.{AllByRecursion}
 use Rattle.wkb_view.specs.Prelude.{whole_of, laid}
 use Rattle.wkb_plain.proofs.Lookups.{IsAnswered, copied_is}
-use Rattle.wkb_view.specs.Fits.{fitted_polygons}
+use Rattle.wkb_laws.specs.Fits.{fitted_polygons}
 use Rattle.wkb_view.specs.Members.{AreMembersOfKind, pieces_behind, every, stride}
 use Rattle.wkb_view.proofs.Pieces.{parts_counted, pieces_past, piece_form, piece_seen, last_end}
 

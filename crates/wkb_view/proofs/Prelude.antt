@@ -16,7 +16,7 @@ pub use Rattle.wkb_laws.proofs.Spelled.{in_full_lem}
 pub use Rattle.wkb_laws.proofs.Values.{spelled_good, lawful-geometry_of}
 pub use Rattle.wkb_view.specs.Coords.{ring_seen}
 pub use Rattle.wkb_view.specs.Entries.{entries_asked, HasNoList, entries, capacity}
-pub use Rattle.wkb_view.specs.Fits.{fitted_line_strings, fitted_parts}
+pub use Rattle.wkb_laws.specs.Fits.{fitted_line_strings, fitted_parts}
 pub use Rattle.wkb_view.specs.Lawful.{AreBytes-take, AreBytes-drop, fitted_geometry-same, point_value}
 pub use Rattle.wkb_view.specs.Lawful.{member_dimension, ring_lawful}
 pub use Rattle.wkb_view.specs.Members.{polygon_laid, polygon_seen, IsEncoding, IsMemberOfKind, member_item}

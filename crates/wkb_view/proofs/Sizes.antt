@@ -8,7 +8,7 @@ use Rattle.wkb_laws.proofs.Heads.{has_srid_in}
 use Rattle.wkb_laws.proofs.Lengths.{srid_size_is}
 use Rattle.wkb_laws.proofs.Spelled.{size_of_spelled_lem}
 use Rattle.wkb_laws.proofs.Values.{Good}
-use Rattle.wkb_view.specs.Fits.{fitted_polygon}
+use Rattle.wkb_laws.specs.Fits.{fitted_polygon}
 use Rattle.wkb_view.specs.Lawful.{line_strings_fit}
 
 -- a polygon, by what its view means

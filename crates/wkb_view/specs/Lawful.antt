@@ -23,9 +23,9 @@ use Rattle.std.proofs.Math.ListN.{replicate}
 use Rattle.std.proofs.lemmas.Bool.{and_parts, eqb-true, eq-eqb, ltb-true, lt-ltb}
 use Rattle.wkb_geom.specs.declared.common.Dimensions.{Dimensions}
 use Rattle.wkb_view.specs.declared.point.Point.{Point}
-unfoldable use Rattle.wkb_view.specs.Fits.{fitted}
-use Rattle.wkb_view.specs.Fits.{fits, fitted_line_string, fitted_line_strings, fitted_polygons, fitted_point}
-use Rattle.wkb_view.specs.Fits.{fitted_geometry, fitted_geometries, IsFitted, Fits}
+unfoldable use Rattle.wkb_laws.specs.Fits.{fitted}
+use Rattle.wkb_laws.specs.Fits.{fits, fitted_line_string, fitted_line_strings, fitted_polygons, fitted_point}
+use Rattle.wkb_laws.specs.Fits.{fitted_geometry, fitted_geometries, IsFitted, Fits}
 use Rattle.wkb_view.specs.Views.{point_seen, point_dimension, coordinate_in}
 
 pub number-lt : (e : Endianness) (n : ℕ) (bytes : List ℕ) → AreBytes bytes → number e n bytes < 256 ^ n

@@ -5,7 +5,7 @@ use Rattle.wkb_geom.specs.Encodings.{IsWritable}
 use Rattle.wkb_geom.specs.Fronts.{Front}
 use Rattle.wkb_geom.specs.Geometries.{Geometry, geometry_of, IsGeometry, normal}
 use Rattle.wkb_geom.specs.Values.{Value}
-use Rattle.wkb_view.specs.Fits.{fitted_geometry}
+use Rattle.wkb_laws.specs.Fits.{fitted_geometry}
 use Rattle.wkb_view.specs.Prelude.{AreBytes, BytesSpell, Endianness, Item}
 
 -- the bytes of a slice

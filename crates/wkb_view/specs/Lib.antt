@@ -1,7 +1,6 @@
 pub mod Coords
 pub mod Ends
 pub mod Entries
-pub mod Fits
 pub mod Headers
 pub mod BytesAsWritten
 pub mod Members

@@ -219,7 +219,7 @@ impl<'a> MultiLineStringTrait for MultiLineString<'a> {
     ghost use Rattle.wkb_view.specs.Prelude.{as_dimensions, spelling_at};
     ghost use Rattle.wkb_view.specs.Views.{line_string_spelling, line_string_dimension};
     ghost use Rattle.wkb_view.specs.Views.{seen_coordinates};
-    ghost use Rattle.wkb_view.specs.Fits.{fitted_parts};
+    ghost use Rattle.wkb_laws.specs.Fits.{fitted_parts};
     ghost use Rattle.wkb_view.specs.Lawful.{line_strings_fit};
 
     type InnerLineStringType = LineString<'a>;
@@ -249,7 +249,7 @@ impl<'a> GeometryTrait for MultiLineString<'a> {
     ghost use Rattle.wkb_geom.specs.declared.geom.GeometryType.TheVariants.{MultiLineString as Handed};
     ghost use Rattle.wkb_geom.specs.Geometries.{multi_line_string};
     ghost use Rattle.wkb_view.specs.Prelude.{as_dimensions};
-    ghost use Rattle.wkb_view.specs.Fits.{fitted_parts};
+    ghost use Rattle.wkb_laws.specs.Fits.{fitted_parts};
     ghost use Rattle.wkb_view.specs.Lawful.{line_strings_fit};
 
     type PointType = Point<'a>;

@@ -223,7 +223,7 @@ impl<'a> MultiPolygonTrait for MultiPolygon<'a> {
     ghost use Rattle.std.specs.Prelude.{◌≡◌, option_map, IfSome};
     ghost use Rattle.wkb_geom.specs.Found.{IsItemAt};
     ghost use Rattle.wkb_view.specs.Prelude.{as_dimensions, spelling_at};
-    ghost use Rattle.wkb_view.specs.Fits.{fitted_parts, fitted_members};
+    ghost use Rattle.wkb_laws.specs.Fits.{fitted_parts, fitted_members};
     ghost use Rattle.wkb_view.specs.Lawful.{polygons_fit};
 
     type InnerPolygonType = Polygon<'a>;
@@ -253,7 +253,7 @@ impl<'a> GeometryTrait for MultiPolygon<'a> {
     ghost use Rattle.wkb_geom.specs.declared.geom.GeometryType.TheVariants.{MultiPolygon as Handed};
     ghost use Rattle.wkb_geom.specs.Geometries.{multi_polygon};
     ghost use Rattle.wkb_view.specs.Prelude.{as_dimensions};
-    ghost use Rattle.wkb_view.specs.Fits.{fitted_members};
+    ghost use Rattle.wkb_laws.specs.Fits.{fitted_members};
     ghost use Rattle.wkb_view.specs.Lawful.{polygons_fit};
 
     type PointType = Point<'a>;

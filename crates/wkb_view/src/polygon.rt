@@ -196,7 +196,7 @@ impl<'a> PolygonTrait for Polygon<'a> {
     ghost use Rattle.wkb_geom.specs.Found.{IsItemAt};
     ghost use Rattle.wkb_view.specs.Prelude.{as_dimensions, order_of};
     ghost use Rattle.wkb_view.specs.Coords.{ring_order, ring_dimension, ring_seen};
-    ghost use Rattle.wkb_view.specs.Fits.{fitted_parts, fitted_rings_size, fitted_polygon};
+    ghost use Rattle.wkb_laws.specs.Fits.{fitted_parts, fitted_rings_size, fitted_polygon};
     ghost use Rattle.wkb_view.specs.Lawful.{line_strings_fit};
 
     type RingType = LinearRing<'a>;
@@ -249,7 +249,7 @@ impl<'a> GeometryTrait for Polygon<'a> {
     ghost use Rattle.std.specs.Prelude.{◌≡◌, refl};
     ghost use Rattle.wkb_geom.specs.declared.geom.GeometryType.TheVariants.{Polygon as Handed};
     ghost use Rattle.wkb_view.specs.Prelude.{as_dimensions};
-    ghost use Rattle.wkb_view.specs.Fits.{fitted_polygon};
+    ghost use Rattle.wkb_laws.specs.Fits.{fitted_polygon};
     ghost use Rattle.wkb_view.specs.Lawful.{line_strings_fit};
 
     type PointType = Point<'a>;

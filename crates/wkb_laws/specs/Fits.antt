@@ -10,7 +10,9 @@ use Rattle.wkb_geom.specs.Geometries.{Geometry, point, line_string, polygon, mul
 use Rattle.wkb_geom.specs.Geometries.{multi_polygon, collection, line, rectangle, triangle, Geometries, no_geometries}
 use Rattle.wkb_geom.specs.Geometries.{geometry}
 use Rattle.wkb_geom.specs.Sizes.{rings_size}
-use Rattle.wkb_view.specs.Prelude.{Coordinate, size, as_dimensions, Listed}
+use Rattle.wkb_geom.specs.Dimensions.{size, as_dimensions}
+use Rattle.wkb_geom.specs.Values.{Coordinate}
+use Rattle.wkb_geom.specs.Stored.{Listed}
 
 -- whether there are as many words as the dimensions say, each in range
 abbrev pub fits : Dimensions → Coordinate → Bool
