@@ -21,3 +21,5 @@ pub mod EncodingBytes
 pub mod Counts
 pub mod Sums
 pub mod Doubles
+pub mod Fitted
+pub mod ReadIsLawful
