@@ -1,45 +1,19 @@
 -- What the lemmas for users speak of, besides the words of contracts. The module of the lemmas passes each on.
-use Rattle.std.specs.Prelude.{◌≡◌, ℕ, ◌≤◌, List, [], ◌∷◌, ◌++◌, drop, false, Some, slice_get, from_bits}
-use Rattle.std.specs.Float.{binary64, ◌≤ᶠ◌}
+use Rattle.std.specs.Prelude.{◌≡◌, ℕ, ◌≤◌, List, [], ◌∷◌, ◌++◌, drop, Some, slice_get}
 use Rattle.wkb_geom.specs.declared.geom.GeometryType.{GeometryType}
 use Rattle.wkb_geom.specs.declared.geom.GeometryType.TheVariants.{Point, LineString, Polygon, MultiPoint}
 use Rattle.wkb_geom.specs.declared.geom.GeometryType.TheVariants.{MultiLineString, MultiPolygon, GeometryCollection}
 use Rattle.wkb_view.specs.declared.point.Point as points
 use Rattle.wkb_view.specs.declared.line_string.LineString as lines
 use Rattle.wkb_view.specs.declared.multi_point.MultiPoint as multi_points
-use Rattle.wkb.specs.Prelude.{Dimension, Endianness, Ewkb, is_nan}
+use Rattle.wkb.specs.Prelude.{Endianness, Ewkb}
 use Rattle.wkb.specs.Values.{Coordinate, nest}
 use Rattle.wkb.specs.Spellings.{Spelling, SpellsCoordinates, Front, max_nesting, HasOptions, header}
 use Rattle.wkb.specs.Geometries.{Geometry, normal}
-use Rattle.wkb.specs.Checks.{Axis, Range, range_of, rank, widened, words_in}
 use Rattle.wkb.specs.Writes.{WriteOptions}
 use Rattle.wkb.specs.Reads.{Listed, Item, order_of, LinearRing, ring_seen, ring_encoding, IsFront}
 use Rattle.wkb.specs.Reads.{IsOnlyFront}
 use Rattle.wkb.specs.Laws.{StandsAt, ring_start}
-
--- In the order of numbers the word is between the least and the greatest of the range.
-pub record IsWithin (r : Range) (w : ℕ) : Type 0 where
-  pub least : rank r.least ≤ rank w
-  pub greatest : rank w ≤ rank r.greatest
-
--- Whatever range is widened by these words, the word is within it.
-abbrev pub BringsWithin : List ℕ → ℕ → Type 0
-BringsWithin ws w = (r : Range) → IsWithin (widened r ws) w
-
--- The coordinates before an index have widened the range: widened by those from it on, it is the range of all.
-pub record WidenedBefore (a : Axis) (d : Dimension) (r : Range) (cs : List Coordinate) (i : ℕ) : Type 0 where
-  pub left : widened r (words_in a d (drop i cs)) ≡ range_of (words_in a d cs)
-  pub few : r.count ≤ i
-
--- The least and the greatest of a range are numbers.
-pub record HasNumbers (r : Range) : Type 0 where
-  pub least : is_nan r.least ≡ false
-  pub greatest : is_nan r.greatest ≡ false
-
--- A number is no less than the first of two, and no greater than the second.
-pub record IsBetween (low high w : ℕ) : Type 0 where
-  pub least : from_bits binary64 low ≤ᶠ from_bits binary64 w
-  pub greatest : from_bits binary64 w ≤ᶠ from_bits binary64 high
 
 -- A ring of a polygon, by what its view lends: the ring's bytes spell its coordinates in the polygon's order and
 -- dimension, and are the polygon's at the ring's place.

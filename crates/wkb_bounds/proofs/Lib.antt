@@ -3,3 +3,4 @@ pub mod Runs
 pub mod Widening
 pub mod Words
 pub mod Scanning
+pub mod Within

@@ -115,11 +115,6 @@ words_few : (p : Option ℕ) (cs : List Coordinate) → length (words_of_each (w
 words_few p [] = omega arith
 words_few p (c ∷ cs) = grind (arith, length-append, one_word, words_few p cs)
 
--- coordinates are of the size that their dimension has
-rows_are : (order : Endianness) (d : Dimension) (size n : ℕ) (bytes : List ℕ) → size ≡ 8 * width d
-    → rows order size n bytes ≡ coordinates order d n bytes
-rows_are order d size n bytes is = grind arith
-
 pub run_widens : {order : Endianness} (d : Dimension) {size n : ℕ} {bytes : List ℕ} {r : Run} (old new : Bounds)
     → IsRun order size n bytes r → size ≡ 8 * width d → Widens old new (λ a. words_in a d (run_coordinates r))
     → Widens old new (λ a. words_in a d (coordinates order d n bytes))

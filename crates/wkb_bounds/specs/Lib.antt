@@ -3,3 +3,4 @@ pub mod Extremes
 pub mod Ordinates
 pub mod Bounded
 pub mod Runs
+pub mod Within

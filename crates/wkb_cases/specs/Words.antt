@@ -167,7 +167,7 @@ pub use Rattle.wkb.specs.OwnBytes.{own_options, never_refused, memory_alone, one
 pub use Rattle.wkb.specs.OwnBytes.{one_item, one_listed, no_longer, no_refusal, not_refused, not_refused_under}
 pub use Rattle.wkb.specs.OwnBytes.{always_compared, own_encoding, own_encoding_with_srid, values_compared}
 pub use Rattle.wkb.specs.Ranges.{IsWithin, BringsWithin, WidenedBefore, stays_within, within_range_of, number_within}
-pub use Rattle.wkb.specs.Ranges.{item_within, ordinate_within, member_within, drop_at, widening_starts, widens_next}
-pub use Rattle.wkb.specs.Ranges.{widens_x, widens_y, widening_ends, same_bounds}
+pub use Rattle.wkb.specs.Ranges.{item_within, ordinate_within, drop_at, widening_starts, widens_next, widening_ends}
+pub use Rattle.wkb.specs.Ranges.{same_bounds, member_within, widens_x, widens_y}
 pub use Rattle.wkb.specs.ReadBack.{IsReadBefore, encoding_is_read, value_is_read, empty_point_read, point_read}
 pub use Rattle.wkb.specs.Same.{same_reflexive, same_symmetric, same_transitive, same_as_rewriting, bounds_of_same}
