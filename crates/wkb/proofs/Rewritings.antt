@@ -1,6 +1,6 @@
 -- What the check finds in an input is what is rewritten and compared; what it rejects is what the reader rejects.
 use Rattle.std.proofs.Common.{◌≡◌, ℕ, ◌+◌, ◌≤◌, List, ◌++◌, length, length-append, length-drop, Bool, true, false}
-use Rattle.std.proofs.Common.{refl, sym, ap, ◌∙◌, is_some, take, drop, ◌↔◌, IsTrue, MatchBool, subst, arith}
+use Rattle.std.proofs.Common.{refl, sym, ap, ◌∙◌, take, drop, ◌↔◌, IsTrue, MatchBool, subst, arith}
 use Rattle.std.proofs.Common.{append-nil}
 use Rattle.std.proofs.Math.Seq.{take-append_seam}
 use Rattle.std.proofs.lemmas.List.{drop_all}
@@ -8,21 +8,16 @@ use Rattle.std.proofs.lemmas.List.Edits.{sets, sets-eq}
 use Rattle.wkb_geom.specs.declared.common.Endianness.{Endianness}
 use Rattle.wkb_geom.specs.declared.common.Form.{Form}
 use Rattle.wkb_geom.specs.declared.common.Form.TheVariants.{Ewkb}
-use Rattle.wkb_geom.specs.declared.error.WkbError.{WkbError}
-use Rattle.wkb_geom.specs.Encodings.{encoding, form_srid, IsRewriting, IsRewritingWithSrid}
-use Rattle.wkb_geom.specs.Errors.{Tells}
+use Rattle.wkb_geom.specs.Encodings.{encoding, IsRewriting, IsRewritingWithSrid}
 use Rattle.wkb_geom.specs.Fronts.{Front}
 use Rattle.wkb_geom.specs.Geometries.{geometry_of}
 use Rattle.wkb_geom.specs.Numbers.{AreBytes}
-use Rattle.wkb_geom.specs.Refusals.{srid_size}
 use Rattle.wkb_check.specs.Known.{HasGeometry}
-use Rattle.wkb_check.specs.Public.{DescribesFront, DescribesOnlyFront, IsRefusedFor}
-use Rattle.wkb_check.specs.declared.answer.Refused.{Refused}
+use Rattle.wkb_check.specs.Public.{DescribesFront, DescribesOnlyFront}
 use Rattle.wkb_check.specs.declared.answer.Summary.{Summary}
-use Rattle.wkb_read.specs.Reads.{IsRefusal}
 use Rattle.wkb_check.proofs.Ahead.{here}
 use Rattle.wkb_rewrite.proofs.Measured.{long_of, measured}
-use Rattle.wkb.specs.Canonical.{IsAccepted, HaveOneValue, HaveTwoValues}
+use Rattle.wkb.specs.Canonical.{HaveOneValue, HaveTwoValues}
 
 -- what was laid at the start of a list is followed by what was there
 laid_over : (x old new items : List ℕ) (len : ℕ) → length old ≡ len → length x ≤ len → new ≡ sets old 0 x
@@ -50,15 +45,12 @@ cut x old new items len n long fits is laid =
     ap (take n) (laid_over x old new items len long fits laid) ∙ ap (λ k. take k (x ++ drop (length x) old)) is
     ∙ take-append_seam x (drop (length x) old)
 
-most_srid : (some : Bool) → srid_size some ≤ 4
-most_srid some = grind arith
-
 -- an encoding is at most an SRID longer than the geometry that the check found
 pub longest : {buf : List ℕ} {found : Summary} (order : Endianness) (form : Form) → DescribesFront buf found
     → AreBytes buf → (g : HasGeometry buf)
     → length (encoding order form (geometry_of g.value)) ≤ found.bytes + 4
 longest {buf = buf} order form d are g =
-    omega (arith, measured order form buf g are (long_of d g), most_srid (is_some (form_srid form)))
+    grind (arith, measured order form buf g are (long_of d g))
 
 -- what was made of it is its rewriting
 pub made : {buf : List ℕ} {found : Summary} {order : Endianness} {form : Form} {out : List ℕ}
@@ -78,19 +70,7 @@ made_with_srid {order = order} only is = record {
       is.written ∙ ap (λ z. encoding order (Ewkb z) (geometry_of is.t)) (only is.s is.t is.rest is.front).srid;
 }
 
--- ---- what is rejected
-
--- the error of a refusal is the reader's
-pub refusal : {buf : List ℕ} {e : WkbError} (refused : Refused) → IsRefusedFor buf refused → Tells e refused.cause
-    → IsRefusal buf e
-refusal refused r tells =
-    record { cause = refused.cause; turns = refused.part; slots = r.slots; refuses = r.refuses; tells = tells }
-
 -- ---- comparisons
-
--- an input with a summary is accepted
-pub accepted : {buf : List ℕ} {found : Summary} → DescribesFront buf found → IsAccepted buf
-accepted d = record { s = d.spelled; t = d.value; rest = d.rest; front = d.front }
 
 -- two inputs are compared by the values at their starts
 pub compared : {a b : List ℕ} {f g : Summary} (equal : Bool) → DescribesFront a f → DescribesFront b g

@@ -29,12 +29,7 @@ use Rattle.wkb_laws.proofs.Parts.{begins_number}
 -- A refusal as one fact: an error of the reader is an allocation failure, or this holds of it.
 pub memory_or : (P : WkbError → Type 0) (e : WkbError) → IfRefused (Err e) P → IsMemory e ⊎ P e
 memory_or P (errors.Memory x) h = inl tt
-memory_or P (errors.IncorrectType x) h = inr h
-memory_or P (errors.NotYetImplemented x) h = inr h
-memory_or P (errors.General x) h = inr h
-memory_or P (errors.NestingDepthExceeded x) h = inr h
-memory_or P (errors.OverflowError x) h = inr h
-memory_or P (errors.IOError x) h = inr h
+memory_or P _ h = inr h
 
 -- What `check` and `bounds` say of a refusal is what the reader says, by an error that tells its cause.
 pub refused_for : {buf : List ℕ} (r : Refused) (e : WkbError) → IsRefusedFor buf r → Tells e r.cause → IsRefusal buf e
@@ -44,14 +39,9 @@ refused_for r e h tells =
 one_of_each : {A : Type 0} (f : A → Value) (ss : Spellings) (l : List A) (k : ℕ) (s : Spelling) (a : A)
     → Some s ≡ slice_get (list_of_spellings ss) k
     → Some a ≡ slice_get l k → IsOneOf k ss (each f l) s (f a)
-one_of_each f no_spellings l zero s a is of = absurd (cc)
-one_of_each f no_spellings l (suc k) s a is of = absurd (cc)
-one_of_each f (spelling u ss) [] zero s a is of = absurd (cc)
-one_of_each f (spelling u ss) [] (suc k) s a is of = absurd (cc)
-one_of_each f (spelling u ss) (b ∷ l) zero s a is of =
-    let same : s ≡ u = cc in
-    let value : a ≡ b = cc in
-    (same, ap f value)
+one_of_each f no_spellings l k s a is of = absurd cc
+one_of_each f (spelling u ss) [] k s a is of = absurd cc
+one_of_each f (spelling u ss) (b ∷ l) zero s a is of = let value : a ≡ b = cc in (cc, ap f value)
 one_of_each f (spelling u ss) (b ∷ l) (suc k) s a is of = one_of_each f ss l k s a is of
 
 -- The part that a call of a multi geometry returns for an index is the member of this number.
@@ -63,10 +53,8 @@ part_is_member f (node g ws ss) v l k s a same is of =
 
 one_of : (ms : List Item) (k : ℕ) (m : Item) → slice_get ms k ≡ Some m
     → IsOneOf k (spellings ms) (values ms) m.spelled m.value
-one_of [] k m is = absurd (cc)
-one_of (x ∷ ms) zero m is =
-    let same : x ≡ m = cc in
-    (ap (λ (i : Item). i.spelled) (sym same), ap (λ (i : Item). i.value) (sym same))
+one_of [] k m is = absurd cc
+one_of (x ∷ ms) zero m is = let same : m ≡ x = cc in rw same (refl, refl)
 one_of (x ∷ ms) (suc k) m is = one_of ms k m is
 
 unlisted : (u : Spelling) (d : Dimension) (vs : Values) (k : ℕ) (s : Spelling) (t : Value)

@@ -3,7 +3,6 @@ use Rattle.std.proofs.Common.{◌≡◌, List, refl, sym, ap, ◌∙◌, arith}
 use Rattle.std.specs.Borrow.{Bor}
 use Rattle.wkb_geom.specs.declared.geom.GeometryType.TheVariants.{Point, LineString, Polygon, MultiPoint}
 use Rattle.wkb_geom.specs.declared.geom.GeometryType.TheVariants.{MultiLineString, MultiPolygon, GeometryCollection}
-use Rattle.wkb_geom.specs.declared.geom.GeometryType.TheVariants.{Rect, Triangle, Line}
 use Rattle.wkb_view.specs.declared.point.Point as points
 use Rattle.wkb_view.specs.declared.line_string.LineString as lines
 use Rattle.wkb_view.specs.declared.multi_point.MultiPoint as multi_points
@@ -14,15 +13,13 @@ pub use Rattle.wkb.specs.Terms.{Handed, handed_kind}
 -- The kind that was handed out is that of the geometry's value.
 pub kind_handed : {R T N : Type 0} (w : Item) (r : Handed R T N) → IsViewOf w r → kind w.value ≡ handed_kind r
 kind_handed w (Point p) view = sym (ap (λ (v : Item). kind v.value) view) ∙ ap kind (point_value p.now)
-kind_handed w (LineString l) view = sym (ap (λ (v : Item). kind v.value) view)
-kind_handed w (Polygon p) view = sym (ap (λ (v : Item). kind v.value) view)
-kind_handed w (MultiPoint m) view = sym (ap (λ (v : Item). kind v.value) view)
-kind_handed w (MultiLineString m) view = sym (ap (λ (v : Item). kind v.value) view)
-kind_handed w (MultiPolygon m) view = sym (ap (λ (v : Item). kind v.value) view)
-kind_handed w (GeometryCollection gs) view = sym (ap (λ (v : Item). kind v.value) view.is)
-kind_handed w (Rect r) view = absurd view
-kind_handed w (Triangle t) view = absurd view
-kind_handed w (Line l) view = absurd view
+kind_handed w (LineString l) view = rw (← view) refl
+kind_handed w (Polygon p) view = rw (← view) refl
+kind_handed w (MultiPoint m) view = rw (← view) refl
+kind_handed w (MultiLineString m) view = rw (← view) refl
+kind_handed w (MultiPolygon m) view = rw (← view) refl
+kind_handed w (GeometryCollection gs) view = rw (← view.is) refl
+kind_handed w _ view = absurd view
 
 -- Where `as_type` handed out no point, the value is no point's.
 pub not_point : {R T N : Type 0} (w : Item) (r : Handed R T N) → IsViewOf w r

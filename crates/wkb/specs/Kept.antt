@@ -1,5 +1,5 @@
 -- Lemmas: the turns of a loop that keeps some items of a list, told by a relation.
-use Rattle.std.proofs.Common.{ℕ, ◌+◌, ◌<◌, ◌≤◌, List, [], ◌∷◌, ◌++◌, drop, length, sym, subst, append_assoc, append-nil}
+use Rattle.std.proofs.Common.{ℕ, ◌+◌, ◌<◌, ◌≤◌, List, [], ◌∷◌, ◌++◌, drop, length, subst, append_assoc, append-nil}
 use Rattle.std.specs.Prelude.{slice_index_or}
 use Rattle.std.proofs.lemmas.List.{drop_all, drop_more}
 pub use Rattle.wkb.specs.Terms.{Keeps, none, kept, left, KeepsBefore}
@@ -15,9 +15,8 @@ keeps_one P Q xs ks i x so_far inside is =
     let y = slice_index_or xs i x in
     record {
       before = λ more h.
-          subst (Keeps P Q xs) (sym (append_assoc ks (y ∷ []) more))
-          (so_far.before (y ∷ more)
-          (subst (λ l. Keeps P Q l (y ∷ more)) (sym (drop_more xs i x inside)) (kept y (drop (i + 1) xs) more is h)));
+          rw (append_assoc ks (slice_index_or xs i x ∷ []) more)
+          (so_far.before (y ∷ more) (rw (drop_more xs i x inside) (kept y (drop (i + 1) xs) more is h)));
     }
 
 -- A loop leaves the item at an index out, of which Q holds.
@@ -26,16 +25,13 @@ pub leaves_one : {A : Type 0} (P Q : A → Type 0) (xs ks : List A) (i : ℕ) (x
 leaves_one P Q xs ks i x so_far inside is =
     record {
       before = λ more h.
-          so_far.before more
-          (subst (λ l. Keeps P Q l more) (sym (drop_more xs i x inside))
-          (left (slice_index_or xs i x) (drop (i + 1) xs) more is h));
+          so_far.before more (rw (drop_more xs i x inside) (left (slice_index_or xs i x) (drop (i + 1) xs) more is h));
     }
 
 -- Behind the last item all were looked at.
 pub keeping_ends : {A : Type 0} (P Q : A → Type 0) (xs ks : List A) (i : ℕ) → KeepsBefore P Q xs ks i → length xs ≤ i
     → Keeps P Q xs ks
 keeping_ends P Q xs ks i so_far all =
-    subst (Keeps P Q xs) (append-nil ks)
-    (so_far.before [] (subst (λ l. Keeps P Q l []) (sym (drop_all i xs all)) none))
+    subst (Keeps P Q xs) (append-nil ks) (so_far.before [] (rw (drop_all i xs all) none))
 
 pub ruleset keeping_laws = (keeping_starts, keeps_one, leaves_one, keeping_ends)

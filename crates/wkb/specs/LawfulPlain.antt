@@ -28,17 +28,9 @@ meant_layer x =
 
 layer-dimensions_of : (x : Geometry-F PlainGeometry PlainCollection)
     → dimensions_of (meant_layer x) ≡ layer_dimensions x
-layer-dimensions_of (Point p) = refl
-layer-dimensions_of (LineString l) = refl
-layer-dimensions_of (Polygon p) = refl
-layer-dimensions_of (MultiPoint m) = refl
-layer-dimensions_of (MultiLineString m) = refl
-layer-dimensions_of (MultiPolygon m) = refl
 layer-dimensions_of (GeometryCollection c) =
     ap dimensions_of (fold_out-GeometryCollection Geometry Geometry geometry_layer collection_layer c)
-layer-dimensions_of (Rect r) = refl
-layer-dimensions_of (Triangle t) = refl
-layer-dimensions_of (Line l) = refl
+layer-dimensions_of _ = refl
 
 -- a plain geometry means one of the dimensions that it shows
 pub dimensions_of-plain_geometry : (g : PlainGeometry) → dimensions_of (plain_geometry g) ≡ plain_dimensions g

@@ -3,8 +3,9 @@ use Rattle.std.proofs.Common.{◌≡◌, ℕ, suc, ◌+◌, ◌*◌, List, ◌++
 use Rattle.std.proofs.Common.{slice_get, drop-drop, append_assoc, length-append, arith}
 use Rattle.std.proofs.Math.Seq.{take-append_seam, drop-append_seam}
 use Rattle.wkb.specs.Prelude.{width, AreBytes, number, Endianness, Dimension}
-use Rattle.wkb.specs.Values.{Coordinate, point, line_string, polygon, multi_line_string, multi_polygon}
-use Rattle.wkb.specs.Spellings.{SpellsCoordinates}
+use Rattle.wkb.specs.Values.{Coordinate, Value, point, line_string, polygon, multi_line_string, multi_polygon, members}
+use Rattle.wkb.specs.Values.{each}
+use Rattle.wkb.specs.Spellings.{Spelling, SpellsCoordinates}
 use Rattle.wkb.specs.Reads.{Listed, Item, whole_of, spelling_at, order_of, Point, LineString, MultiPoint, LinearRing}
 use Rattle.wkb.specs.Reads.{point_seen, point_dimension, seen_coordinate, point_value, multi_point_seen}
 use Rattle.wkb.specs.Reads.{multi_point_dimension, seen_points, line_string_seen, line_string_dimension}
@@ -14,6 +15,13 @@ use Rattle.wkb.specs.Known.{spelled_in_full, members_in_place, rings_in_place, w
 use Rattle.wkb.specs.Bridges.{part_is_member, stands_within, begins_there}
 pub use Rattle.wkb.specs.Terms.{IsRingAt}
 
+-- A part of the dimension of the whole is its member of this number.
+part_of_dimension : {A : Type 0} (f : Dimension → A → Value) (u : Spelling) (v : Value) (l : List A) (k : ℕ)
+    {d e : Dimension} (s : Spelling) (a : A) → e ≡ d → members v ≡ each (f d) l → Some s ≡ spelling_at u k
+    → Some a ≡ slice_get l k → IsMember k u v s (f e a)
+part_of_dimension f u v l k {d = d} s a same are spelled of =
+    subst (λ c. IsMember k u v s (f c a)) (sym same) (part_is_member (f d) u v l k s a are spelled of)
+
 -- The point of a multi point at an index is its member of this number.
 pub point_is_member : (m : MultiPoint) (k : ℕ) (p : Point) → point_dimension p ≡ multi_point_dimension m
     → Some (point_seen p).spelled ≡ spelling_at (multi_point_seen m).spelled k
@@ -21,9 +29,9 @@ pub point_is_member : (m : MultiPoint) (k : ℕ) (p : Point) → point_dimension
     → IsMember k (multi_point_seen m).spelled (multi_point_seen m).value (point_seen p).spelled (point_seen p).value
 point_is_member m k p same spelled of =
     subst (IsMember k (multi_point_seen m).spelled (multi_point_seen m).value (point_seen p).spelled)
-    (sym (point_value p ∙ ap (λ d. point d (seen_coordinate p)) same))
-    (part_is_member (point (multi_point_dimension m)) (multi_point_seen m).spelled (multi_point_seen m).value
-    (seen_points m) k (point_seen p).spelled (seen_coordinate p) refl spelled of)
+    (sym (point_value p))
+    (part_of_dimension point (multi_point_seen m).spelled (multi_point_seen m).value (seen_points m) k
+    (point_seen p).spelled (seen_coordinate p) same refl spelled of)
 
 -- The line string of a multi line string at an index is its member of this number.
 pub line_string_is_member : (m : Listed (List (List Coordinate))) (k : ℕ) (l : LineString)
@@ -32,21 +40,14 @@ pub line_string_is_member : (m : Listed (List (List Coordinate))) (k : ℕ) (l :
     → IsMember k m.spelled (multi_line_string m.dimension m.parts) (line_string_seen l).spelled
     (line_string_seen l).value
 line_string_is_member m k l same spelled of =
-    subst (λ d. IsMember k m.spelled (multi_line_string m.dimension m.parts) (line_string_seen l).spelled
-    (line_string d (seen_coordinates l)))
-    (sym same)
-    (part_is_member (line_string m.dimension) m.spelled (multi_line_string m.dimension m.parts) m.parts k
-    (line_string_seen l).spelled (seen_coordinates l) refl spelled of)
+    part_of_dimension line_string _ _ m.parts k _ (seen_coordinates l) same refl spelled of
 
 -- The polygon of a multi polygon at an index is its member of this number.
 pub polygon_is_member : (m : Listed (List (List (List Coordinate)))) (k : ℕ) (p : Listed (List (List Coordinate)))
     → p.dimension ≡ m.dimension → Some p.spelled ≡ spelling_at m.spelled k → Some p.parts ≡ slice_get m.parts k
     → IsMember k m.spelled (multi_polygon m.dimension m.parts) p.spelled (polygon p.dimension p.parts)
 polygon_is_member m k p same spelled of =
-    subst (λ d. IsMember k m.spelled (multi_polygon m.dimension m.parts) p.spelled (polygon d p.parts))
-    (sym same)
-    (part_is_member (polygon m.dimension) m.spelled
-    (multi_polygon m.dimension m.parts) m.parts k p.spelled p.parts refl spelled of)
+    part_of_dimension polygon _ _ m.parts k _ p.parts same refl spelled of
 
 -- The bytes of a member are those of the whole at the member's place.
 pub member_stands : (whole : Item) (k : ℕ) (part : Item) {outer inner : List ℕ}

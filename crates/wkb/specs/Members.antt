@@ -6,9 +6,9 @@ use Rattle.std.specs.Prelude.{slice_index_or}
 use Rattle.std.proofs.lemmas.Bool.{ltb-true, ltb-false}
 use Rattle.std.proofs.lemmas.Option.{slice_get-get_or, slice_get_past}
 use Rattle.wkb.specs.Prelude.{Dimension}
-use Rattle.wkb.specs.Values.{Value, Values, collection, members, no_members, member, member_count}
+use Rattle.wkb.specs.Values.{Value, Values, collection, members, member, member_count}
 use Rattle.wkb.specs.Values.{member_count_each}
-use Rattle.wkb.specs.Spellings.{Spelling, node, Spellings, no_spellings, spelling}
+use Rattle.wkb.specs.Spellings.{Spelling, node, Spellings, spelling}
 use Rattle.wkb.specs.Geometries.{AreGeometries, geometries}
 use Rattle.wkb.specs.Reads.{Item, spellings, values, IsCollectionOf, members_spelled, geometry_seen, geometry_lawful}
 use Rattle.wkb.specs.Laws.{IsOneOf, IsMember}
@@ -38,21 +38,16 @@ among_members (node g ws ss) d vs k s t h = h
 pub no_member : (w : Item) (ms : List Item) (k : ℕ) (s : Spelling) (t : Value) → IsCollectionOf w ms
     → slice_get ms k ≡ None → IsMember k w.spelled w.value s t → ⊥
 no_member w ms k s t c none h =
-    let inside =
-    among_members c.whole.spelled c.whole.dimension c.whole.parts k s t
-    (subst (λ (v : Item). IsMember k v.spelled v.value s t) (sym c.is) h) in
     no_member_listed ms k s t none
-    (subst (λ vs. IsOneOf k (spellings ms) vs s t) (sym c.all.value)
-    (subst (λ ss. IsOneOf k ss c.whole.parts s t) (sym c.all.spelled) inside))
+    (rw (c.all.spelled, c.all.value) (among_members c.whole.spelled c.whole.dimension c.whole.parts k s t
+    (subst (λ (v : Item). IsMember k v.spelled v.value s t) (sym c.is) h)))
 
 one_of_number : (k : ℕ) (ss : Spellings) (vs : Values) (s u : Spelling) (t v : Value) → IsOneOf k ss vs s t
     → IsOneOf k ss vs u v → t ≡ v
 one_of_number zero (spelling a ss) (member b vs) s u t v h g = h.1 ∙ sym g.1
 one_of_number (suc k) (spelling a ss) (member b vs) s u t v h g = one_of_number k ss vs s u t v h g
-one_of_number zero no_spellings vs s u t v h g = absurd h
-one_of_number (suc k) no_spellings vs s u t v h g = absurd h
-one_of_number zero (spelling a ss) no_members s u t v h g = absurd h
-one_of_number (suc k) (spelling a ss) no_members s u t v h g = absurd h
+one_of_number zero _ _ s u t v h g = absurd h
+one_of_number (suc k) _ _ s u t v h g = absurd h
 
 value_by_node : (y : Spelling) (z : Value) (k : ℕ) (s u : Spelling) (t v : Value) → IsMember k y z s t
     → IsMember k y z u v → t ≡ v

@@ -1,5 +1,5 @@
 -- Lemmas: what the reader's clauses say of the geometry at an offset in a blob, and of its words.
-use Rattle.std.proofs.Common.{◌≡◌, ℕ, List, drop, ◌⊎◌, inl, inr, Some, None, Err, ap, subst, ◌∙◌}
+use Rattle.std.proofs.Common.{◌≡◌, ℕ, List, drop, ◌⊎◌, inl, inr, Some, None, Err, subst}
 use Rattle.std.proofs.Common.{slice_get}
 use Rattle.wkb.specs.Prelude.{WkbError, IsMemory}
 use Rattle.wkb.specs.Values.{Coordinate}
@@ -28,13 +28,11 @@ none_begins_at blob offset behind e same h follows =
 pub no_word : (cs : List Coordinate) (c : Coordinate) (i n x : ℕ) → Some c ≡ slice_get cs i → None ≡ slice_get c n
     → IsWordOf cs i n x → ⊥
 no_word cs c i n x here none of =
-    let some : Some c ≡ Some of.coordinate = here ∙ of.coordinate_is in
-    let same : c ≡ of.coordinate = cc in
-    let word : None ≡ Some x = none ∙ ap (λ (l : List ℕ). slice_get l n) same ∙ of.word_is in
-    absurd (cc)
+    let some = of.coordinate_is in
+    let word = of.word_is in
+    absurd cc
 
 -- Where there is no such coordinate there is no word of it.
 pub no_word_there : (cs : List Coordinate) (i n x : ℕ) → None ≡ slice_get cs i → IsWordOf cs i n x → ⊥
 no_word_there cs i n x none of =
-    let word : None ≡ Some of.coordinate = none ∙ of.coordinate_is in
-    absurd (cc)
+    let some = of.coordinate_is in absurd cc

@@ -100,12 +100,7 @@ not_refused_under options (Err e) f (inr (inr long)) = inr long.1
 
 no_memory_reported : (e : WkbError) → IsMemory e → IsNotMemory e → ⊥
 no_memory_reported (errors.Memory x) is not = not
-no_memory_reported (errors.IncorrectType x) is not = is
-no_memory_reported (errors.NotYetImplemented x) is not = is
-no_memory_reported (errors.General x) is not = is
-no_memory_reported (errors.NestingDepthExceeded x) is not = is
-no_memory_reported (errors.OverflowError x) is not = is
-no_memory_reported (errors.IOError x) is not = is
+no_memory_reported _ is not = is
 
 -- `same` of two geometries' bytes reports no error.
 pub always_compared : {A : Type 0} {a b : List ℕ} {w v : Item} (r : Result A WkbError) → IsFront a w
