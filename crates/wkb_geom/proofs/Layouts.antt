@@ -1,11 +1,11 @@
 -- The layout of a member that is known to stand at the start of the bytes, by its first byte and the flag of its code.
 use Rattle.std.proofs.Common.{◌≡◌, ℕ, ◌≤◌, List, length, drop, Option, Some, None, Bool, true, false}
 use Rattle.std.proofs.Common.{sym, ap, ◌∙◌, arith, length-drop, Result, Ok, Err}
-use Rattle.std.specs.Prelude.{IsOk, nat_lt, ◌==◌, ◌&&◌, if◌then◌else◌, slice_index_or, not}
+use Rattle.std.specs.Prelude.{IsOk, nat_lt, ◌==◌, if◌then◌else◌, slice_index_or, not}
 use Rattle.std.proofs.lemmas.Bool.{ltb-false}
 use Rattle.wkb_geom.specs.declared.common.Dimension.{Dimension}
 use Rattle.wkb_geom.specs.declared.common.Endianness.{Endianness}
-use Rattle.wkb_geom.specs.declared.error.Cause.TheVariants.{EndOfInput as end_of_input, IncorrectType as incorrect_type}
+use Rattle.wkb_geom.specs.declared.error.Cause.TheVariants.{EndOfInput as end_of_input}
 use Rattle.wkb_geom.specs.declared.header.Head.{Head}
 use Rattle.wkb_geom.specs.declared.header.Layout.{Layout}
 use Rattle.wkb_geom.specs.declared.error.Cause.{Cause}
@@ -25,15 +25,6 @@ pub record Known (k : ℕ) (d : Dimension) (first : Option Endianness) (behind :
   pub order_is : first ≡ Some order
   pub whole : 4 ≤ length behind
   pub layout_is : layout ≡ Ok (layout_by k d order (number order 4 behind))
-
--- the layout of a member, by the tests of its kind and its dimension, by whether a point is wanted, and by its flag
-abbrev laid_if : Endianness → Dimension → Bool → Bool → Bool → Bool → Result Layout Cause
-laid_if order d a b one srid =
-    if (a && (b && (if one && srid then false else true))) then Ok (laid order d srid) else Err incorrect_type
-
-wanted_by : (order : Endianness) (d : Dimension) (a b one srid : Bool) → IsOk (laid_if order d a b one srid)
-    → laid_if order d a b one srid ≡ Ok (laid order d (if one then false else srid))
-wanted_by order d a b one srid h = grind arith
 
 wanted : (k : ℕ) (d : Dimension) (h : Head) → IsOk (layout_wanted k d (Ok h))
     → layout_wanted k d (Ok h) ≡ Ok (laid h.order d (if k == 1 then false else h.has_srid))
