@@ -5,6 +5,7 @@
 #![tactic(auto)]
 
 mod answer;
+mod begun;
 mod head;
 mod nested;
 mod pieces;
@@ -12,5 +13,6 @@ mod skip;
 mod walk;
 
 pub use answer::{Refused, Summary, check, check_headed, check_member, check_plain};
+pub use begun::NextPiece;
 pub use head::size_of_srid;
 pub use pieces::{Piece, Pieces, RING};
