@@ -1,4 +1,6 @@
-"""Arrow's capsule protocol, as packages that hand out arrays have it."""
+"""Arrow's capsule protocol, as packages that hand out arrays have it. Each buffer ends where a page begins that can't
+be read."""
+import collections
 import ctypes
 import itertools
 import mmap
@@ -27,14 +29,12 @@ class ArrayStream(ctypes.Structure):
 RELEASE = ctypes.CFUNCTYPE(None, ctypes.c_void_p)
 FILL = ctypes.CFUNCTYPE(ctypes.c_int, ctypes.c_void_p, ctypes.c_void_p)
 TEXT = ctypes.CFUNCTYPE(ctypes.c_void_p, ctypes.c_void_p)
-DESTRUCTOR = ctypes.PYFUNCTYPE(None, ctypes.c_void_p)
 NAMED = ctypes.c_void_p, ctypes.c_char_p  # a capsule or what it holds, and its name
 new_capsule = ctypes.PYFUNCTYPE(ctypes.py_object, *NAMED, ctypes.c_void_p)(("PyCapsule_New", ctypes.pythonapi))
 address_of = ctypes.PYFUNCTYPE(ctypes.c_void_p, *NAMED)(("PyCapsule_GetPointer", ctypes.pythonapi))
-is_valid = ctypes.PYFUNCTYPE(ctypes.c_int, *NAMED)(("PyCapsule_IsValid", ctypes.pythonapi))
 rename = ctypes.PYFUNCTYPE(ctypes.c_int, ctypes.py_object, ctypes.c_char_p)(("PyCapsule_SetName", ctypes.pythonapi))
 NOWHERE = 8  # an address that can't be read
-KEPT = []  # what a capsule names lives by the array or the stream here, and by itself in true ones
+KEPT = collections.deque(maxlen=2000)  # what a capsule names lives by the array or the stream here
 
 
 def pointer(callback):
@@ -42,25 +42,19 @@ def pointer(callback):
 
 
 def memory_of(data):
-    """Memory with these bytes."""
-    return ctypes.create_string_buffer(data, len(data))
-
-
-def guarded(data):
     """Memory with these bytes, which ends where a page begins that can't be read."""
     size = -(-len(data) // mmap.PAGESIZE) * mmap.PAGESIZE
-    pages = mmap.mmap(-1, size + mmap.PAGESIZE)
-    KEPT.append(pages)
+    pages = mmap.mmap(-1, size + mmap.PAGESIZE, flags=mmap.MAP_PRIVATE | mmap.MAP_ANONYMOUS)
     end = ctypes.addressof(ctypes.c_char.from_buffer(pages)) + size
     assert ctypes.CDLL(None).mprotect(ctypes.c_void_p(end), ctypes.c_size_t(mmap.PAGESIZE), 0) == 0
     memory = (ctypes.c_char * len(data)).from_address(end - len(data))
-    memory.raw = data
+    memory.raw, memory.pages = data, pages
     return memory
 
 
 def pointers(addresses):
     """An array of pointers, as Arrow has it."""
-    return ctypes.cast(memory_of(struct.pack(f"={len(addresses)}Q", *(it or 0 for it in addresses))), POINTERS)
+    return (ctypes.c_void_p * len(addresses))(*addresses)
 
 
 class Again:
@@ -83,16 +77,16 @@ class Held:
     def __init__(self, form, memory, length, offset=0, inside=(), **changes):
         KEPT.append(self)
         self.released, self.children = [], inside
-        self.memory = [memory_of(it or b"") for it in memory]
-        addresses = [ctypes.addressof(it) if len(it) else None for it in self.memory]
-        inner = [pointers([ctypes.addressof(getattr(it, of)) for it in inside]) for of in ("schema", "array")]
-        self.schema = Schema(form, None, None, 0, len(inside), inner[0])
-        self.array = Array(length, -1, offset, len(memory), len(inside), pointers(changes.pop("buffers", addresses)),
-                           inner[1])
-        self.callbacks = [RELEASE(lambda address: self.release("schema", Schema.from_address(address))),
-                          RELEASE(lambda address: self.release("array", Array.from_address(address))),
-                          DESTRUCTOR(self.on_destroy)]
-        self.schema.release, self.array.release = map(pointer, self.callbacks[:2])
+        self.memory = [memory_of(it) if it else None for it in memory]
+        buffers = pointers([it and ctypes.addressof(it) for it in self.memory])
+        self.lists = [buffers, *(pointers([ctypes.addressof(getattr(it, of)) for it in inside])
+                                 for of in ("schema", "array"))]
+        of_buffers, of_schemas, of_arrays = (ctypes.cast(it, POINTERS) for it in self.lists)
+        self.schema = Schema(form, None, None, 0, len(inside), of_schemas)
+        self.array = Array(length, -1, offset, len(memory), len(inside), of_buffers, of_arrays)
+        self.callbacks = [RELEASE(lambda at, of=of: self.release(of, type(getattr(self, of)).from_address(at)))
+                          for of in ("schema", "array")]
+        self.schema.release, self.array.release = map(pointer, self.callbacks)
         for name, value in changes.items():
             setattr(self.schema if name in ("dictionary", "format", "name", "metadata") else self.array, name, value)
 
@@ -102,20 +96,14 @@ class Held:
         for child in self.children:
             child.release(what, getattr(child, what))
         if what == "array":
-            for memory in self.memory:
+            for memory in filter(None, self.memory):
                 ctypes.memset(memory, 0xFF, len(memory))
         else:
             for schema in (it, self.schema):
                 schema.format = schema.name = schema.metadata = NOWHERE
 
-    def on_destroy(self, capsule):
-        """What a capsule's end does: its struct is released."""
-        for name, it in ((b"arrow_schema", self.schema), (b"arrow_array", self.array)):
-            if is_valid(capsule, name) and it.release:
-                RELEASE(it.release)(address_of(capsule, name))
-
     def __arrow_c_array__(self, requested_schema=None):
-        return tuple(new_capsule(ctypes.addressof(it), name, pointer(self.callbacks[2]))
+        return tuple(new_capsule(ctypes.addressof(it), name, None)
                      for it, name in ((self.schema, b"arrow_schema"), (self.array, b"arrow_array")))
 
 
@@ -140,25 +128,20 @@ SHORT = 12
 def Views(rows, count, offset=0, length=None):
     """An array of binary views of some rows, the longer ones in turn in so many buffers."""
     data, views = [b"" for _ in range(count)], b""
-    for i, row in enumerate(rows):
-        row = row or b""
-        place = i % count if count else 0
-        views += struct.pack("=i", len(row))
+    for i, row in enumerate(row or b"" for row in rows):
         if len(row) <= SHORT:
-            views += row.ljust(SHORT, b"\0")
+            views += struct.pack("=i12s", len(row), row)
         else:
-            views += row[:4] + struct.pack("=2i", place, len(data[place]))
-            data[place] += row
+            views += struct.pack("=i4s2i", len(row), row, i % count, len(data[i % count]))
+            data[i % count] += row
     memory = bits_of(rows), views, *data, struct.pack(f"={count}q", *map(len, data))
     return Held(b"vz", memory, len(rows) - offset if length is None else length, offset)
 
 
-class Records(Held):
+def Records(*columns, validity=None, **changes):
     """A batch of records: some arrays as its columns, which are released with it."""
-
-    def __init__(self, *columns, validity=None, **changes):
-        changes = {"length": 0, "null_count": -1 if validity else 0, **changes}
-        super().__init__(b"+s", [validity], inside=columns, **changes)
+    return Held(b"+s", [validity], inside=columns,
+                **{"length": len(ROWS), "null_count": -1 if validity else 0, **changes})
 
 
 def Lists(levels, words, names=("xy",), offset=0, length=None, form=b"+l", **changes):
@@ -185,43 +168,36 @@ def deep(it, depth):
 class Stream:
     """Arrays one after another. A stream that has a fault ends with it."""
 
-    def __init__(self, schema, arrays, fault=None):
+    def __init__(self, schema, arrays, fault=None, **changes):
         KEPT.append(self)
         self.source, self.arrays, self.fault, self.released = schema, iter(arrays), fault, 0
-        self.callbacks = [FILL(self.get_schema), FILL(self.get_next), TEXT(self.get_last_error),
-                          RELEASE(self.release), DESTRUCTOR(self.on_destroy)]
-        self.stream = ArrayStream(*map(pointer, self.callbacks[:4]), None)
+        self.callbacks = FILL(self.get_schema), FILL(self.get_next), TEXT(self.get_last_error), RELEASE(self.release)
+        self.stream = ArrayStream(*map(pointer, self.callbacks))
+        for name, value in changes.items():
+            setattr(self.stream, name, value)
 
     @staticmethod
     def move(it, out):
         ctypes.memmove(out, ctypes.addressof(it), ctypes.sizeof(it))
         it.release = None
+        return 0
 
     def get_schema(self, stream, out):
-        self.move(self.source.schema, out)
-        return 0
+        return self.move(self.source.schema, out)
 
     def get_next(self, stream, out):
         array = next(self.arrays, None)
         if array is not None:
-            self.move(array.array, out)
-        elif self.fault:
-            ctypes.memset(out, NOWHERE, ctypes.sizeof(Array))  # of a failure nothing else is said
-            return 5
-        else:
-            ctypes.memset(out, 0, ctypes.sizeof(Array))
-        return 0
+            return self.move(array.array, out)
+        # Of a failure nothing else is said.
+        ctypes.memset(out, NOWHERE if self.fault else 0, ctypes.sizeof(Array))
+        return 5 if self.fault else 0
 
     def get_last_error(self, stream):
         return ctypes.cast(self.fault, ctypes.c_void_p).value if self.fault != b"?" else None
 
     def release(self, stream):
         self.released += 1
-        self.stream.release = None
-
-    def on_destroy(self, capsule):
-        if self.stream.release:
-            self.release(capsule)
 
     def __arrow_c_stream__(self, requested_schema=None):
-        return new_capsule(ctypes.addressof(self.stream), b"arrow_array_stream", pointer(self.callbacks[4]))
+        return new_capsule(ctypes.addressof(self.stream), b"arrow_array_stream", None)

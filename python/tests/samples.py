@@ -60,3 +60,8 @@ def values_of(record):
 def changed(record, **values):
     """A record with other values in the place of some."""
     return type(record)(**{**values_of(record), **values})
+
+
+def slices(count):
+    """The first item and the length of each slice of so many items."""
+    return [(first, length) for first in range(count + 1) for length in range(count + 1 - first)]

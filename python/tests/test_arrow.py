@@ -7,8 +7,8 @@ import pickle
 import struct
 import unittest
 
-from capsules import SHORT, Arrow, Records, Stream, Views, guarded, new_capsule
-from samples import BIG_POINT, ISO_POLYGON, POINT, POLYGON, ROWS, STATUSES, statuses
+from capsules import SHORT, Arrow, Records, Stream, Views, memory_of, new_capsule
+from samples import BIG_POINT, ISO_POLYGON, POINT, POLYGON, ROWS, STATUSES, slices, statuses
 from porchsorrel_wkb import Column, Status
 
 try:
@@ -17,20 +17,50 @@ except ImportError:
     gdal = ogr = None
 
 
+def batch(**changes):
+    """Two columns of rows, of which the second has no null row."""
+    shapes = Arrow(name=b"shape", rows=[BIG_POINT, *ROWS, b"", POINT])
+    return Records(Arrow(b"Z", name=b"other", rows=[POINT] * 9), shapes, **{"length": 0, **changes})
+
+
 class FromArrow(unittest.TestCase):
     def test_slices(self):
-        """Every slice of 17 rows, whose bits are in three bytes."""
+        """Every slice of 17 rows, whose bits are in three bytes, some of them in views or in one of three buffers."""
         rows = [None if i % 3 == 1 else b"\2" if i % 5 == 2 else POINT for i in range(17)]
-        expected = list(Column.of(rows).check())
-        self.assertEqual(len(set(expected)), 3)
-        for kind in (b"z", b"Z"):
-            for offset in range(18):
-                for length in range(18 - offset):
-                    column = Column.from_arrow(Arrow(kind, rows, offset, length))
-                    self.assertEqual(list(column.check()), expected[offset : offset + length])
-                    self.assertEqual(len(column.write().offsets), length + 1)
-                    column = Column.from_arrow(Views(rows, 2, offset, length))
-                    self.assertEqual(list(column.check()), expected[offset : offset + length])
+        rows[9:13] = b"", bytes(SHORT), bytes(SHORT + 1), ISO_POLYGON
+        expected = statuses(Column.of(rows))
+        for make in (lambda *it: Arrow(b"z", rows, *it), lambda *it: Arrow(b"Z", rows, *it),
+                     lambda *it: Views(rows, 3, *it)):
+            for offset, length in slices(17):
+                source = make(offset, length)
+                column = Column.from_arrow(source)
+                self.assertEqual(statuses(column), expected[offset : offset + length])
+                self.assertEqual(len(column.write().offsets), length + 1)
+                self.assertEqual(source.released[:1], ["schema"])
+        source = Views(rows[:8], 3)
+        bits = memory_of(source.memory[0][:1])  # eight rows need no more
+        source.array.buffers[0] = ctypes.addressof(bits)
+        self.assertEqual(statuses(Column.from_arrow(source)), expected[:8])
+        self.assertEqual(list(Column.from_arrow(Views(rows, 3)).write().rows), list(Column.of(rows).write().rows))
+        self.assertEqual(source.released, ["schema", "array"])
+        self.assertEqual(statuses(Column.from_arrow(Views([b"\2", None], 0))), [STATUSES[4], Status.NULL_ROW])
+
+    def test_names(self):
+        """A column of a batch of records, and of a slice of one."""
+        whole = {"shape": [0] + STATUSES + [Status.SHORT_HEADER, 0], "other": [0] * 8}
+        for (offset, length), name in itertools.product(slices(8), whole):
+            column = Column.from_arrow(batch(offset=offset, length=length), name)
+            self.assertEqual(statuses(column), whole[name][offset : offset + length])
+
+    def test_null_records(self):
+        """Every slice of 16 records, whose bits are two bytes and no more, is taken unless a record in it is null."""
+        for null, (offset, length) in itertools.product((0, 7, 8, 15), slices(16)):
+            bits = (2**16 - 1 - 2**null).to_bytes(2, "little")
+            source = Records(Arrow(name=b"shape", rows=16 * [POINT]), offset=offset, length=length, validity=bits)
+            if offset <= null < offset + length:
+                self.assertRaisesRegex(ValueError, "null as a whole", Column.from_arrow, source, "shape")
+            else:
+                self.assertEqual(len(Column.from_arrow(source, "shape")), length)
 
     def test_lifetime(self):
         """The memory lives until the column goes, and not longer. The schema goes at once."""
@@ -38,11 +68,10 @@ class FromArrow(unittest.TestCase):
         column = Column.from_arrow(source)
         self.assertEqual(source.released, ["schema"])
         again = pickle.loads(pickle.dumps(column))
-        self.assertEqual(list(column.check()), STATUSES)
+        self.assertEqual(statuses(column), STATUSES)
         del column
         gc.collect()
-        self.assertEqual(source.released, ["schema", "array"])
-        self.assertEqual(list(again.check()), STATUSES)
+        self.assertEqual((source.released, statuses(again)), (["schema", "array"], STATUSES))
 
     def test_finalizers(self):
         """The end of an object reads a column in a cycle with it, whose memory isn't released before."""
@@ -67,57 +96,32 @@ class FromArrow(unittest.TestCase):
         capsules = column.write().__arrow_c_array__()
         child = os.fork()
         if not child:
-            is_right = list(column.check()) == STATUSES
+            is_right = statuses(column) == STATUSES
             del column, capsules
             gc.collect()
             os._exit(not is_right)
         self.assertEqual(os.waitpid(child, 0)[1], 0)
-        self.assertEqual((list(column.check()), len(capsules)), (STATUSES, 2))
+        self.assertEqual((statuses(column), len(capsules)), (STATUSES, 2))
 
     def test_pickled_slices(self):
         """A slice is pickled with the bytes, the offsets and the bits of its own rows."""
         rows = [POINT, None, b"\2", POLYGON] * 250
-        whole = len(pickle.dumps(Column.from_arrow(Arrow(b"Z", rows))))
-        self.assertGreater(whole, 20_000)
-        for kind in (b"z", b"Z"):
-            for first in range(0, 1000, 90):
-                for length in (0, 1, 10):
-                    column = Column.from_arrow(Arrow(kind, rows, first, length))
-                    pickled = pickle.dumps(column)
-                    self.assertLess(len(pickled), 1000)
-                    again = pickle.loads(pickled)
-                    self.assertEqual(statuses(again), statuses(column))
-                    self.assertEqual(bytes(again.write().data), bytes(column.write().data))
+        self.assertGreater(len(pickle.dumps(Column.from_arrow(Arrow(b"Z", rows)))), 20_000)
+        for kind, first, length in itertools.product((b"z", b"Z"), range(0, 1000, 90), (0, 1, 10)):
+            column = Column.from_arrow(Arrow(kind, rows, first, length))
+            pickled = pickle.dumps(column)
+            self.assertLess(len(pickled), 1000)
+            again = pickle.loads(pickled)
+            self.assertEqual(statuses(again), statuses(column))
+            self.assertEqual(bytes(again.write().data), bytes(column.write().data))
 
     def test_pickled_hostile_offsets(self):
         """What is pickled has the same rows, whatever the offsets are."""
-        lowest, highest = -(2**31), 2**31 - 1
-        for ends in itertools.product((lowest, -1, 0, 7, 21, 42, highest), repeat=3):
+        for ends in itertools.product((-(2**31), -1, 0, 7, 21, 42, 2**31 - 1), repeat=3):
             source = Arrow(rows=[BIG_POINT, POINT, POINT], offset=1, length=2)
             source.memory[1][4:] = struct.pack("=3i", *ends[:2], min(ends[2], 63))
             column = Column.from_arrow(source)
             self.assertEqual(statuses(pickle.loads(pickle.dumps(column))), statuses(column), ends)
-
-    def test_no_rows(self):
-        for source in (Arrow(rows=[]), Arrow(rows=[], buffers=[None] * 3), Arrow(offset=5), Arrow(length=0)):
-            column = Column.from_arrow(source)
-            self.assertEqual((len(column), len(column.check()), len(column.write().offsets)), (0, 0, 1))
-        self.assertEqual(list(Column.from_arrow(Arrow(rows=[None, b""])).check()), STATUSES[1:3])
-
-    def test_refused(self):
-        self.assertRaisesRegex(TypeError, "format '[+]l' is not binary", Column.from_arrow, Arrow(format=b"+l"))
-        self.assertRaisesRegex(TypeError, "'dictionary'", Column.from_arrow, Arrow(dictionary=8))
-        self.assertRaisesRegex(TypeError, "list has no method __arrow_c_array__$", Column.from_arrow, ROWS)
-        chunked = type("Chunked", (), {"__arrow_c_stream__": None})()
-        self.assertRaisesRegex(TypeError, "chunks_from_arrow takes", Column.from_arrow, chunked)
-
-    def test_refused_and_released(self):
-        """A struct that is rejected is released like another, and no struct twice."""
-        for take in (Column.from_arrow, lambda it: list(Column.chunks_from_arrow(Stream(it, [it])))):
-            for wrong in (Arrow(n_buffers=2), Arrow(offset=-1), Arrow(n_children=1), Arrow(buffers=[None] * 3)):
-                self.assertRaises(ValueError, take, wrong)
-                gc.collect()
-                self.assertEqual(wrong.released, ["schema", "array"])
 
     def test_hostile_offsets(self):
         """Offsets that decrease or are negative. No byte past the last one is read."""
@@ -128,62 +132,35 @@ class FromArrow(unittest.TestCase):
         ):
             source = Arrow(rows=[POINT, b""])
             source.memory[1][:] = struct.pack("=3i", *ends)
-            self.assertEqual(list(Column.from_arrow(source).check()), found, ends)
+            self.assertEqual(statuses(Column.from_arrow(source)), found, ends)
 
-
-class FromViews(unittest.TestCase):
-    def test_slices(self):
-        """Rows in views, and rows in one of three buffers."""
-        rows = [POINT, None, b"", b"\2", ISO_POLYGON, bytes(SHORT), bytes(SHORT + 1), BIG_POINT]
-        expected = statuses(Column.of(rows))
-        for offset in range(9):
-            for length in range(9 - offset):
-                source = Views(rows, 3, offset, length)
-                column = Column.from_arrow(source)
-                self.assertEqual(source.released, ["schema", "array"])
-                self.assertEqual(statuses(column), expected[offset : offset + length])
-        source = Views(rows, 3)
-        source.array.buffers[0] = ctypes.addressof(guarded(source.memory[0][:1]))  # eight rows need no more
-        self.assertEqual(statuses(Column.from_arrow(source)), expected)
-        self.assertEqual(bytes(Column.from_arrow(Views(rows, 3)).write().data), POINT + ISO_POLYGON + POINT)
-        self.assertEqual(statuses(Column.from_arrow(Views([b"\2", None], 0))), [STATUSES[4], Status.NULL_ROW])
-
-
-def batch(**changes):
-    """Two columns of rows, of which the second has no null row."""
-    shapes = Arrow(name=b"shape", rows=[BIG_POINT, *ROWS, b"", POINT])
-    return Records(Arrow(b"Z", name=b"other", rows=[POINT] * 9), shapes, **changes)
-
-
-class FromRecords(unittest.TestCase):
-    def test_names(self):
-        """A column of a batch of records, and of a slice of one."""
-        whole = [0] + STATUSES + [Status.SHORT_HEADER, 0]
-        for offset in range(8):
-            for length in range(9 - offset):
-                for name, expected in (("shape", whole[offset : offset + length]), ("other", [0] * length)):
-                    column = Column.from_arrow(batch(offset=offset, length=length), name)
-                    self.assertEqual(statuses(column), expected)
+    def test_no_rows(self):
+        none = Arrow(rows=[])
+        none.array.buffers[1] = None
+        for source in (Arrow(rows=[]), none, Arrow(offset=5), Arrow(length=0)):
+            column = Column.from_arrow(source)
+            self.assertEqual((len(column), len(column.check()), len(column.write().offsets)), (0, 0, 1))
+        self.assertEqual(statuses(Column.from_arrow(Arrow(rows=[None, b""]))), STATUSES[1:3])
 
     def test_refused(self):
-        self.assertRaisesRegex(TypeError, "'[+]s' is not binary .*; name= picks", Column.from_arrow, batch())
-        self.assertRaisesRegex(ValueError, r"no column 'x', but \['other', 'shape'\]", Column.from_arrow, batch(), "x")
-        self.assertRaisesRegex(ValueError, r"no column 'x', but \[\]", Column.from_arrow, Arrow(), "x")
-        null = batch(length=1, validity=b"\xfe")
-        self.assertRaisesRegex(ValueError, "null as a whole", Column.from_arrow, null, "shape")
-        text = Records(Arrow(name=b"name", format=b"u"))
-        self.assertRaisesRegex(TypeError, "'u' is not binary", Column.from_arrow, text, "name")
-
-    def test_null_records(self):
-        """Every slice of 16 records, whose bits are two bytes and no more, is taken unless a record in it is null."""
-        for null in (0, 7, 8, 15):
-            bits = (2**16 - 1 - 2**null).to_bytes(2, "little")
-            for offset, length in ((i, n) for i in range(17) for n in range(17 - i)):
-                source = Records(Arrow(name=b"shape", rows=16 * [POINT]), offset=offset, length=length, validity=bits)
-                if offset <= null < offset + length:
-                    self.assertRaisesRegex(ValueError, "null as a whole", Column.from_arrow, source, "shape")
-                else:
-                    self.assertEqual(len(Column.from_arrow(source, "shape")), length)
+        """Errors of capsules.py's tests by their texts. A struct that is rejected is released like another."""
+        is_stream = type("Chunked", (), {"__arrow_c_stream__": None})()
+        for error, text, source, *name in (
+            (TypeError, "format '[+]l' is not binary", Arrow(format=b"+l")),
+            (TypeError, "'dictionary'", Arrow(dictionary=8)),
+            (TypeError, "'[+]s' is not binary .*; name= picks", batch()),
+            (TypeError, "'u' is not binary", Records(Arrow(name=b"name", format=b"u")), "name"),
+            (ValueError, r"no column 'x', but \['other', 'shape'\]", batch(), "x"),
+            (ValueError, r"no column 'x', but \[\]", Arrow(), "x"),
+            (ValueError, "null as a whole", batch(length=1, validity=b"\xfe"), "shape"),
+            (ValueError, "can't have 2 buffers", Arrow(n_buffers=2)),
+            (ValueError, "rows from row -1", Arrow(offset=-1)),
+        ):
+            self.assertRaisesRegex(error, text, Column.from_arrow, source, *name)
+            gc.collect()
+            self.assertEqual(sorted(source.released), ["array", "schema"])
+        for text, wrong in (("list has no method __arrow_c_array__$", ROWS), ("chunks_from_arrow takes", is_stream)):
+            self.assertRaisesRegex(TypeError, text, Column.from_arrow, wrong)
 
 
 class FromChunks(unittest.TestCase):
@@ -206,14 +183,12 @@ class FromChunks(unittest.TestCase):
             self.assertEqual((stream.released, sources[2].released), (1, []))
             self.assertEqual([statuses(kept), statuses(third)], [STATUSES] * 2)
 
-    def test_none(self):
+    def test_ends(self):
+        """A stream without arrays, one with an array of no rows, and one that is left early."""
         self.assertEqual(list(Column.chunks_from_arrow(Stream(Arrow(), []))), [])
-        (column,) = Column.chunks_from_arrow(Stream(Arrow(), [Arrow(rows=[], buffers=[None] * 3)]))
-        self.assertEqual(len(column), 0)
-
-    def test_left_early(self):
+        (column,) = Column.chunks_from_arrow(Stream(Arrow(), [Arrow(rows=[])]))
         stream = Stream(Arrow(), [Arrow(), Arrow()])
-        self.assertEqual(statuses(next(Column.chunks_from_arrow(stream))), STATUSES)
+        self.assertEqual((len(column), statuses(next(Column.chunks_from_arrow(stream)))), (0, STATUSES))
         gc.collect()
         self.assertEqual(stream.released, 1)
 
@@ -224,11 +199,13 @@ class FromChunks(unittest.TestCase):
             with self.assertRaisesRegex(OSError, text) as caught:
                 next(chunks)
             self.assertEqual(caught.exception.errno, 5)
-        source = Arrow(b"u")
-        self.assertRaisesRegex(TypeError, "'u' is not binary", Column.chunks_from_arrow, Stream(source, []))
-        self.assertEqual(source.released, ["schema"])
-        self.assertRaisesRegex(TypeError, "from_arrow takes", Column.chunks_from_arrow, Arrow())
-        self.assertRaisesRegex(TypeError, "list has no method __arrow_c_stream__$", Column.chunks_from_arrow, ROWS)
+        wrong = Arrow(n_buffers=2)
+        self.assertRaises(ValueError, next, Column.chunks_from_arrow(Stream(wrong, [wrong])))
+        gc.collect()
+        self.assertEqual(wrong.released, ["schema", "array"])
+        for text, source in (("'u' is not binary", Stream(Arrow(b"u"), [])), ("from_arrow takes", Arrow()),
+                             ("list has no method __arrow_c_stream__$", ROWS)):
+            self.assertRaisesRegex(TypeError, text, Column.chunks_from_arrow, source)
 
 
 class Ogr:

@@ -13,7 +13,7 @@ import porchsorrel_wkb as wkb
 from capsules import (
     Again, Arrow, Array, Lists, Records, Schema, address_of, deep, memory_of, pointers, rename,
 )
-from samples import BIG_POINT, EMPTY_POINT, ISO_POLYGON, POINT, POLYGON, ROWS, STATUSES, numpy
+from samples import BIG_POINT, EMPTY_POINT, ISO_POLYGON, POINT, POLYGON, ROWS, STATUSES, numpy, slices
 from porchsorrel_wkb import Column, Dimension, Form, Kind, Order, Status, _results, column_from_coordinates
 
 try:
@@ -230,17 +230,16 @@ KINDS = {
 
 class Coordinates(unittest.TestCase):
     def test_each_kind(self):
-        for kind, (rows, expected, lists) in KINDS.items():
-            for asked, sign in ((None, "+l"), (b"+l", "+l"), (b"+L", "+L"), (b"+w:2", "+l")):
-                found = read(Column.of(rows).coordinates(), asked and asked_for(asked))
-                names = list(zip([sign] * len(lists) + ["+w:2", "g"], ["", *lists, "xy"]))
-                self.assertEqual(found, (expected, names, f"geoarrow.{kind.name.lower().replace('_', '')}"))
-
-    def test_null_rows(self):
-        for kind, (rows, expected, _) in KINDS.items():
-            values, _, _ = read(Column.of([None, rows[0], b"", rows[1], None]).coordinates())
-            self.assertEqual(values, [None, expected[0], None, expected[1], None])
-            self.assertEqual(read(Column.of([None]).coordinates())[0], [None])
+        """Of each kind, with null and rejected rows, which are null, and without."""
+        for (kind, (rows, expected, lists)), (asked, sign) in itertools.product(
+                KINDS.items(), ((None, "+l"), (b"+l", "+l"), (b"+L", "+L"), (b"+w:2", "+l"))):
+            names = list(zip([sign] * len(lists) + ["+w:2", "g"], ["", *lists, "xy"]))
+            extension = f"geoarrow.{kind.name.lower().replace('_', '')}"
+            for given, values in ((rows, expected), ([None, rows[0], b"", rows[1], None],
+                                                     [None, expected[0], None, expected[1], None])):
+                found = read(Column.of(given).coordinates(), asked and asked_for(asked))
+                self.assertEqual(found, (values, names, extension))
+        self.assertEqual(read(Column.of([None]).coordinates())[0], [None])
 
     def test_several_kinds(self):
         """Rows of several kinds, or of collections, are lists without a name."""
@@ -263,13 +262,11 @@ class FromGeoArrow(unittest.TestCase):
                 self.assertEqual(list(it.statuses), [0 if row else Status.NULL_ROW for row in it.rows])
 
     def test_slices(self):
-        for form in (b"+l", b"+L"):
-            for offset in range(4):
-                for length in range(4 - offset):
-                    it = Lists([(0, 1, 1, 3)], [(1, 2, 3, 4, 5, 6)], offset=offset, length=length, form=form)
-                    lines = [part(2, pairs(1, 2)), part(2, []), part(2, pairs(3, 4, 5, 6))]
-                    written = column_from_coordinates(Kind.LINE_STRING, it)
-                    self.assertEqual(list(written.rows), lines[offset : offset + length])
+        lines = [part(2, pairs(1, 2)), part(2, []), part(2, pairs(3, 4, 5, 6))]
+        for form, (offset, length) in itertools.product((b"+l", b"+L"), slices(3)):
+            it = Lists([(0, 1, 1, 3)], [(1, 2, 3, 4, 5, 6)], offset=offset, length=length, form=form)
+            written = column_from_coordinates(Kind.LINE_STRING, it)
+            self.assertEqual(list(written.rows), lines[offset : offset + length])
         it = Lists([(0, 1, 3), (0, 2, 3, 3)], [(1, 2, 3, 4, 5, 6)], offset=1)
         (row,) = column_from_coordinates(Kind.MULTI_LINE_STRING, it).rows
         self.assertEqual(row, part(5, [OTHER, part(2, [])]))
@@ -293,12 +290,8 @@ class FromGeoArrow(unittest.TestCase):
             self.assertEqual((found.dimension.name, found.order), (names.upper(), Order.BIG))
             expected = tuple(float(i) for i in range(5, 5 + len(names)))
             self.assertEqual(wkb.coordinates(written.rows[0], found), [expected])
-
-    def test_lifetime(self):
-        it = Lists([(0, 1)], [(1.0, 2.0)])
-        column_from_coordinates(Kind.LINE_STRING, it)
-        gc.collect()
-        self.assertEqual(sorted(it.released), ["array", "schema"])
+            gc.collect()
+            self.assertEqual(sorted(it.released), ["array", "schema"])
 
     def test_refused(self):
         words, line = [(1.0, 2.0, 3.0, 4.0)], Kind.LINE_STRING
@@ -313,8 +306,7 @@ class FromGeoArrow(unittest.TestCase):
             (ValueError, "lists from item 2 to 1", line, Lists([(2, 1)], words)),
             (ValueError, "fewer items", line, Lists([(0, 3)], words)),
         ):
-            with self.assertRaisesRegex(error, text):
-                column_from_coordinates(kind, source)
+            self.assertRaisesRegex(error, text, column_from_coordinates, kind, source)
             gc.collect()
             self.assertEqual(sorted(source.released), ["array", "schema"])
 
@@ -334,7 +326,7 @@ class FromGeoArrow(unittest.TestCase):
         words, bits = [1.0, 2.0] * 17, sum(1 << i for i in range(17) if i % 3).to_bytes(3, "little")
         statuses, validity = [0 if i % 3 else Status.NULL_ROW for i in range(17)], memory_of(bits)
         for kind, levels in ((Kind.POINT, []), (Kind.LINE_STRING, [range(18)])):
-            for offset, length in ((i, n) for i in range(18) for n in range(18 - i)):
+            for offset, length in slices(17):
                 source = Lists(levels, [words], offset=offset, length=length, null_count=-1)
                 source.array.buffers[0] = ctypes.addressof(validity)
                 it = column_from_coordinates(kind, source)
@@ -356,31 +348,26 @@ class FromGeoArrow(unittest.TestCase):
 class Twice(unittest.TestCase):
     """The schema of the second time is released, and its texts may be gone."""
 
-    def test_arrays(self):
-        written = Column.of([POINT]).write()
-        for source in (Arrow(), Records(Arrow(name=b"shape"), length=len(ROWS)), written):
-            name, it = "shape" if isinstance(source, Records) else None, Again(source.__arrow_c_array__())
-            Column.from_arrow(it, name)
-            self.assertRaisesRegex(ValueError, "is released already", Column.from_arrow, it, name)
+    def test_whole(self):
+        def points(it):
+            return column_from_coordinates(Kind.POINT, it)
 
-    def test_coordinates(self):
-        for source in (Lists([], [(1.0, 2.0)]), Column.of([POINT]).coordinates()):
+        for source, take in (
+            (Arrow(), Column.from_arrow), (Records(Arrow(name=b"shape")), lambda it: Column.from_arrow(it, "shape")),
+            (Column.of([POINT]).write(), Column.from_arrow), (Lists([], [(1.0, 2.0)]), points),
+            (Column.of([POINT]).coordinates(), points),
+        ):
             it = Again(source.__arrow_c_array__())
-            self.assertEqual(list(column_from_coordinates(Kind.POINT, it).rows), [POINT])
-            self.assertRaisesRegex(ValueError, "is released already", column_from_coordinates, Kind.POINT, it)
+            take(it)
+            self.assertRaisesRegex(ValueError, "is released already", take, it)
 
-    def test_inside(self):
-        """Of records and lists a child may be released by itself."""
-        column = Arrow(name=b"shape")
-        records = Records(column, length=len(ROWS))
-        column.release("schema", column.schema)
+    def test_parts(self):
+        """Of records a child may be released by itself, and the type that a consumer asks for: none is asked for."""
+        column, asked = Arrow(name=b"shape"), Arrow(format=b"z")
+        records, (capsule, _) = Records(column), asked.__arrow_c_array__()
+        for it in (column, asked):
+            it.release("schema", it.schema)
         self.assertRaisesRegex(ValueError, "is released already", Column.from_arrow, records, "shape")
-
-    def test_asked(self):
-        """The type that a consumer asks for may be released, too: none is asked for."""
-        asked = Arrow(format=b"z")
-        capsule, _ = asked.__arrow_c_array__()
-        asked.release("schema", asked.schema)
         self.assertEqual(len(Column.of([POINT]).write().__arrow_c_array__(capsule)), 2)
 
 
@@ -391,21 +378,18 @@ class Changed(unittest.TestCase):
     LINE_BYTES = bytes.fromhex("010200000001000000") + POINT[5:]
     LINE = Column.of([LINE_BYTES]).coordinates()
 
-    def refused(self, it, error=ValueError, text="don't fit together"):
-        self.assertRaisesRegex(error, text, it.__arrow_c_array__)
-
-    def test_offsets(self):
-        for offsets in ([0, 21], [0, 21, 43], [0, 22, 21], [-1, 21, 42], [1, 0, 42], [0, 2**62, 42], []):
-            self.refused(self.ENCODINGS._replace(offsets=array.array("q", offsets)))
+    def test_refused(self):
+        offsets = ([0, 21], [0, 21, 43], [0, 22, 21], [-1, 21, 42], [1, 0, 42], [0, 2**62, 42], [])
+        for it in (
+            *(self.ENCODINGS._replace(offsets=array.array("q", it)) for it in offsets),
+            *(self.ENCODINGS._replace(offsets=array.array(code, [0, 21, 42, 0, 0, 0])) for code in "iB"),
+            *(self.LINE._replace(coordinates=array.array(code, [0] * 8)) for code in "fi"),
+            self.ENCODINGS._replace(data=bytes(41)), self.ENCODINGS._replace(statuses=bytes(3)),
+            self.LINE._replace(coordinates=array.array("d", [])),
+        ):
+            self.assertRaisesRegex(ValueError, "don't fit together", it.__arrow_c_array__)
         kept = self.ENCODINGS._replace(offsets=array.array("q", [0, 21, 42, 42]))
         self.assertEqual(list(Column.from_arrow(kept).check()), [0, 0])
-
-    def test_lengths_and_types(self):
-        offsets = [self.ENCODINGS._replace(offsets=array.array(code, [0, 21, 42, 0, 0, 0])) for code in "iB"]
-        words = [self.LINE._replace(coordinates=array.array(code, [0] * 8)) for code in "fi"]
-        for it in (self.ENCODINGS._replace(data=bytes(41)), self.ENCODINGS._replace(statuses=bytes(3)),
-                   self.LINE._replace(coordinates=array.array("d", [])), *offsets, *words):
-            self.refused(it)
 
     def test_pieces(self):
         """What isn't in one piece goes out as its copy."""
@@ -423,7 +407,8 @@ class Changed(unittest.TestCase):
         self.assertEqual(levels.coordinates.tolist(), [[1.0, 2.0, 0.0]])
         flat = levels._replace(coordinates=levels.coordinates[:, :2].copy())
         self.assertEqual(list(column_from_coordinates(Kind.LINE_STRING, flat).rows), [self.LINE_BYTES])
-        self.refused(levels._replace(coordinates=numpy.zeros((1, 5))), text="5 numbers")
+        wide = levels._replace(coordinates=numpy.zeros((1, 5)))
+        self.assertRaisesRegex(ValueError, "5 numbers", wide.__arrow_c_array__)
 
     def test_written_later(self):
         """An array that has gone out doesn't change."""

@@ -13,28 +13,6 @@ from porchsorrel_wkb import Column, Dimension, Fault, Form, Found, Kind, Order, 
 FILE = pathlib.Path(__file__).resolve().parents[2] / "c/test/lasting.rows"
 # The options of the sums.
 OPTIONS = [(order, form, 4326 if form == Form.EWKB_WITH_SRID else None) for order in Order for form in Form]
-NOTHING = struct.pack("<" + 4 * "2dQ", *4 * (float("inf"), float("-inf"), 0))
-
-
-class Row(NamedTuple):
-    """An input and its answer: what is found, or the fault; sums of what is written, the bounds, parts and levels."""
-
-    data: bytes
-    answer: object
-    sums: list
-
-    @classmethod
-    def of(cls, line):
-        data, status, *words = line.split(" ")
-        if int(status):
-            return cls(bytes.fromhex(data), Fault(*map(int, words), Status(int(status))), [])
-        *numbers, srid, has_srid, kind, dimension, _, order = map(int, words[:11])
-        found = Found(*numbers, srid if has_srid else None, Kind(kind), Dimension(dimension), Order(order))
-        return cls(bytes.fromhex(data), found, [int(it, 16) for it in words[11:]])
-
-    @property
-    def status(self):
-        return getattr(self.answer, "status", Status.OK)
 
 
 def summed(data):
@@ -50,6 +28,32 @@ def packed(box):
     return struct.pack("<" + 4 * "2dQ", *(number for it in ranges for number in (it.least, it.greatest, it.count)))
 
 
+# The sums of a row that is null or rejected: none of what is written, and of no bounds, parts and levels.
+NOTHING = struct.pack("<" + 4 * "2dQ", *4 * (float("inf"), float("-inf"), 0))
+NONE = [None] * 8 + [summed(NOTHING), summed(b""), summed(b"")]
+
+
+class Row(NamedTuple):
+    """An input and its answer: what is found, or the fault; sums of what is written, the bounds, parts and levels."""
+
+    data: bytes
+    answer: object
+    sums: list
+
+    @classmethod
+    def of(cls, line):
+        data, status, *words = line.split(" ")
+        if int(status):
+            return cls(bytes.fromhex(data), Fault(*map(int, words), Status(int(status))), NONE)
+        *numbers, srid, has_srid, kind, dimension, _, order = map(int, words[:11])
+        found = Found(*numbers, srid if has_srid else None, Kind(kind), Dimension(dimension), Order(order))
+        return cls(bytes.fromhex(data), found, [int(it, 16) for it in words[11:]])
+
+    @property
+    def status(self):
+        return getattr(self.answer, "status", Status.OK)
+
+
 def answer_of(call, data):
     """What a call returns, or its fault."""
     try:
@@ -63,67 +67,55 @@ class Lasting(unittest.TestCase):
     @classmethod
     def setUpClass(cls):
         cls.rows = [Row.of(it) for it in FILE.read_text().splitlines() if not it.startswith("#")]
-        cls.accepted = [it for it in cls.rows if it.sums]
+        cls.accepted = [it for it in cls.rows if not it.status]
         rows = [data for it in cls.rows for data in (it.data, None)]
         cls.column = Column.of([cls.rows[0].data, None, *65 * [b"\2"], *rows, cls.rows[0].data])[67:-1]
+        # Of the column, whose every second row is null.
+        cls.statuses = [it for row in cls.rows for it in (row.status, Status.NULL_ROW)]
+        cls.sums = [*zip(*(sums for row in cls.rows for sums in (row.sums, NONE)))]
 
-    def test_check(self):
+    def test_one(self):
         self.assertGreater(len(self.accepted), 500)
         for it in self.rows:
             self.assertEqual(answer_of(wkb.check, it.data), it.answer, it.data.hex())
-            is_whole = bool(it.sums) and it.answer.size == len(it.data)
+            is_whole = not it.status and it.answer.size == len(it.data)
             self.assertIs(wkb.well_formed(it.data), is_whole, it.data.hex())
-
-    def test_refused(self):
-        for it in self.rows:
-            for call in (wkb.bounds, wkb.write, wkb.parts) if not it.sums else ():
+            for call in (wkb.bounds, wkb.write, wkb.parts) if it.status else ():
                 self.assertEqual(answer_of(call, it.data), it.answer, it.data.hex())
 
-    def test_write(self):
+    def test_accepted(self):
         for it in self.accepted:
             written = [wkb.write(it.data, *options) for options in OPTIONS]
-            self.assertEqual([summed(data) for data in written], it.sums[:8], it.data.hex())
+            parts = wkb.parts(it.data)
+            sums = [*map(summed, written), summed(packed(wkb.bounds(it.data))), summed(parts._memory)]
+            self.assertEqual(sums, it.sums[:10], it.data.hex())
             self.assertTrue(all(wkb.same(it.data, data) for data in written), it.data.hex())
-
-    def test_bounds(self):
-        for it in self.accepted:
-            self.assertEqual(summed(packed(wkb.bounds(it.data))), it.sums[8], it.data.hex())
-
-    def test_parts_and_cuts(self):
-        for it in self.accepted:
-            self.assertEqual(summed(wkb.parts(it.data)._memory), it.sums[9], it.data.hex())
-            numbers = [number for part in wkb.parts(it.data) if part.kind <= Kind.LINE_STRING
+            numbers = [number for part in parts if part.kind <= Kind.LINE_STRING
                        for point in wkb.coordinates(it.data, part) for number in point[:2]]
             found = Column.of([it.data]).coordinates().coordinates
             self.assertEqual(flat(array.array("d", numbers)), flat(found) if len(found) else "")
             cut = answer_of(wkb.bounds, it.data[: it.answer.size - 1])
             self.assertTrue(wkb.is_early_end(cut.status), it.data.hex())
-
-    def test_found_of_a_column(self):
-        statuses, found = self.column.found()
-        self.assertEqual(list(statuses), [it for row in self.rows for it in (row.status, Status.NULL_ROW)])
-        for it, entry in zip(self.rows, found[::2]):
-            self.assertTrue(entry == it.answer or not it.sums, it.data.hex())
-        self.assertEqual(list(self.column.check()), list(statuses))
-        faults = {2 * i: it.answer for i, it in enumerate(self.rows) if not it.sums}
-        self.assertEqual(self.column.faults(), faults)
-
-    def test_facts(self):
-        facts, count = self.column.facts(), len(self.rows)
-        refused = count - len(self.accepted)
-        self.assertEqual((facts.rows, facts.accepted, facts.nulls), (2 * count, count - refused, count))
-        self.assertEqual((facts.refused, facts.srids), (refused, {it.answer.srid for it in self.accepted}))
-        for it in self.accepted:
             own = Column.of([it.data]).facts()
             self.assertEqual((own.types, own.srids), ([(it.answer.kind, it.answer.dimension)], {it.answer.srid}))
             self.assertEqual(summed(packed(own.box)), it.sums[8], it.data.hex())
 
-    def test_writing_of_a_column(self):
-        for number, options in enumerate(OPTIONS):
-            rows = list(self.column.write(*options).rows)
-            expected = [it.sums[number] if it.sums else None for it in self.rows]
-            self.assertEqual([data and summed(data) for data in rows[::2]], expected)
-            self.assertEqual({*rows[1::2]}, {None})
+    def test_column(self):
+        statuses, found = self.column.found()
+        self.assertEqual((list(statuses), list(self.column.check())), (self.statuses, self.statuses))
+        for it, entry in zip(self.rows, found[::2]):
+            self.assertTrue(entry == it.answer or it.status, it.data.hex())
+        faults = {2 * i: it.answer for i, it in enumerate(self.rows) if it.status}
+        self.assertEqual(self.column.faults(), faults)
+        facts, count = self.column.facts(), len(self.rows)
+        self.assertEqual((facts.rows, facts.accepted, facts.nulls), (2 * count, count - len(faults), count))
+        self.assertEqual((facts.refused, facts.srids), (len(faults), {it.answer.srid for it in self.accepted}))
+        for options, sums in zip(OPTIONS, self.sums):
+            self.assertEqual([data and summed(data) for data in self.column.write(*options).rows], [*sums])
+        self.assertEqual([summed(packed(it)) for it in self.column.bounds().boxes], [*self.sums[8]])
+        _, offsets, parts = self.column.parts()
+        sums = [summed(parts._memory[64 * a : 64 * b]) for a, b in zip(offsets, offsets[1:])]
+        self.assertEqual(sums, [*self.sums[9]])
 
     def test_writing_of_a_column_that_grows(self):
         """Rows without SRIDs, which each get one: no column needs more room."""
@@ -133,18 +125,6 @@ class Lasting(unittest.TestCase):
         for number in (2, 6):
             written = Column.of([it.data for it in rows]).write(*OPTIONS[number]).rows
             self.assertEqual([summed(data) for data in written], [it.sums[number] for it in rows])
-
-    def test_bounds_of_a_column(self):
-        boxes = list(self.column.bounds().boxes)
-        expected = [it.sums[8] if it.sums else summed(NOTHING) for it in self.rows]
-        self.assertEqual([summed(packed(it)) for it in boxes[::2]], expected)
-        self.assertEqual({packed(it) for it in boxes[1::2]}, {NOTHING})
-
-    def test_parts_of_a_column(self):
-        _, offsets, parts = self.column.parts()
-        sums = [summed(parts._memory[64 * a : 64 * b]) for a, b in zip(offsets, offsets[1:])]
-        nothing = summed(b"")
-        self.assertEqual(sums, [sum for it in self.rows for sum in (it.sums[9] if it.sums else nothing, nothing)])
 
     def test_levels_of_a_column(self):
         columns = [self.column.coordinates(dimension) for dimension in Dimension]
@@ -157,7 +137,7 @@ class Lasting(unittest.TestCase):
                               for all, its in zip(words, Dimension))
             ends = [end - own[0] for own in (own_rings, own_singles) for end in own[1:]]
             found = summed(levels + struct.pack(f"<{len(ends)}Q", *ends))
-            self.assertEqual(found, it.sums[10] if it.sums else summed(b""), it.data.hex())
+            self.assertEqual(found, it.sums[10], it.data.hex())
 
     def test_rows_of_levels(self):
         """The rows of each kind come back from the levels of all where the others are null."""
