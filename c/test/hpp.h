@@ -2,13 +2,18 @@
 #ifndef TEST_HPP_H
 #define TEST_HPP_H
 
-#include "wkb.hpp"
+#include "wkb_facts.hpp"
 
+#include <cmath>
 #include <cstdio>
 #include <cstdlib>
+#include <cstring>
 #include <string>
 #include <string_view>
 #include <vector>
+
+using input = std::vector<std::byte>;
+constexpr wkb_options BIG{WKB_ORDER_BIG, WKB_FORM_ISO, 0};
 
 // Prints what is wrong, and ends.
 inline void expect(bool holds, std::string_view what) {
@@ -18,11 +23,66 @@ inline void expect(bool holds, std::string_view what) {
 }
 
 // The bytes that a text spells in hex.
-inline std::vector<std::byte> spelled(const std::string &text) {
-  std::vector<std::byte> bytes;
+inline input spelled(const std::string &text) {
+  input bytes;
   for (std::size_t i = 0; i + 1 < text.size(); i += 2)
     bytes.push_back(static_cast<std::byte>(std::stoul(text.substr(i, 2), nullptr, 16)));
   return bytes;
 }
+
+// The same numbers in each run.
+inline std::uint64_t below(std::uint64_t count) {
+  static std::uint64_t state = 1;
+  state ^= state << 13, state ^= state >> 7, state ^= state << 17;
+  return state % count;
+}
+
+template <typename Record>
+bool is_same(const Record &a, const Record &b) {
+  return std::memcmp(&a, &b, sizeof a) == 0;
+}
+
+template <typename A, typename B>
+bool are_same(const A &a, const B &b) {
+  return std::ranges::equal(std::as_bytes(std::span(a)), std::as_bytes(std::span(b)));
+}
+
+inline const std::string ONE_AND_TWO = "000000000000f03f0000000000000040", POINT_TEXT = "0101000000" + ONE_AND_TWO;
+inline const input POINT = spelled("0101000020e6100000" + ONE_AND_TWO);
+// A big endian multi polygon: one polygon without rings, one with a ring of one coordinate and an empty ring.
+inline const input POLYGONS = spelled(
+    "000000000600000002"
+    "000000000300000000"
+    "000000000300000002" "00000001" "3ff00000000000004000000000000000" "00000000");
+
+constexpr std::size_t ROWS = 70, MOST_BITS = 200;
+
+// Rows as a column. Of some columns every few rows are null, with bits of validity that begin anywhere.
+template <typename Offset = std::int32_t>
+struct filled {
+  std::size_t first = below(MOST_BITS);
+  input data{};
+  std::vector<Offset> offsets{0};
+  std::vector<std::uint8_t> validity = std::vector<std::uint8_t>((ROWS + MOST_BITS) / 8 + 1);
+
+  filled(const auto &...rows) { (add(spelled(rows)), ...); }
+  void add(const input &it) {
+    data.insert(data.end(), it.begin(), it.end());
+    offsets.push_back(static_cast<Offset>(data.size()));
+  }
+  wkb::bytes row(std::size_t i) const {
+    return wkb::bytes(data).subspan(static_cast<std::size_t>(offsets[i]),
+                                    static_cast<std::size_t>(offsets[i + 1] - offsets[i]));
+  }
+  wkb_column column(const void *bits = nullptr, std::size_t begin = 0) const {
+    return wkb::column(data, std::span<const Offset>(offsets), bits, begin);
+  }
+  // Some of its rows are null, and every second column has a bad offset.
+  wkb_column spoiled() {
+    for (std::uint8_t &byte : validity) byte = static_cast<std::uint8_t>(below(4) ? 255 : below(256));
+    if (below(2) == 0) offsets[below(offsets.size())] = static_cast<Offset>(below(data.size() + 9)) - 4;
+    return column(below(8) ? validity.data() : nullptr, first);
+  }
+};
 
 #endif

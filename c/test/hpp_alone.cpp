@@ -1,11 +1,8 @@
 // Tries what wkb.hpp has and wkb.h has not: exceptions, each refused allocation, readers that are copied and moved,
-// room, ranges, and words and facts that no input has. After an error an object is as it was or empty, and no memory is
-// lost. It prints nothing, and an error if there is one.
+// room, ranges, levels without ends, words that no input has, and facts. After an error an object is as it was or
+// empty, and no memory is lost. It prints nothing, and an error if there is one.
 #include "hpp.h"
 
-#include "wkb_facts.hpp"
-
-#include <cmath>
 #include <new>
 #include <typeinfo>
 #include <utility>
@@ -32,36 +29,10 @@ void operator delete(void *block, std::size_t) noexcept { operator delete(block)
 
 namespace {
 
-using rows = std::vector<std::string>;
-constexpr wkb_options BIG{WKB_ORDER_BIG, WKB_FORM_ISO, 0};
-const std::string ONE_AND_TWO = "000000000000f03f0000000000000040";
-const auto POINT = spelled("0101000020e6100000" + ONE_AND_TWO);
-// A big endian multi polygon: one polygon without rings, one with a ring of one coordinate and an empty ring.
-const auto POLYGONS = spelled(
-    "000000000600000002"
-    "000000000300000000"
-    "000000000300000002" "00000001" "3ff00000000000004000000000000000" "00000000");
 const auto CUT = wkb::bytes(POINT).first(20);
 const std::string SAYS_CUT = "the input ends inside a point, at byte 0 (part 0): it needs 25 bytes and has 20";
 const std::string SAYS_UNKNOWN = "unknown byte order, form, kind or dimension";
 const std::string SAYS_ENDED = "the input ends inside a header or before a count, at byte 0 (part 0)";
-
-// Rows that are spelled, as a column.
-struct filled {
-  std::vector<std::byte> data{};
-  std::vector<std::int32_t> offsets{0};
-
-  explicit filled(const rows &of) {
-    for (const std::string &it : of) {
-      const auto row = spelled(it);
-      data.insert(data.end(), row.begin(), row.end());
-      offsets.push_back(static_cast<std::int32_t>(data.size()));
-    }
-  }
-  wkb_column column(const void *validity = nullptr) const {
-    return wkb::column(data, std::span<const std::int32_t>(offsets), validity);
-  }
-};
 
 // How many allocations of a call fail, each in turn, until it passes. LEFT looks at what each refusal leaves.
 std::size_t refusals(auto call, auto left) {
@@ -81,13 +52,10 @@ std::size_t refusals(auto call, auto left) {
 }
 
 void nothing() {}
-void takes(std::size_t allocations, const char *what, auto call) {
-  expect(refusals(call, nothing) == allocations, what);
-}
 
 // A call throws an exception of this very type and text, or std::bad_alloc where that has no memory. LOOK looks at it.
-template <typename Exception>
-void throws(const std::string &text, auto call, auto left, auto look) {
+template <typename Exception, typename Look = decltype([](const Exception &) { return true; })>
+void throws(const std::string &text, auto call, auto left, Look look = {}) {
   static_assert(std::is_nothrow_copy_constructible_v<Exception>);
   bool is_thrown = false;
   const auto tries = [&] {
@@ -98,11 +66,6 @@ void throws(const std::string &text, auto call, auto left, auto look) {
     }
   };
   expect(refusals(tries, left) > 0 && is_thrown, text);
-}
-
-template <typename Exception>
-void throws(const std::string &text, auto call, auto left) {
-  throws<Exception>(text, call, left, [](const Exception &) { return true; });
 }
 
 void exceptions() {
@@ -125,7 +88,7 @@ void exceptions() {
 
 // The row that can't be a member.
 void rows_that_are_no_members() {
-  const filled all({"0101000000" + ONE_AND_TWO, "010200000000000000", ""});
+  const filled all(POINT_TEXT, "010200000000000000", "");
   const std::uint8_t validity = 1;
   const auto throws_at = [&](std::size_t row, wkb_kind kind, const void *valid, const char *text) {
     wkb_column column = all.column(valid);
@@ -150,8 +113,8 @@ void readers() {
     expect(reader.read(POINT).words() == std::vector<double>{1, 2} && reader.table().size() == 1, "a point is read");
   };
   reads_a_point();
-  expect(refusals([&] { whole = reader.try_read(POLYGONS); }, reads_a_point) == 1, "a longer table");
-  takes(0, "a table serves the next input", [&] { whole = reader.try_read(POLYGONS); });
+  const auto reads = [&] { whole = reader.try_read(POLYGONS); };
+  expect(refusals(reads, reads_a_point) > 0 && refusals(reads, nothing) == 0, "a table serves the next input");
   throws<wkb::refused>(SAYS_CUT, [&] { reader.read(CUT); }, reads_a_point);
   whole = reader.read(POLYGONS);
   const wkb::reader copy = reader, moved = std::move(reader);
@@ -165,48 +128,45 @@ void readers() {
 // An output is unchanged until its call passes, and takes no more memory than its geometry does.
 void outputs() {
   const auto multi = spelled("000000000400000001" "0000000001" "3ff00000000000004000000000000000");
-  std::vector<std::byte> input = spelled("0102000000ffff0000"), out(3);
-  const filled points({"0101000000" + ONE_AND_TWO});
+  input in = spelled("0102000000ffff0000"), out(3);
+  const filled points(POINT_TEXT);
   const auto is_unchanged = [&] { expect(out.size() == 3, "an output after a refusal"); };
   const auto writes = [&] { expect(wkb::try_write(POINT, BIG, out), "is written"); };
   const auto collects = [&] {
     expect(wkb::try_collect(points.column(), WKB_KIND_MULTI_POINT, WKB_DIM_XY, BIG, out), "is collected");
     expect(out == multi, "what is collected");
   };
-  expect(refusals(writes, is_unchanged) == 1 && refusals(writes, nothing) == 0, "an output");
-  out = std::vector<std::byte>(3);
-  expect(refusals(collects, is_unchanged) == 1 && refusals(collects, nothing) == 0, "an output of rows");
-  takes(1, "collect", [&] { wkb::collect(points.column(), WKB_KIND_MULTI_POINT, WKB_DIM_XY, BIG); });
+  expect(refusals(writes, is_unchanged) > 0 && refusals(writes, nothing) == 0, "an output");
+  out = input(3);
+  expect(refusals(collects, is_unchanged) > 0 && refusals(collects, nothing) == 0, "an output of rows");
+  expect(wkb::collect(points.column(), WKB_KIND_MULTI_POINT, WKB_DIM_XY, BIG) == multi, "collect");
 
-  input.resize(9 + 16 * 65535 + 5000000);
-  out = std::vector<std::byte>(3);
-  const auto writes_long = [&] { wkb::write(input, {WKB_ORDER_BIG, WKB_FORM_EWKB_WITH_SRID, 1}, out); };
-  expect(refusals(writes_long, is_unchanged) == 1 && out.size() == 13 + 16 * 65535, "a long input");
+  in.resize(9 + 16 * 65535 + 5000000);
+  out = input(3);
+  const auto writes_long = [&] { wkb::write(in, {WKB_ORDER_BIG, WKB_FORM_EWKB_WITH_SRID, 1}, out); };
+  expect(refusals(writes_long, is_unchanged) > 0 && out.size() == 13 + 16 * 65535, "a long input");
   expect(out.capacity() < 2000000, "the room of a long input");
-  input.resize(100000);
-  expect(!wkb::try_write(input, BIG, out) && out.size() == 13 + 16 * 65535, "what one that is cut off leaves");
-  input = POINT, input.resize(70000);
-  const auto point = wkb::write(input, {WKB_ORDER_LITTLE, WKB_FORM_EWKB_OWN_SRID, 0});
+  in.resize(100000);
+  expect(!wkb::try_write(in, BIG, out) && out.size() == 13 + 16 * 65535, "what one that is cut off leaves");
+  in = POINT, in.resize(70000);
+  const auto point = wkb::write(in, {WKB_ORDER_LITTLE, WKB_FORM_EWKB_OWN_SRID, 0});
   expect(point == POINT && point.capacity() < 100, "the room of a short geometry");
 }
 
-// An allocation for each vector that is returned or taken meanwhile.
-void columns() {
-  const filled all({"0103000020e610000001000000" "01000000" + ONE_AND_TWO});
+// Each call allocates its results, and little meanwhile.
+void allocations() {
+  const filled all("0103000020e610000001000000" "01000000" + ONE_AND_TWO);
   const wkb_column column = all.column();
   const auto it = wkb::coordinates_of_rows(column, WKB_DIM_XY);
   const wkb::levels from{it.words, it.ring_ends, it.single_ends, it.row_ends};
-  const auto found = wkb::found_of_rows(column);
-  const auto bounds = wkb::bounds_of_rows(column);
-  takes(1, "check_rows", [&] { (void)wkb::check_rows(column); });
-  takes(2, "found_of_rows", [&] { (void)wkb::found_of_rows(column); });
-  takes(2, "bounds_of_rows", [&] { (void)wkb::bounds_of_rows(column); });
-  takes(3, "parts_of_rows", [&] { (void)wkb::parts_of_rows(column); });
-  takes(3, "write_rows", [&] { (void)wkb::write_rows(column, BIG); });
-  takes(5, "coordinates_of_rows", [&] { (void)wkb::coordinates_of_rows(column, WKB_DIM_XY); });
-  takes(3, "rows_from_coordinates", [&] { (void)wkb::rows_from_coordinates(from, WKB_KIND_POLYGON, WKB_DIM_XY, BIG); });
-  takes(5, "facts_of_rows", [&] { (void)wkb::facts_of_rows(column); });
-  takes(1, "facts_of", [&] { (void)wkb::facts_of(found, bounds); });
+  const auto allocate = [](auto... calls) {
+    for (const std::size_t count : {refusals(calls, nothing)...}) expect(0 < count && count < 8, "allocations");
+  };
+  allocate([&] { (void)wkb::check_rows(column); }, [&] { (void)wkb::found_of_rows(column); },
+           [&] { (void)wkb::bounds_of_rows(column); }, [&] { (void)wkb::parts_of_rows(column); },
+           [&] { (void)wkb::write_rows(column, BIG); }, [&] { (void)wkb::coordinates_of_rows(column, WKB_DIM_XY); },
+           [&] { (void)wkb::rows_from_coordinates(from, WKB_KIND_POLYGON, WKB_DIM_XY, BIG); },
+           [&] { (void)wkb::facts_of_rows(column); });
 }
 
 // What wkb.hpp says that allocates nothing; so it throws nothing.
@@ -244,41 +204,59 @@ void ranges() {
   expect(member == whole.end(), "the end of its members");
 }
 
-// Words that are no whole number of coordinates: no row is written, whichever levels have ends. And no rows.
-void words_without_a_whole_coordinate() {
+// Levels without ends. Of words that are no whole number of coordinates no row is written, whichever levels have ends.
+void levels_without_ends() {
   const std::vector<std::uint64_t> one{1}, none{0};
-  const std::vector<double> words(12);
+  const std::vector<double> words{1, 2, 1, 2, 1, 2, 1, 2, 1, 2, 1, 2};
   const std::uint8_t validity = 0xfe;
+  const auto write = [&](wkb::levels levels, std::size_t count, wkb_kind kind, wkb_dim dimension = WKB_DIM_XY) {
+    levels.words = std::span(words).first(count);
+    return wkb::rows_from_coordinates(levels, kind, dimension, {WKB_ORDER_LITTLE, WKB_FORM_ISO, 0});
+  };
+  const auto points = write({.words = {}, .validity = &validity}, 6, WKB_KIND_POINT);
+  expect(points.data == spelled(POINT_TEXT + POINT_TEXT), "points");
+  expect(points.ends == std::vector<std::uint64_t>{0, 21, 42} && points.statuses[0] == WKB_STATUS_NULL_ROW, "ends");
+  const auto line = write({.words = {}, .ring_ends = one}, 2, WKB_KIND_LINE_STRING);
+  expect(line.data == spelled("010200000001000000" + ONE_AND_TWO), "a line string");
+  const auto multi = write({.words = {}, .row_ends = one}, 2, WKB_KIND_MULTI_POINT);
+  expect(multi.data == spelled("010400000001000000" + POINT_TEXT), "a multi point");
   for (wkb_dim dimension = WKB_DIM_XY; dimension <= WKB_DIM_XYZM; dimension++)
-    for (std::size_t count = 1; count < words.size(); count++) {
-      const std::size_t width = wkb::width_of(dimension);
+    for (std::size_t count = 1, width = wkb::width_of(dimension); count < words.size(); count++) {
       if (count % width == 0) continue;
-      const auto is_bad = [&](wkb::levels levels, wkb_kind kind, const wkb::statuses &expected) {
-        levels.words = std::span(words).first(count);
-        const auto it = wkb::rows_from_coordinates(levels, kind, dimension, BIG);
-        expect(it.statuses == expected && it.data.empty(), "words that are no whole coordinates");
-      };
-      wkb::statuses points(count / width + 1, WKB_STATUS_BAD_LEVELS);
-      points[0] = WKB_STATUS_NULL_ROW;
-      is_bad({.words = {}, .validity = &validity}, WKB_KIND_POINT, points);
-      is_bad({.words = {}, .ring_ends = one}, WKB_KIND_LINE_STRING, {WKB_STATUS_BAD_LEVELS});
-      is_bad({.words = {}, .row_ends = none}, WKB_KIND_MULTI_POINT, {WKB_STATUS_BAD_LEVELS});
+      wkb::statuses bad(count / width + 1, WKB_STATUS_BAD_LEVELS);
+      bad[0] = WKB_STATUS_NULL_ROW;
+      const auto all = write({.words = {}, .validity = &validity}, count, WKB_KIND_POINT, dimension);
+      const auto lines = write({.words = {}, .ring_ends = one}, count, WKB_KIND_LINE_STRING, dimension);
+      const auto rows = write({.words = {}, .row_ends = none}, count, WKB_KIND_MULTI_POINT, dimension);
+      expect(all.statuses == bad && all.data.empty() && lines.data.empty() && rows.data.empty(), "words left over");
+      expect(lines.statuses == wkb::statuses{WKB_STATUS_BAD_LEVELS} && rows.statuses == lines.statuses, "statuses");
     }
-  expect(wkb::rows_from_coordinates({}, WKB_KIND_POINT, WKB_DIM_XY, BIG).ends.empty(), "no rows of one's own");
+  expect(write({}, 0, WKB_KIND_POINT).ends.empty(), "no rows of one's own");
   expect(wkb::check_rows(wkb::column({}, std::span<const std::int32_t>())).empty(), "no rows");
 }
 
-// Facts of no rows, of rows that are none, and of zeros of both signs in any order.
+// Facts of rows of each sort, of no rows, and of zeros of both signs in any order.
 void facts() {
   constexpr double INFINITE = std::numeric_limits<double>::infinity();
-  const auto of = [](const rows &it) { return wkb::facts_of_rows(filled(it).column()); };
-  for (const auto &none : {of({}), of({"", "0201000000"}), wkb::facts_of_rows(wkb_column{})})
-    for (const wkb_range &it : {none.box.x, none.box.y, none.box.z, none.box.m})
-      expect(it.count == 0 && it.least == INFINITE && it.greatest == -INFINITE, "the box of no rows");
   const std::string zero = "0101000000" + std::string(32, '0');
   const std::string minus = "0101000000" "0000000000000080" + zero.substr(26);
-  for (const wkb_range &x : {of({zero, minus}).box.x, of({minus, zero}).box.x})
+  const std::string line = "01ea03000001000000" + ONE_AND_TWO + "00000000000008c0";
+  const std::string with_srid = "0101000020e6100000" + ONE_AND_TWO, of_two = "010100002002000000" + ONE_AND_TWO;
+  filled several(zero, with_srid, line, "", of_two, "02", with_srid, POINT_TEXT);
+  several.offsets.back() = 1000000;
+  const std::uint8_t validity = 0xf7;
+  const auto all = wkb::facts_of_rows(several.column(&validity));
+  expect(all.rows == 8 && all.accepted == 5 && all.null_rows == 1 && all.refused == 1, "how many rows there are");
+  expect(all.of_kind[WKB_KIND_POINT][WKB_DIM_XY] == 4 && all.of_kind[WKB_KIND_LINE_STRING][WKB_DIM_XYZ] == 1, "kinds");
+  expect(all.without_srid == 2 && all.srids == std::vector<std::uint32_t>{2, 4326}, "SRIDs");
+  expect(is_same(all.box, wkb_box{{0, 1, 5}, {0, 2, 5}, {-3, -3, 1}, {INFINITE, -INFINITE, 0}}), "the box");
+  for (const auto &none : {wkb::facts_of_rows(filled("", "0201000000").column()), wkb::facts_of_rows({})})
+    for (const wkb_range &it : {none.box.x, none.box.y, none.box.z, none.box.m})
+      expect(it.count == 0 && it.least == INFINITE && it.greatest == -INFINITE, "the box of no rows");
+  for (const auto &it : {filled(zero, minus), filled(minus, zero)}) {
+    const wkb_range x = wkb::facts_of_rows(it.column()).box.x;
     expect(x.least == 0 && std::signbit(x.least) && x.greatest == 0 && !std::signbit(x.greatest), "zeros");
+  }
 }
 
 }  // namespace
@@ -288,8 +266,8 @@ int main() {
   rows_that_are_no_members();
   readers();
   outputs();
-  columns();
+  allocations();
   ranges();
-  words_without_a_whole_coordinate();
+  levels_without_ends();
   facts();
 }

@@ -1,50 +1,18 @@
-// Compares wkb.hpp with wkb.h, call by call, over the inputs of test/lasting.rows, over changed ones, and over columns
-// of both with null rows and bad offsets; test/lasting.c compares wkb.h with the file's answers. It is compiled without
-// exceptions. It prints nothing, and an error if there is one.
+// Tries wkb.hpp over the inputs of test/lasting.rows: each call beside wkb.h, which test/lasting.c compares with the
+// file's answers, and columns of them, with null rows and bad offsets, beside the calls for one row. It is compiled
+// without exceptions. It prints nothing, and an error if there is one.
 #include "hpp.h"
 
-#include "wkb_facts.hpp"
-
 #include <algorithm>
-#include <cmath>
-#include <cstring>
 #include <fstream>
-#include <set>
 
 namespace {
 
-using input = std::vector<std::byte>;
 constexpr wkb_fault UNTOLD{7, 7, 7, 7, 7, 7};
 constexpr std::byte KEPT{7};
-constexpr std::size_t ROWS = 70, MOST_BITS = 200, CHANGED = 4;
-
-// The same numbers in each run.
-std::uint64_t below(std::uint64_t count) {
-  static std::uint64_t state = 1;
-  state ^= state << 13, state ^= state >> 7, state ^= state << 17;
-  return state % count;
-}
-
-template <typename Record>
-bool is_same(const Record &a, const Record &b) {
-  return std::memcmp(&a, &b, sizeof a) == 0;
-}
-
-template <typename A, typename B>
-bool are_same(const A &a, const B &b) {
-  return std::ranges::equal(std::as_bytes(std::span(a)), std::as_bytes(std::span(b)));
-}
-
-// An input with a few bytes changed, or the front of one.
-input changed(input it) {
-  for (std::uint64_t left = below(4); left > 0 && !it.empty(); left--) it[below(it.size())] = std::byte(1 << below(8));
-  if (below(3) == 0) it.resize(below(it.size() + 1));
-  return it;
-}
 
 // Each call tells the fault, and leaves what it would have written to.
 void refuses(wkb::bytes in, const wkb_fault &wanted) {
-  static const auto POINT = spelled("0101000000000000000000f03f0000000000000040");
   wkb_fault fault = UNTOLD;
   std::uint32_t which = 0;
   input out(3, KEPT), room(in.size() + 4, KEPT);
@@ -159,49 +127,36 @@ void is_one(wkb::bytes in) {
   reads(in, found.parts);
 }
 
-// A column of inputs, with null rows and offsets that are bad, whose bits of validity begin anywhere.
+// Each row of a column has what the calls for one have found, and none else has anything.
 template <typename Offset>
-struct filled {
-  std::size_t first = below(MOST_BITS);
-  input data{};
-  std::vector<Offset> offsets{0};
-  std::vector<std::uint8_t> validity = std::vector<std::uint8_t>((ROWS + MOST_BITS) / 8 + 1);
-
-  void add(const input &it) {
-    data.insert(data.end(), it.begin(), it.end());
-    offsets.push_back(static_cast<Offset>(data.size()));
-  }
-  // Some of its rows are null, and every second column has a bad offset.
-  wkb_column column() {
-    for (std::uint8_t &byte : validity) byte = static_cast<std::uint8_t>(below(4) ? 255 : below(256));
-    if (below(2) == 0) offsets[below(offsets.size())] = static_cast<Offset>(below(data.size() + 9)) - 4;
-    return wkb::column(data, std::span<const Offset>(offsets), below(8) ? validity.data() : nullptr, first);
-  }
-};
-
-void checks(const wkb_column &column, const wkb::statuses &wanted) {
-  std::vector<wkb_found> entries(column.rows);
-  std::vector<wkb_box> boxes(column.rows);
-  wkb::statuses statuses = wanted;
-  wkb_column_found(&column, entries.data(), statuses.data());
-  wkb_column_bounds(&column, boxes.data(), statuses.data());
+void are_rows(const filled<Offset> &of, const wkb_column &column, const wkb::statuses &wanted) {
+  const wkb_options options{static_cast<wkb_order>(below(2)), static_cast<wkb_form>(below(4)), 4326}, unknown{2, 0, 0};
   const auto found = wkb::found_of_rows(column);
   const auto bounds = wkb::bounds_of_rows(column);
-  expect(wkb::check_rows(column) == wanted && found.statuses == wanted && bounds.statuses == wanted, "statuses");
-  expect(are_same(found.found, entries) && are_same(bounds.boxes, boxes), "what is found, and bounds");
-}
-
-void lists(const wkb_column &column, const wkb::statuses &wanted, const wkb_options &options) {
-  wkb::statuses statuses(column.rows);
-  std::vector<std::uint64_t> ends(column.rows);
-  std::vector<wkb_part> parts(column.size + 1);
-  parts.resize(wkb_column_parts(&column, parts.data(), parts.size(), ends.data(), statuses.data()));
   const auto listed = wkb::parts_of_rows(column);
-  expect(listed.statuses == wanted && listed.ends == ends && are_same(listed.parts, parts), "parts_of_rows");
-  input out(column.size + 4 * column.rows);
-  out.resize(wkb_column_write(&column, &options, out.data(), out.size(), ends.data(), statuses.data()));
-  const auto written = wkb::write_rows(column, options);
-  expect(written.statuses == statuses && written.ends == ends && written.data == out, "write_rows");
+  const auto written = wkb::write_rows(column, options), none = wkb::write_rows(column, unknown);
+  const auto is_all = [&](const wkb::statuses &it) { return it == wanted; };
+  expect(is_all(wkb::check_rows(column)) && is_all(found.statuses) && is_all(bounds.statuses), "statuses");
+  expect(is_all(listed.statuses) && is_all(written.statuses) && none.data.empty(), "statuses of what is written");
+  wkb::reader reader;
+  input out;
+  std::size_t part = 0, byte = 0;
+  for (std::size_t i = 0; i < column.rows; i++) {
+    wkb_box box = wkb::facts_of_rows({}).box;
+    wkb_found one{};
+    if (wanted[i] == WKB_STATUS_OK) {
+      const wkb::bytes row = of.row(i);
+      one = *wkb::check(row), box = *wkb::try_bounds(row);
+      const auto parts = std::span(listed.parts).subspan(part, one.parts);
+      expect(reader.try_read(row) && are_same(reader.table(), parts), "parts_of_rows");
+      const auto bytes = std::span(written.data).subspan(byte, wkb::try_write(row, options, out) ? out.size() : 0);
+      expect(are_same(out, bytes), "write_rows");
+      part += parts.size(), byte += bytes.size();
+    }
+    expect(is_same(found.found[i], one) && is_same(bounds.boxes[i], box), "what is found, and bounds");
+    expect(listed.ends[i] == part && written.ends[i] == byte, "ends");
+  }
+  expect(listed.parts.size() == part && written.data.size() == byte, "all that there is");
 }
 
 // Also of an unknown kind and dimension.
@@ -218,84 +173,44 @@ void collects(const wkb_column &column, wkb_kind kind, wkb_dim dimension, const 
   expect(is_same(told, is_made ? UNTOLD : fault), "the fault of try_collect");
 }
 
-// From levels of which some have no ends, as by wkb.h in more room than they need.
-void comes_back(const wkb::row_coordinates &it, const wkb_column &column, wkb_dim dimension,
+// The rows of a kind come back from their levels, whatever NaNs an empty point has.
+template <typename Offset>
+void comes_back(const filled<Offset> &of, const wkb_column &column, const wkb::row_found &found, wkb_dim dimension,
                 const wkb_options &options) {
-  for (std::uint64_t with = 0; with < 8; with++) {
-    const auto kind = static_cast<wkb_kind>(1 + below(6));
-    wkb::levels from{.words = it.words};
-    wkb_levels raw{it.words.data(), it.words.size(), nullptr, it.words.size() / wkb::width_of(dimension), nullptr, 0,
-                   nullptr, 0, nullptr, 0};
-    if (with & 1) from.ring_ends = it.ring_ends, raw.ring_ends = it.ring_ends.data(), raw.rings = it.ring_ends.size();
-    raw.singles = raw.rings;
-    if (with & 2) from.single_ends = it.single_ends, raw.single_ends = it.single_ends.data();
-    if (with & 2) raw.singles = it.single_ends.size();
-    raw.rows = raw.singles;
-    if (with & 4) from.row_ends = it.row_ends, raw.row_ends = it.row_ends.data(), raw.rows = column.rows;
-    if (with & 4) from.validity = raw.validity = column.validity;
-    from.validity_offset = raw.validity_offset = column.validity_offset;
-    wkb::statuses statuses(raw.rows);
-    std::vector<std::uint64_t> ends(raw.rows);
-    input out(8 * it.words.size() + 50 * (raw.singles + raw.rows));
-    out.resize(wkb_column_from_coordinates(&raw, kind, dimension, &options, out.data(), out.size(), ends.data(),
-                                           statuses.data()));
+  const auto it = wkb::coordinates_of_rows(column, dimension);
+  expect(it.statuses == found.statuses, "statuses of coordinates");
+  for (wkb_kind kind = WKB_KIND_POINT; kind < WKB_KIND_GEOMETRY_COLLECTION; kind++) {
+    std::vector<std::uint8_t> bits(column.rows / 8 + 2);
+    const auto is_own = [&](std::size_t row) {
+      return found.found[row].kind == kind && found.found[row].dimension == dimension;
+    };
+    for (std::size_t row = 0; row < column.rows; row++)
+      if (is_own(row)) bits[(row + 3) / 8] = static_cast<std::uint8_t>(bits[(row + 3) / 8] | 1u << (row + 3) % 8);
+    const wkb::levels from{it.words, it.ring_ends, it.single_ends, it.row_ends, bits.data(), 3};
     const auto written = wkb::rows_from_coordinates(from, kind, dimension, options);
-    expect(written.statuses == statuses && written.ends == ends && written.data == out, "rows_from_coordinates");
+    std::size_t begin = 0;
+    input out, own;
+    for (std::size_t row = 0; row < column.rows; begin = written.ends[row++]) {
+      const auto bytes = wkb::bytes(written.data).subspan(begin, written.ends[row] - begin);
+      expect(written.statuses[row] == (is_own(row) ? WKB_STATUS_OK : WKB_STATUS_NULL_ROW), "which rows come back");
+      if (!is_own(row)) expect(bytes.empty(), "a row that is null");
+      else expect(wkb::try_write(bytes, BIG, out) && wkb::try_write(of.row(row), BIG, own) && out == own, "a row");
+    }
+    expect(begin == written.data.size() && wkb::rows_from_coordinates(from, kind, dimension, {2, 0, 0}).data.empty(),
+           "all that comes back");
   }
 }
 
-void splits(const wkb_column &column, const wkb::statuses &wanted, wkb_dim dimension, const wkb_options &options) {
-  wkb::row_coordinates it{wanted, std::vector<std::uint64_t>(column.rows), {}, {}, {}};
-  wkb_coordinates to{nullptr, 0, nullptr, 0, nullptr, 0, it.row_ends.data(), 0, 0, 0};
-  wkb_column_coordinates(&column, dimension, &to, it.statuses.data());
-  it.words.resize(to.words_room = to.coordinates * wkb::width_of(dimension)), to.words = it.words.data();
-  it.ring_ends.resize(to.ring_room = to.rings), to.ring_ends = it.ring_ends.data();
-  it.single_ends.resize(to.single_room = to.singles), to.single_ends = it.single_ends.data();
-  wkb_column_coordinates(&column, dimension, &to, it.statuses.data());
-  const auto found = wkb::coordinates_of_rows(column, dimension);
-  expect(found.statuses == wanted && found.row_ends == it.row_ends && found.single_ends == it.single_ends, "ends");
-  expect(found.ring_ends == it.ring_ends && are_same(found.words, it.words), "coordinates_of_rows");
-  comes_back(it, column, dimension, options);
-}
-
-// Numbers have no NaN among them, and -0 is below +0.
-void join(wkb_range &all, const wkb_range &own) {
-  const auto is_less = [](double a, double b) { return a < b || (a == b && std::signbit(a) > std::signbit(b)); };
-  all = {std::min(all.least, own.least, is_less), std::max(all.greatest, own.greatest, is_less), all.count + own.count};
-}
-
-// The facts of a column, which wkb.h doesn't have.
-void joins(const wkb_column &column, const wkb::statuses &wanted) {
-  const auto found = wkb::found_of_rows(column);
-  const auto bounds = wkb::bounds_of_rows(column);
-  wkb::column_facts all{column.rows, 0, 0, 0, {}, 0, {}, wkb::facts_of_rows({}).box};
-  std::set<std::uint32_t> srids;
-  for (std::size_t i = 0; i < column.rows; i++) {
-    const wkb_box &box = bounds.boxes[i];
-    all.null_rows += wanted[i] == WKB_STATUS_NULL_ROW, all.refused += wanted[i] >= WKB_STATUS_SHORT_HEADER;
-    if (wanted[i] != WKB_STATUS_OK) continue;
-    join(all.box.x, box.x), join(all.box.y, box.y), join(all.box.z, box.z), join(all.box.m, box.m);
-    all.accepted++, all.of_kind[found.found[i].kind][found.found[i].dimension]++;
-    if (found.found[i].has_srid) srids.insert(found.found[i].srid);
-    else all.without_srid++;
-  }
-  const auto facts = wkb::facts_of_rows(column);
-  expect(facts.rows == all.rows && facts.null_rows == all.null_rows, "how many rows there are");
-  expect(facts.accepted == all.accepted && facts.refused == all.refused, "how many are accepted and refused");
-  expect(facts.of_kind == all.of_kind && facts.without_srid == all.without_srid, "kinds and rows without an SRID");
-  expect(std::ranges::equal(facts.srids, srids) && is_same(facts.box, all.box), "the SRIDs and the box");
-}
-
-void are_rows(const wkb_column &column) {
+template <typename Offset>
+void is_column(filled<Offset> &of) {
+  const wkb_column column = of.spoiled();
   const wkb_options options{static_cast<wkb_order>(below(2)), static_cast<wkb_form>(below(4)), 4326};
   const wkb_options known_or_not{static_cast<wkb_order>(below(3)), static_cast<wkb_form>(below(5)), 4326};
   wkb::statuses wanted(column.rows);
   wkb_column_check(&column, wanted.data());
-  checks(column, wanted);
-  lists(column, wanted, known_or_not);
-  joins(column, wanted);
+  are_rows(of, column, wanted);
   for (wkb_dim dimension = WKB_DIM_XY; dimension <= WKB_DIM_XYZM; dimension++)
-    splits(column, wanted, dimension, options);
+    comes_back(of, column, wkb::found_of_rows(column), dimension, options);
   for (std::size_t rows = 0; rows < column.rows; rows += 1 + rows) {
     wkb_column some = column;
     some.rows = rows;
@@ -306,32 +221,25 @@ void are_rows(const wkb_column &column) {
 
 template <typename Offset>
 void as_columns(const std::vector<input> &rows) {
-  filled<Offset> it;
-  for (const input &row : rows) {
-    it.add(row);
-    if (it.offsets.size() <= ROWS) continue;
-    are_rows(it.column());
-    it = {};
+  for (std::size_t i = 0; i < rows.size(); i += ROWS) {
+    filled<Offset> it;
+    for (std::size_t row = i; row < std::min(i + ROWS, rows.size()); row++) it.add(rows[row]);
+    is_column(it);
   }
-  are_rows(it.column());
 }
 
 }  // namespace
 
 int main() {
   std::ifstream file("test/lasting.rows", std::ios::binary);
-  std::vector<input> rows, all;
+  std::vector<input> rows;
   for (std::string line; std::getline(file, line);)
     if (!line.starts_with('#')) rows.push_back(spelled(line.substr(0, line.find(' '))));
   expect(rows.size() > 1000, "the rows");
-  for (const input &row : rows) {
-    all.push_back(row);
-    for (std::size_t i = 0; i < CHANGED; i++) all.push_back(changed(row));
-  }
-  for (std::size_t i = 0; i < all.size(); i++) {
-    is_one(all[i]);
-    compares(all[i], all[below(i + 1)]);
+  for (std::size_t i = 0; i < rows.size(); i++) {
+    is_one(rows[i]);
+    compares(rows[i], rows[below(i + 1)]);
   }
   as_columns<std::int32_t>(rows);
-  as_columns<std::int64_t>(all);
+  as_columns<std::int64_t>(rows);
 }
