@@ -1,7 +1,6 @@
 // SPDX-License-Identifier: MIT OR Apache-2.0
-//! The worked cases over the erased sources, as tests: those of crates/rows, and the tests of wkb_read_cases and
-//! wkb_write_cases. `tools/erase --cases` makes them of their sources; here is what they take of Rattle's std, of its
-//! tests and of hex.
+//! The worked cases over the erased sources, as tests: those of crates/rows, and the tests of wkb_tests. `tools/erase
+//! --cases` makes them of their sources; here is what they take of Rattle's std, of its tests and of hex.
 
 /// A line of what the program prints.
 macro_rules! say {
@@ -29,8 +28,7 @@ mod cases {
     pub mod wkb_cases;
     pub mod wkb_clients;
     pub mod wkb_command;
-    pub mod wkb_read_cases;
-    pub mod wkb_write_cases;
+    pub mod wkb_tests;
 }
 
 use calls::erased::*;

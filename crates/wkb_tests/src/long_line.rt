@@ -1,7 +1,7 @@
 //! A line string of any number of coordinates, which holds none of them.
 
 ghost use Rattle.wkb_geom.specs.declared.common.Dimensions.TheVariants.{Xy};
-ghost use Rattle.wkb_write_cases.specs.LongLine.{at_the_origin, at_the_origin-lawful};
+ghost use Rattle.wkb_tests.specs.LongLine.{at_the_origin, at_the_origin-lawful};
 
 use wkb::geom::{Coord, Dimensioned, Dimensions, LineStringTrait};
 

@@ -1,0 +1,53 @@
+//! What can't be a row of the worked cases, as tests of public calls: what outlives a geometry, cut inputs, printed
+//! texts, a caller's own geometries, sinks and writers, and the program over readers and writers that fail. The bytes
+//! and numbers that they expect were written down before the program ran.
+//!
+//! The inputs of the calls that allocate are made without an allocation, so that only those of the call under test can
+//! fail, each in turn: `checks/memory/run wkb_tests` does that. A test in which an allocation failed ends with that
+//! error and no other, and one in which none did passes.
+#![tactic(auto)]
+
+#[cfg(test)]
+mod all_coordinates;
+#[cfg(test)]
+mod answers;
+#[cfg(test)]
+mod blocks;
+#[cfg(test)]
+mod calls;
+#[cfg(test)]
+mod cases;
+#[cfg(test)]
+mod clones;
+#[cfg(test)]
+mod cut_inputs;
+#[cfg(test)]
+mod each_kind;
+#[cfg(test)]
+mod equality;
+#[cfg(test)]
+mod failures;
+#[cfg(test)]
+mod kinds;
+#[cfg(test)]
+mod long_line;
+#[cfg(test)]
+mod packages;
+#[cfg(test)]
+mod printed;
+#[cfg(test)]
+mod program;
+#[cfg(test)]
+mod reading;
+#[cfg(test)]
+mod refusals;
+#[cfg(test)]
+mod sinks;
+#[cfg(test)]
+mod views;
+#[cfg(test)]
+mod whole;
+#[cfg(test)]
+mod without_memory;
+#[cfg(test)]
+mod writing;
