@@ -246,6 +246,7 @@ class Records(unittest.TestCase):
             values = values_of(record)
             made = type(record)(**values)
             self.assertEqual((made, repr(made), values_of(made)), (record, repr(record), values))
+            self.assertEqual(pickle.loads(pickle.dumps(record)), record)
             self.assertRaises(TypeError, type(record))
 
 
@@ -256,10 +257,6 @@ class Pickling(unittest.TestCase):
         again = pickle.loads(pickle.dumps(raised.exception))
         self.assertEqual(str(again), str(raised.exception))
         self.assertEqual((again.fault, again.which), (raised.exception.fault, 2))
-
-    def test_records(self):
-        for record in (wkb.check(POLYGON), wkb.parts(POLYGON)[1], wkb.bounds(LINE)):
-            self.assertEqual(pickle.loads(pickle.dumps(record)), record)
 
     def test_tables(self):
         column = wkb.Column(*rows_of(POLYGON, LINE))

@@ -8,7 +8,7 @@ import unittest
 
 from capsules import Arrow
 from samples import EMPTY_POINT, LINE, POINT, POINTS, POLYGON, STATUSES, flat, numpy, rows_of, statuses
-from porchsorrel_wkb import Column, Status
+from porchsorrel_wkb import Column, Kind, Status, column_from_coordinates
 
 
 class Split(unittest.TestCase):
@@ -65,11 +65,14 @@ class Taken(unittest.TestCase):
     """What a column is made of."""
 
     def test_offsets(self):
-        data, offsets = 3 * POINT, [0, 21, 42, 63]
+        """Of a column, and of levels, which are copied where numbers of eight bytes can't be."""
+        data, offsets, coordinates = 3 * POINT, [0, 21, 42, 63], array.array("d", bytes(1008))
+        packed = struct.pack("=4q", *offsets)
         for taken in (
             [array.array(code, offsets) for code in "ilqLQ"]
             + [(kind * 4)(*offsets) for kind in (ctypes.c_int32, ctypes.c_int64, ctypes.c_uint64)]
             + [memoryview(struct.pack("=4i", *offsets)).cast("i")]
+            + [memoryview(bytes(i) + packed)[i:].cast("q") for i in range(1, 8)]
             + ([numpy.array(offsets, kind) for kind in ("i4", "i8", "u8")] if numpy else [])
             + ([numpy.array([0, 9, 21, 9, 42, 9, 63], kind)[::2] for kind in ("i4", "i8")] if numpy else [])
         ):
@@ -77,14 +80,18 @@ class Taken(unittest.TestCase):
             size = memoryview(taken).itemsize
             self.assertEqual(statuses(Column(data, taken, offset_size=size)), [0, 0, 0], taken)
             self.assertRaises(TypeError, Column, data, taken, offset_size=12 - size)
+            written = column_from_coordinates(Kind.LINE_STRING, coordinates, taken)
+            self.assertEqual(list(written.offsets), [0, 345, 690, 1035], taken)
         swapped = ">i8" if sys.byteorder == "little" else "<i8"
         for refused in (
             [array.array(code, offsets) for code in "hHIbdf"]
             + [(ctypes.c_int64.__ctype_be__ * 4)(*offsets), (ctypes.c_int32.__ctype_be__ * 4)(*offsets)]
-            + [struct.pack("=4q", *offsets), "0123456789abcdef", None, offsets]
+            + [packed, "0123456789abcdef", offsets]
             + ([numpy.array(offsets, kind) for kind in (swapped, "u4", "f8", "i2", "?")] if numpy else [])
         ):
             self.assertRaises(TypeError, Column, data, refused)
+            self.assertRaises(TypeError, column_from_coordinates, Kind.LINE_STRING, coordinates, refused)
+        self.assertRaises(TypeError, Column, data, None)
         self.assertRaises(TypeError, Column, data, memoryview(bytes(32)).cast("B", (4, 8)), offset_size=8)
 
     def test_raw_offsets(self):
@@ -93,6 +100,9 @@ class Taken(unittest.TestCase):
             raw = struct.pack(f"=4{code}", 0, 21, 42, 63)
             for taken in (raw, bytearray(raw), memoryview(raw).cast("b"), memoryview(raw).cast("c")):
                 self.assertEqual(statuses(Column(3 * POINT, taken, offset_size=size)), [0, 0, 0])
+                coordinates = array.array("d", bytes(1008))
+                written = column_from_coordinates(Kind.LINE_STRING, coordinates, taken, offset_size=size)
+                self.assertEqual(list(written.offsets), [0, 345, 690, 1035])
 
     def test_no_rows(self):
         for offsets in (array.array("q"), array.array("q", [0]), array.array("i"), array.array("i", [5])):

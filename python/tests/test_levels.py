@@ -53,19 +53,6 @@ class Written(unittest.TestCase):
 class Taken(unittest.TestCase):
     """What levels are made of."""
 
-    def test_offsets(self):
-        """Offsets of either size, in raw bytes, in steps, or where numbers of eight bytes can't be."""
-        numbers, expected = doubles(1, 2, 3, 4, 1, 2), [0, 41, 66]
-        raw, narrow = struct.pack("=3q", 0, 2, 3), struct.pack("=3i", 0, 2, 3)
-        for taken, size in (
-            [(array.array(code, [0, 2, 3]), None) for code in "ilqLQ"]
-            + [((kind * 3)(0, 2, 3), None) for kind in (ctypes.c_int32, ctypes.c_int64, ctypes.c_uint64)]
-            + [(raw, 8), (narrow, 4)] + [(memoryview(bytes(i) + raw)[i:].cast("q"), None) for i in range(1, 8)]
-            + ([(numpy.array([0, 9, 2, 9, 3], kind)[::2], None) for kind in ("i4", "i8", "u8")] if numpy else [])
-        ):
-            it = column_from_coordinates(Kind.LINE_STRING, numbers, taken, offset_size=size)
-            self.assertEqual((list(it.offsets), list(it.statuses)), (expected, [0, 0]), taken)
-
     def test_coordinates(self):
         raw = words(1, 2)
         for taken in [
@@ -93,11 +80,9 @@ class Taken(unittest.TestCase):
              (1, memoryview(words(1, 2)).cast("d", (1, 1, 2))), {}),
             (ValueError, "begin with 0, and not with 1", (2, numbers, offsets(1, 1)), {}),
             (ValueError, "begin with 0, and not with 2", (2, numbers, offsets(2)), {}),
-            (TypeError, "raw bytes need offset_size", (2, numbers, bytes(16)), {}),
             (ValueError, "7 bytes are after the last offset", (2, numbers, bytes(23)), {"offset_size": 8}),
             (ValueError, "4 bytes are after the last offset", (2, numbers, bytes(20)), {"offset_size": 8}),
             (ValueError, "3 bytes are after the last offset", (2, numbers, bytes(7)), {"offset_size": 4}),
-            (TypeError, "format 'd' are not 32-bit or 64-bit", (2, numbers, numbers), {}),
             (ValueError, "0 bytes of validity hold fewer than 1 bits", (1, numbers), {"validity": b""}),
             (ValueError, "hold fewer than 9 bits", (1, numbers), {"validity": b"\xff", "validity_offset": 8}),
             (TypeError, "is not bits in bytes", (1, numbers), {"validity": numbers}),
