@@ -42,14 +42,14 @@ class Allocated(ctypes.Structure):
 
 
 def allocated():
-    """How many blocks Python has, and pieces of 16 bytes the library's allocator has, where it tells."""
+    """How many blocks Python has, and pieces of 64 bytes the library's allocator has, where it tells."""
     KEPT.clear()
     gc.collect()
     told, tell = Allocated(), getattr(ctypes.CDLL(None), "mallinfo2", None)
     if tell is not None:
         tell.restype = Allocated
         told = tell()
-    return sys.getallocatedblocks(), (told.mapped + told.used) // 16
+    return sys.getallocatedblocks(), (told.mapped + told.used) // 64
 
 
 def growth_of(call):
