@@ -1,6 +1,7 @@
 // SPDX-License-Identifier: MIT OR Apache-2.0
-//! The worked cases over the erased sources, as tests: those of crates/rows, and the tests of wkb_tests. `tools/erase
-//! --cases` makes them of their sources; here is what they take of Rattle's std, of its tests and of hex.
+//! The worked cases over the erased sources, as tests: those of crates/rows, and the tests of wkb_tests, which
+//! `tools/erase --cases` makes of their sources; here is what they take of Rattle's std, of its tests and of hex. The
+//! tests in rust/cases are not proved.
 
 /// A line of what the program prints.
 macro_rules! say {
@@ -30,6 +31,11 @@ mod cases {
     pub mod wkb_command;
     pub mod wkb_tests;
 }
+
+#[path = "cases/blocks.rs"]
+mod blocks;
+#[path = "cases/clients.rs"]
+mod clients;
 
 use calls::erased::*;
 use cases::*;

@@ -86,13 +86,6 @@ pub const TWO_WORDS: Corner<'static> = Corner {
     origin: &[0, 0],
 };
 
-/// A corner that can't be written.
-pub const FIVE_WORDS: Corner<'static> = Corner {
-    dim: Dimensions::Unknown(5),
-    words: &[ONE, TWO, 0, 0, 0],
-    origin: &[0, 0, 0, 0, 0],
-};
-
 /// What size function and writer returned.
 #[derive(Clone, Copy)]
 pub struct Answers {

@@ -8,11 +8,7 @@
 #![tactic(auto)]
 
 #[cfg(test)]
-mod all_coordinates;
-#[cfg(test)]
 mod answers;
-#[cfg(test)]
-mod blocks;
 #[cfg(test)]
 mod calls;
 #[cfg(test)]
@@ -28,11 +24,9 @@ mod equality;
 #[cfg(test)]
 mod failures;
 #[cfg(test)]
-mod kinds;
+pub mod kinds;
 #[cfg(test)]
 mod long_line;
-#[cfg(test)]
-mod packages;
 #[cfg(test)]
 mod printed;
 #[cfg(test)]
@@ -42,7 +36,7 @@ mod reading;
 #[cfg(test)]
 mod refusals;
 #[cfg(test)]
-mod sinks;
+pub mod sinks;
 #[cfg(test)]
 mod views;
 #[cfg(test)]

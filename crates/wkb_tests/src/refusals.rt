@@ -1,67 +1,51 @@
-//! Each writer of a geometry that can't be written, over each sink: nothing is written, and no sink failed.
+//! A point that can't be written, over each sink: nothing is written, and no sink failed.
 
 ghost use Rattle.std.specs.Prelude.{◌≡◌, false};
 
 use crate::answers::{Answer, size_answer, writer_answer};
-use crate::kinds::{Answers, ENCODINGS, FIVE_WORDS, Kind, any, put_kind};
+use crate::kinds::{Answers, any};
 use crate::long_line::LongLine;
 use crate::sinks::{LimitedSink, LimitedWriter, Limits};
-use std::alloc::Global;
 use std::test::Fail;
 use wkb::Endianness;
 use wkb::geom::{Dimensions, Geometry};
 use wkb::writer::{Out, Sink, SliceSink, VecSink, line_string_wkb_size, write_line_string};
 use wkb_cases::spelled::Spelled;
-use wkb_cases::support::{collection_of_two, empty_point_of, iso};
+use wkb_cases::support::{ONE, TWO, collection_of_two, empty_point_of, iso, point_of};
 
-// Whether size function and writer reject the kind with five words a coordinate, and the sink has not failed.
-fn refuses<S: Sink>(alloc: Global, sink: &mut S, kind: Kind) -> Result<bool, Fail>
+// Whether size function and writer reject a point of five words, and the sink has not failed.
+fn refuses<S: Sink>(sink: &mut S) -> Result<bool, Fail>
     requires working { S.has_failed sink.old ≡ false }
 {
-    let Answers { size, written } = put_kind(alloc, sink, kind, FIVE_WORDS)?;
+    let point = point_of(Dimensions::Unknown(5), &[ONE, TWO, 0, 0, 0])?;
+    let Answers { size, written } = any(sink, &Geometry::Point(point));
     let refusal = Answer::UnsupportedDimensions(5);
     Ok(size == refusal && written == refusal && !sink.failed())
 }
 
-fn is_refused_in_memory(alloc: Global, kind: Kind) -> Result<bool, Fail> {
-    let mut vec = VecSink::new(alloc);
-    let mut room = [7u8; 128];
-    let mut slice = SliceSink::new(&mut room);
-    let is_refused = refuses(alloc, &mut vec, kind)? && refuses(alloc, &mut slice, kind)?;
-    let len = slice.len();
-    Ok(is_refused && vec.into_vec().is_empty() && len == 0 && room == [7u8; 128])
-}
-
-fn is_refused_in_out(alloc: Global, kind: Kind) -> Result<bool, Fail> {
-    let mut out = Out::new(Spelled::new());
-    let mut interrupted = Out::new(LimitedWriter::new(usize::MAX, Some(1)));
-    let is_refused = refuses(alloc, &mut out, kind)? && refuses(alloc, &mut interrupted, kind)?;
-    Ok(is_refused && out.into_inner().len() == 0 && interrupted.into_inner().writes == 0)
-}
-
-fn is_refused_in(alloc: Global, puts: usize, most: usize, kind: Kind) -> Result<bool, Fail> {
+fn is_refused_in(puts: usize, most: usize) -> Result<bool, Fail> {
     let mut sink = LimitedSink::new(Limits {
         puts,
         most,
         room: 128,
     });
-    Ok(refuses(alloc, &mut sink, kind)? && sink.taken.len() == 0)
-}
-
-fn is_refused(alloc: Global, kind: Kind) -> Result<bool, Fail> {
-    Ok(
-        is_refused_in_memory(alloc, kind)?
-            && is_refused_in_out(alloc, kind)?
-            && is_refused_in(alloc, 0, 128, kind)?
-            && is_refused_in(alloc, 128, 0, kind)?
-            && is_refused_in(alloc, 128, 1, kind)?,
-    )
+    Ok(refuses(&mut sink)? && sink.taken.len() == 0)
 }
 
 #[test]
 fn unknown_dimensions(rt: HostRuntime) -> Result<(), Fail> {
-    for (kind, text) in ENCODINGS {
-        assert!(rt; is_refused(rt.alloc(), kind)?, "{text}");
+    let mut vec = VecSink::new(rt.alloc());
+    assert!(rt; refuses(&mut vec)? && vec.into_vec().is_empty());
+    let mut room = [7u8; 128];
+    let mut slice = SliceSink::new(&mut room);
+    assert!(rt; refuses(&mut slice)? && slice.len() == 0);
+    assert!(rt; room == [7u8; 128]);
+    let mut out = Out::new(Spelled::new());
+    assert!(rt; refuses(&mut out)? && out.into_inner().len() == 0);
+    let mut interrupted = Out::new(LimitedWriter::new(usize::MAX, Some(1)));
+    assert!(rt; refuses(&mut interrupted)? && interrupted.into_inner().writes == 0);
+    for (puts, most) in [(0, 128), (128, 0), (128, 1)] {
+        assert!(rt; is_refused_in(puts, most)?, "{puts} {most}");
     }
     Ok(())
 }
