@@ -12,7 +12,7 @@
 //! assert!(same(stored, point)?);
 //! # Ok::<(), porchsorrel_wkb::error::WkbError>(())
 //! ```
-pub use crate::wkb::canon::*;
+pub use crate::wkb::canon::{canonical, canonical_with_srid, same};
 
 use crate::check::{check, Summary, WkbType};
 use crate::error::WkbResult;
@@ -45,8 +45,8 @@ pub fn canonical_into(bytes: &[u8], options: &WriteOptions, out: &mut Vec<u8>) -
     Ok(())
 }
 
-/// Lays the encoding, and returns its size.
-fn lay(bytes: &[u8], found: &Summary, options: WriteOptions, out: &mut [u8]) -> usize {
+/// Lays the encoding where there is room for it, and returns its size.
+pub(crate) fn lay(bytes: &[u8], found: &Summary, options: WriteOptions, out: &mut [u8]) -> usize {
     match found.wkb_type {
         WkbType::Point(_) | WkbType::LineString(_) => lay_one_piece(bytes, found, options, out),
         WkbType::Polygon(_) => lay_polygon(bytes, found, options, out),

@@ -1,12 +1,14 @@
 // SPDX-License-Identifier: MIT OR Apache-2.0
 //! Rows of a column as one geometry.
-use super::{numbers, Column, Status};
-use crate::check::{Cause, Refused, WkbType};
+use super::{Column, Status};
+use crate::canon::lay;
+use crate::check::{Cause, Refused, Summary, WkbType};
 use crate::rt::try_filled;
-use crate::wkb_abi::fault::NO_FAULT;
-use crate::wkb_c::wkb_raw_collect;
 use crate::wkb_check::check_member;
-use crate::wkb_geom::code::MULTI_POINT;
+use crate::wkb_geom::code::{GEOMETRY_COLLECTION, MULTI_POINT};
+use crate::wkb_geom::header::MAX_HEADER_SIZE;
+use crate::wkb_geom::words::COUNT_SIZE;
+use crate::wkb_sink::block::{lay_count, lay_header};
 use crate::writer::WriteOptions;
 use crate::AllocError;
 use alloc::vec::Vec;
@@ -14,6 +16,7 @@ use core::fmt;
 
 /// Why the rows could not be collected: the first row that can't be a member, counted from 0.
 #[derive(Clone, Copy, Debug, PartialEq, Eq)]
+#[non_exhaustive]
 pub enum NotCollected {
     /// There are 2^32 rows or more, which a count of four bytes doesn't hold.
     TooManyRows,
@@ -73,31 +76,34 @@ impl Column<'_> {
     /// If the type has no geometries as members.
     pub fn collect(&self, wkb_type: WkbType, options: &WriteOptions) -> Result<Vec<u8>, NotCollected> {
         assert!(wkb_type.kind() >= MULTI_POINT, "members of {wkb_type:?}");
-        let size = self.collect_into(wkb_type, options, &mut [])?;
-        let mut data = try_filled(0, size)?;
-        self.collect_into(wkb_type, options, &mut data)?;
+        let count = u32::try_from(self.len()).map_err(|_| NotCollected::TooManyRows)?;
+        // A member has no SRID, so its encoding is no longer than its row.
+        let mut room = MAX_HEADER_SIZE + COUNT_SIZE;
+        self.members(wkb_type).try_for_each(|it| it.map(|(_, found)| room += found.bytes))?;
+        let mut data = try_filled(0, room)?;
+        let header = lay_header(&mut data, 0, options, wkb_type);
+        let mut at = lay_count(&mut data, header, options.endianness, count);
+        for (bytes, found) in self.members(wkb_type).flatten() {
+            at += lay(bytes, &found, options.inner(), &mut data[at..]);
+        }
+        data.truncate(at);
         Ok(data)
     }
 
-    /// Writes the geometry if there is room for it, and returns its size.
-    fn collect_into(&self, wkb_type: WkbType, options: &WriteOptions, out: &mut [u8]) -> Result<usize, NotCollected> {
-        let (raw, kind, dimension) = (self.raw(), wkb_type.kind(), wkb_type.dimension().thousands());
-        let (mut size, mut fault, mut row) = (0, NO_FAULT, 0);
-        let asked = numbers(options);
-        let status = wkb_raw_collect(&raw, self.len(), kind, dimension, &asked, out, &mut size, &mut fault, &mut row);
-        let row = row as usize;
-        match Status::of(status) {
-            Status::OK | Status::NO_ROOM => Ok(size as usize),
-            Status::TOO_MANY_ROWS => Err(NotCollected::TooManyRows),
-            Status::NULL_ROW => Err(NotCollected::NullRow(row)),
-            Status::BAD_OFFSETS => Err(NotCollected::BadOffsets(row)),
-            _ => Err(NotCollected::Refused(row, self.refused_member(row))),
-        }
-    }
-
-    /// Why a row with bytes is no member: these are rejected, or their geometry is of another type.
-    fn refused_member(&self, row: usize) -> Refused {
-        let bytes = self.raw().row(row, &mut 0).unwrap_or_default();
-        check_member(bytes).err().unwrap_or(Refused { cause: Cause::IncorrectType, part: 0, offset: 0 })
+    /// The geometry of each row, as a member of a geometry of this type.
+    fn members(&self, whole: WkbType) -> impl Iterator<Item = Result<(&[u8], Summary), NotCollected>> {
+        self.rows().enumerate().map(move |(row, bytes)| {
+            let bytes = bytes.map_err(|status| match status {
+                Status::NULL_ROW => NotCollected::NullRow(row),
+                _ => NotCollected::BadOffsets(row),
+            })?;
+            let found = check_member(bytes).map_err(|why| NotCollected::Refused(row, why))?;
+            let (kind, member) = (whole.kind(), found.wkb_type);
+            if kind == GEOMETRY_COLLECTION || member.kind() + 3 == kind && member.dimension() == whole.dimension() {
+                Ok((bytes, found))
+            } else {
+                Err(NotCollected::Refused(row, Refused { cause: Cause::IncorrectType, part: 0, offset: 0 }))
+            }
+        })
     }
 }

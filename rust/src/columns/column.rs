@@ -1,15 +1,16 @@
 // SPDX-License-Identifier: MIT OR Apache-2.0
 //! A column of encodings, as Arrow has it.
-use super::{numbers, numbers_with_own_srid, Coordinates, Encodings, Status};
-use crate::check::{Bounds, Summary};
+use super::{Coordinates, Encodings, Status};
+use crate::canon::lay;
+use crate::check::{bounds, Bounds, Summary};
 use crate::reader::Dimension;
 use crate::rt::{try_filled, TryVec};
 use crate::wkb_abi::column::{found_in, Column as Raw};
-use crate::wkb_abi::level_slices::LevelSlices;
-use crate::wkb_abi::options::Options;
+use crate::wkb_abi::level_slices::{lay_levels, LevelSlices};
 use crate::wkb_abi::totals::Totals;
-use crate::wkb_c;
-use crate::writer::WriteOptions;
+use crate::wkb_check::Piece;
+use crate::wkb_geom::header::SRID_SIZE;
+use crate::writer::{Form, WriteOptions};
 use crate::{AllocError, Endianness};
 use alloc::vec::Vec;
 use core::ops::Range;
@@ -93,24 +94,24 @@ impl<'a> Column<'a> {
     ///
     /// If there should be none.
     #[must_use]
-    pub fn split(&self, columns: usize) -> impl ExactSizeIterator<Item = Column<'a>> {
+    pub fn split(&self, columns: usize) -> impl DoubleEndedIterator<Item = Column<'a>> + ExactSizeIterator {
         assert!(columns > 0, "rows have to be in a column");
         let (whole, each, longer) = (*self, self.len() / columns, self.len() % columns);
         let begin = move |column: usize| each * column + column.min(longer);
         (0..columns).map(move |column| whole.slice(begin(column)..begin(column + 1)))
     }
 
-    /// The column as the proved calls take it.
-    pub(super) fn raw(&self) -> Raw<'a> {
-        let (validity, validity_offset) = self.validity.unwrap_or_default();
-        let Column { data: bytes, offsets, offset_size, .. } = *self;
-        Raw { bytes, offsets, offset_size, validity, validity_offset }
-    }
-
     /// The bytes of each row, or the status of a row without bytes: it is null, or has bad offsets.
     pub fn rows(&self) -> impl ExactSizeIterator<Item = Result<&'a [u8], Status>> {
-        let (raw, mut reach) = (self.raw(), 0);
+        let (validity, validity_offset) = self.validity.unwrap_or_default();
+        let Column { data: bytes, offsets, offset_size, .. } = *self;
+        let (raw, mut reach) = (Raw { bytes, offsets, offset_size, validity, validity_offset }, 0);
         (0..self.len()).map(move |i| raw.row(i, &mut reach).map_err(Status::of))
+    }
+
+    /// The bytes of each row that begins with a geometry, and what the check finds there; or the row's status.
+    pub(super) fn geometries(&self) -> impl ExactSizeIterator<Item = Result<(&'a [u8], Summary), Status>> {
+        self.rows().map(|row| row.and_then(|bytes| Ok((bytes, found_in(bytes).map_err(Status::of)?))))
     }
 
     /// What [`check`](crate::check::check) finds of each row, or its status.
@@ -126,67 +127,105 @@ impl<'a> Column<'a> {
     /// # Ok::<(), porchsorrel_wkb::AllocError>(())
     /// ```
     pub fn found(&self) -> impl ExactSizeIterator<Item = Result<Summary, Status>> + 'a {
-        self.rows().map(|row| row.and_then(|bytes| found_in(bytes).map_err(Status::of)))
+        self.geometries().map(|row| row.map(|(_, found)| found))
     }
 
     /// The status of each row: whether it is a geometry, as [`check`](crate::check::check) finds it.
     ///
     /// # Errors
     ///
-    /// Memory is refused; as in all calls of a column that return `AllocError`.
+    /// Memory is refused.
     pub fn check(&self) -> Result<Vec<Status>, AllocError> {
-        let mut statuses = try_filled(0, self.len())?;
-        wkb_c::wkb_raw_column_check(&self.raw(), &mut statuses);
-        Ok(Status::all(statuses))
+        statuses(self.found(), |row| row.map(drop))
     }
 
     /// What [`bounds`](crate::check::bounds) finds of each row: the bounds of no coordinate where it has none.
+    ///
+    /// # Errors
+    ///
+    /// Memory is refused.
     pub fn bounds(&self) -> Result<(Vec<Bounds>, Vec<Status>), AllocError> {
-        let (mut bounds, mut statuses) = (try_filled(Bounds::empty(), self.len())?, try_filled(0, self.len())?);
-        wkb_c::wkb_raw_column_bounds(&self.raw(), &mut bounds, &mut statuses);
-        Ok((bounds, Status::all(statuses)))
+        let mut boxes = Vec::try_with_room(self.len())?;
+        let statuses = statuses(self.rows(), |row| {
+            let found = row.and_then(|bytes| bounds(bytes).map_err(|why| why.status()));
+            boxes.push_reserved(found.unwrap_or(Bounds::empty()));
+            found.map(drop)
+        })?;
+        Ok((boxes, statuses))
     }
 
     /// What [`canonical`](crate::canon::canonical) makes of each row.
+    ///
+    /// # Errors
+    ///
+    /// Memory is refused.
     pub fn write(&self, options: &WriteOptions) -> Result<Encodings, AllocError> {
-        self.write_by(&numbers(options))
+        self.write_by(|_| *options)
     }
 
     /// What [`canonical_with_srid`](crate::canon::canonical_with_srid) makes of each row.
+    ///
+    /// # Errors
+    ///
+    /// Memory is refused.
     pub fn write_with_srids(&self, order: Endianness) -> Result<Encodings, AllocError> {
-        self.write_by(&numbers_with_own_srid(order))
+        self.write_by(|found| WriteOptions { endianness: order, form: Form::Ewkb { srid: found.srid } })
     }
 
-    fn write_by(&self, options: &Options) -> Result<Encodings, AllocError> {
-        // An encoding is at most four bytes longer than its row, and rows with bytes don't overlap.
-        let room = self.rows().filter_map(Result::ok).map(|it| it.len() + 4).sum();
-        let mut data = try_filled(0, room)?;
-        let (mut ends, mut statuses) = (try_filled(0, self.len())?, try_filled(0, self.len())?);
-        wkb_c::wkb_raw_column_write(&self.raw(), options, &mut data, &mut ends, &mut statuses);
-        data.truncate(ends.last().map_or(0, |end| *end as usize));
-        Ok(Encodings { data, ends, statuses: Status::all(statuses) })
+    fn write_by(&self, options: impl Fn(&Summary) -> WriteOptions) -> Result<Encodings, AllocError> {
+        // An encoding is at most an SRID longer than its row, and rows with bytes don't overlap.
+        let room = self.rows().filter_map(Result::ok).map(|it| it.len() + SRID_SIZE).sum();
+        let (mut data, mut ends, mut at) = (try_filled(0, room)?, Vec::try_with_room(self.len())?, 0);
+        let statuses = statuses(self.geometries(), |row| {
+            let written = row.map(|(bytes, found)| at += lay(bytes, &found, options(&found), &mut data[at..]));
+            ends.push_reserved(at as u64);
+            written
+        })?;
+        data.truncate(at);
+        Ok(Encodings { data, ends, statuses })
     }
 
     /// The coordinates of each row. Words that the dimension doesn't name are left out, and a word that a geometry
     /// doesn't have is a NaN.
+    ///
+    /// # Errors
+    ///
+    /// Memory is refused.
     pub fn coordinates(&self, dimension: Dimension) -> Result<Coordinates, AllocError> {
-        let (mut row_ends, mut statuses) = (try_filled(0, self.len())?, try_filled(0, self.len())?);
-        let mut call = |words: &mut [u64], ring_ends: &mut [u64], single_ends: &mut [u64]| {
-            let mut totals = Totals { coordinates: 0, rings: 0, singles: 0 };
-            let (raw, mut levels) = (self.raw(), LevelSlices { words, ring_ends, single_ends });
-            let (asked, rows) = (dimension.thousands(), &mut row_ends[..]);
-            wkb_c::wkb_raw_column_coordinates(&raw, asked, &mut levels, rows, &mut totals, &mut statuses);
-            totals
-        };
-        let totals = call(&mut [], &mut [], &mut []);
+        let mut row_ends = Vec::try_with_room(self.len())?;
+        let mut totals = Totals { coordinates: 0, rings: 0, singles: 0 };
+        let statuses = statuses(self.geometries(), |row| {
+            let passed =
+                row.map(|(bytes, found)| totals = totals.after(bytes, &found, &Piece::outermost(bytes, &found)));
+            row_ends.push_reserved(totals.singles);
+            passed
+        })?;
         let mut words = try_filled(0, dimension.width() * totals.coordinates as usize)?;
         let mut ring_ends = try_filled(0, totals.rings as usize)?;
         let mut single_ends = try_filled(0, totals.singles as usize)?;
-        call(&mut words, &mut ring_ends, &mut single_ends);
+        let mut levels = LevelSlices { words: &mut words, ring_ends: &mut ring_ends, single_ends: &mut single_ends };
+        let mut at = Totals { coordinates: 0, rings: 0, singles: 0 };
+        for (bytes, found) in self.geometries().flatten() {
+            let first = Piece::outermost(bytes, &found);
+            lay_levels(bytes, &first, at, dimension, &mut levels);
+            at = at.after(bytes, &found, &first);
+        }
         // The same memory, since a word has the size of a number.
         let words = words.into_iter().map(f64::from_bits).collect();
-        Ok(Coordinates { words, ring_ends, single_ends, row_ends, statuses: Status::all(statuses) })
+        Ok(Coordinates { words, ring_ends, single_ends, row_ends, statuses })
     }
+}
+
+/// What becomes of each row by a call.
+fn statuses<T>(
+    rows: impl ExactSizeIterator<Item = T>,
+    mut call: impl FnMut(T) -> Result<(), Status>,
+) -> Result<Vec<Status>, AllocError> {
+    let mut statuses = Vec::try_with_room(rows.len())?;
+    for row in rows {
+        statuses.push_reserved(call(row).err().unwrap_or(Status::OK));
+    }
+    Ok(statuses)
 }
 
 /// Rows of one's own, as a column takes them.

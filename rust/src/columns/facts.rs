@@ -3,7 +3,6 @@
 use super::{Column, Status};
 use crate::check::{bounds, Bounds, Summary, WkbType};
 use crate::rt::TryVec;
-use crate::wkb_abi::column::found_in;
 use crate::AllocError;
 use alloc::vec::Vec;
 
@@ -115,17 +114,19 @@ impl Facts {
         Ok(())
     }
 
-    fn add_row(&mut self, row: Result<&[u8], Status>) -> Result<(), AllocError> {
+    fn add_row(&mut self, row: Result<(&[u8], Summary), Status>) -> Result<(), AllocError> {
         self.rows += 1;
-        match row.map(|bytes| (bytes, found_in(bytes))) {
-            Ok((bytes, Ok(found))) => {
+        match row {
+            Ok((bytes, found)) => {
                 if let Ok(bounds) = bounds(bytes) {
                     self.bounds = self.bounds.union(bounds);
                 }
                 self.add_found(&found)?;
             }
-            Ok((_, Err(_))) => self.refused += 1,
-            Err(status) => self.null_rows += usize::from(status == Status::NULL_ROW),
+            Err(status) => {
+                self.refused += usize::from(status.is_refusal());
+                self.null_rows += usize::from(status == Status::NULL_ROW);
+            }
         }
         Ok(())
     }
@@ -139,7 +140,7 @@ impl Column<'_> {
     /// Memory is refused.
     pub fn facts(&self) -> Result<Facts, AllocError> {
         let mut facts = Facts::default();
-        self.rows().try_for_each(|row| facts.add_row(row))?;
+        self.geometries().try_for_each(|row| facts.add_row(row))?;
         facts.settle_srids();
         Ok(facts)
     }

@@ -1,10 +1,9 @@
 // SPDX-License-Identifier: MIT OR Apache-2.0
 //! Encodings of one's own coordinates.
-use super::{numbers, Encodings, Status};
+use super::{Encodings, Status};
 use crate::check::WkbType;
 use crate::rt::{try_filled, TryVec};
-use crate::wkb_abi::level_column::LevelColumn;
-use crate::wkb_c::wkb_raw_column_from_coordinates;
+use crate::wkb_levels::{self as proved, Ends, Kind, Place, Written};
 use crate::writer::WriteOptions;
 use crate::AllocError;
 use alloc::vec::Vec;
@@ -57,44 +56,54 @@ impl Levels<'_> {
     ///
     /// If the type is a collection, which rows can't have.
     pub fn encode(&self, wkb_type: WkbType, options: &WriteOptions) -> Result<Encodings, AllocError> {
-        assert!(!matches!(wkb_type, WkbType::GeometryCollection(_)), "rows of {wkb_type:?}");
+        let kind = match wkb_type {
+            WkbType::Point(_) => Kind::Point,
+            WkbType::LineString(_) => Kind::LineString,
+            WkbType::Polygon(_) => Kind::Polygon,
+            WkbType::MultiPoint(_) => Kind::MultiPoint,
+            WkbType::MultiLineString(_) => Kind::MultiLineString,
+            WkbType::MultiPolygon(_) => Kind::MultiPolygon,
+            WkbType::GeometryCollection(_) => panic!("rows of {wkb_type:?}"),
+        };
+        let dimension = wkb_type.dimension();
         let mut words = Vec::try_with_room(self.words.len())?;
         words.extend(self.words.iter().map(|it| it.to_bits()));
-        let (levels, rows) = self.counted(&words, wkb_type.dimension().width());
-        let (mut ends, mut statuses) = (try_filled(0, rows)?, try_filled(0, rows)?);
+        let levels = self.proved(&words, dimension.width());
+        let rows = levels.row_ends.len();
+        let (mut ends, mut statuses) = (try_filled(0, rows)?, try_filled(Status::BAD_LEVELS, rows)?);
+        if words.len() % dimension.width() != 0 {
+            return Ok(Encodings { data: Vec::new(), ends, statuses });
+        }
         let mut call = |out: &mut [u8]| {
-            let (kind, dimension) = (wkb_type.kind(), wkb_type.dimension().thousands());
-            wkb_raw_column_from_coordinates(&levels, kind, dimension, &numbers(options), out, &mut ends, &mut statuses);
-            ends.last().copied().unwrap_or(0)
+            let (mut floor, mut end) = (Place::front(), 0_u64);
+            for row in 0..rows {
+                let at = (end as usize).min(out.len());
+                let size = match levels.write_row(kind, dimension.into(), options, row, &mut floor, &mut out[at..]) {
+                    Written::Whole(size) | Written::LacksRoom(size) => {
+                        statuses[row] = Status::OK;
+                        size
+                    }
+                    Written::Unfit => 0,
+                };
+                end += size as u64;
+                ends[row] = end;
+            }
+            usize::try_from(end).map_err(|_| AllocError)
         };
-        let size = usize::try_from(call(&mut [])).map_err(|_| AllocError)?;
-        let mut data = try_filled(0, size)?;
-        call(&mut data);
-        Ok(Encodings { data, ends, statuses: Status::all(statuses) })
+        let mut data = try_filled(0, call(&mut [])?)?;
+        call(&mut data)?;
+        Ok(Encodings { data, ends, statuses })
     }
 
-    /// The levels with the number of items of each, and that of rows.
-    fn counted<'l>(&'l self, words: &'l [u64], width: usize) -> (LevelColumn<'l>, usize) {
-        let (whole, rest) = (words.len() / width, words.len() % width);
-        let items = |ends: Option<&[u64]>, below| ends.map_or(below, <[u64]>::len);
-        let rings = items(self.ring_ends, whole + usize::from(rest != 0));
-        let singles = items(self.single_ends, rings);
-        let rows = items(self.row_ends, singles);
-        let mut levels = LevelColumn {
-            words,
-            ring_ends: self.ring_ends.unwrap_or_default(),
-            rings: rings as u64,
-            single_ends: self.single_ends.unwrap_or_default(),
-            singles: singles as u64,
-            row_ends: self.row_ends.unwrap_or_default(),
-            rows: rows as u64,
-            validity: &[],
-            validity_offset: 0,
+    /// The levels of these words as the proved calls take them. Without ends, what is left of a coordinate is an item.
+    fn proved<'l>(&'l self, words: &'l [u64], width: usize) -> proved::Levels<'l> {
+        let ends = |ends: Option<&'l [u64]>, to: usize| match ends {
+            Some(ends) => Ends::At { start: 0, ends },
+            None => Ends::Each { from: 0, to: to as u64 },
         };
-        if rest != 0 {
-            // Without singles no row fits.
-            (levels.single_ends, levels.singles, levels.row_ends) = (&[], 0, &[]);
-        }
-        (levels, rows)
+        let ring_ends = ends(self.ring_ends, (words.len() + width - 1) / width);
+        let single_ends = ends(self.single_ends, ring_ends.len());
+        let row_ends = ends(self.row_ends, single_ends.len());
+        proved::Levels { words, ring_ends, single_ends, row_ends }
     }
 }

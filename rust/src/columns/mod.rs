@@ -19,7 +19,6 @@
 //!
 //! Bytes, offsets and validity bitmaps are taken where they are. Memory is taken for results alone, by their own rows,
 //! and for a copy of the words of [`Levels`]; where it is refused, the call returns an error.
-#![deny(missing_docs)]
 
 mod collect;
 mod column;
@@ -34,22 +33,3 @@ pub use facts::Facts;
 pub use levels::Levels;
 pub use results::{Coordinates, Encodings};
 pub use status::Status;
-
-use crate::wkb_abi::options::{Options, EWKB_OWN_SRID, EWKB_WITHOUT_SRID, EWKB_WITH_SRID, ISO};
-use crate::writer::{Form, WriteOptions};
-use crate::Endianness;
-
-/// The options by their numbers.
-fn numbers(options: &WriteOptions) -> Options {
-    let (form, srid) = match options.form {
-        Form::Iso => (ISO, 0),
-        Form::Ewkb { srid: Some(srid) } => (EWKB_WITH_SRID, srid),
-        Form::Ewkb { srid: None } => (EWKB_WITHOUT_SRID, 0),
-    };
-    Options { order: options.endianness.byte().into(), form, srid }
-}
-
-/// The numbers of EWKB with each row's own SRID.
-fn numbers_with_own_srid(order: Endianness) -> Options {
-    Options { order: order.byte().into(), form: EWKB_OWN_SRID, srid: 0 }
-}

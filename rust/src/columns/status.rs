@@ -1,6 +1,5 @@
 // SPDX-License-Identifier: MIT OR Apache-2.0
 //! Why an input is rejected, and what became of the rows of a column.
-use alloc::vec::Vec;
 use core::fmt;
 
 /// What became of an input or of a row. The constants are those of this version; later ones add more inside the
@@ -12,7 +11,6 @@ pub struct Status(u8);
 impl Status {
     /// The input is a geometry of the grammar, or the row has its result.
     pub const OK: Status = Status(0);
-    pub(crate) const NO_ROOM: Status = Status(2);
     /// There are 2^32 rows or more, and a count has four bytes.
     pub const TOO_MANY_ROWS: Status = Status(4);
     /// The row's validity bit is 0.
@@ -45,10 +43,6 @@ impl Status {
     /// The status with a number that the library has returned: all fit a byte.
     pub(crate) fn of(number: u32) -> Status {
         Status(number as u8)
-    }
-
-    pub(crate) fn all(numbers: Vec<u8>) -> Vec<Status> {
-        numbers.into_iter().map(Status).collect()
     }
 
     /// The number of `wkb_status` in `c/wkb.h`.
@@ -85,7 +79,6 @@ impl Status {
     pub fn text(self) -> &'static str {
         match self {
             Status::OK => "ok",
-            Status::NO_ROOM => "the output buffer is too small",
             Status::TOO_MANY_ROWS => "there are more rows than a count of four bytes holds",
             Status::NULL_ROW => "the row is null",
             Status::BAD_OFFSETS => {
