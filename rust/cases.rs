@@ -17,7 +17,7 @@ extern crate alloc;
 
 mod calls;
 
-#[path = "src"]
+#[path = "out/whole"]
 mod erased {
     pub mod wkb;
     pub mod wkb_read;
@@ -37,7 +37,7 @@ mod blocks;
 #[path = "cases/clients.rs"]
 mod clients;
 
-use calls::erased::*;
+use calls::{below, erased::*};
 use cases::*;
 use erased::*;
 
@@ -114,10 +114,6 @@ mod rt {
             write!(f, "{self:?}")
         }
     }
-
-    /// Lemmas, which do nothing.
-    pub fn are_bytes(_: &[u8]) {}
-    pub fn srid_fits<T>(_: T) {}
 
     /// What a program prints, and is given: the rows.
     #[derive(Clone, Copy)]

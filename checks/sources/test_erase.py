@@ -20,8 +20,14 @@ ERASED = {
     "#[derive(Debug, Drop)] struct A; fn f<T: Drop>(v: V, t: T) -> R<()> { v.push(t)?; s.push(1); }":
         "#[derive(Debug)] struct A; fn f<T>(v: V, t: T) -> R<()> { v.try_push(t)?; s.push(1); }",
     "impl Drop for A { fn drop(self) { let A { a: _ } = self; } } fn f() {}": "fn f() {}",
-    "#[macro_export] macro_rules! m { () => {} } impl A { pub fn read(layout: L) {} }":
-        "macro_rules! m { () => {} } impl A { pub(crate) fn read(layout: L) {} }",
+    "#[macro_export] macro_rules! m { () => {} } impl A { pub fn f(a: L) requires { b } {} pub fn g() {} }":
+        "macro_rules! m { () => {} } impl A { pub(crate) fn f(a: L) {} pub fn g() {} }",
+    "pub trait CoordTrait: A { fn nth(&self, n: u8) -> B; fn x(&self) -> u64 requires { c } ensures { d }; }":
+        "pub trait CoordTrait: A { fn nth_word(&self, n: u8) -> B; crate::rt::coord_calls! {} }",
+    "impl CoordTrait for A { fn at(&self, n: usize) -> u64 { self.x() } }":
+        "impl CoordTrait for A { fn word_at(&self, n: usize) -> u64 { crate::below!(n, self.dim().size()); self.x_word() } }",
+    "/// Puts it (docs/A.md). The proof sees it so.\n///\n/// Rejected as `f` does.\nfn g() {}":
+        "/// Puts it. /// /// # Errors /// /// Rejected as `f` does. fn g() {}",
     "let Some(a) = b else { return; };": "let a = if let Some(a) = b { a } else { return; };",
     "let A::B(mut a, c) = b else { f() };": "let (mut a, c) = if let A::B(mut a, c) = b { (a, c) } else { f() };",
 }
@@ -30,6 +36,9 @@ REFUSED = {
     "impl Drop for A { fn drop(self) { let A { a } = self; close(a); } }": "does more",
     "impl Model for A { ghost a: u8; fn f() { g(); } }": "does more",
 }
+LEFT_OUT = {
+    "pub use a::{B, Rows};\n\n#[inline]\npub fn rows() {}\n\npub fn f() {}": "pub use a::{B, }; pub fn f() {}",
+}
 
 
 class Erase(unittest.TestCase):
@@ -37,6 +46,18 @@ class Erase(unittest.TestCase):
         for source, wanted in ERASED.items():
             output = erase.Eraser("wkb", "it", source).output()
             self.assertEqual(" ".join(output.split()), wanted)
+
+    def test_left_out(self):
+        """What the Rust crate doesn't use."""
+        for source, wanted in LEFT_OUT.items():
+            output = erase.Eraser("wkb_levels", "it", source, is_whole=False).output()
+            self.assertEqual(" ".join(output.split()), wanted)
+
+    def test_asking(self):
+        """A function that asks something of a caller is noted, so that rust/src doesn't make it public."""
+        eraser = erase.Eraser("wkb", "it", "\npub fn f() requires { a } {}\npub fn g() {}")
+        eraser.output()
+        self.assertEqual(eraser.asking, {"f"})
 
     def test_refused(self):
         for source, why in REFUSED.items():

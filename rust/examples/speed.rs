@@ -1,7 +1,7 @@
 //! Prints how long calls take over 1,000 geometries of a shape, the shortest of many rounds, as rows of docs/SPEED.md.
 use porchsorrel_wkb::canon::canonical_into;
 use porchsorrel_wkb::check::{bounds, check};
-use porchsorrel_wkb::geom::{GeometryTrait, GeometryType, PointTrait};
+use porchsorrel_wkb::geom::{CoordTrait, GeometryTrait, GeometryType, PointTrait};
 use porchsorrel_wkb::reader::read_wkb;
 use porchsorrel_wkb::writer::{Form, WriteOptions};
 use porchsorrel_wkb::Endianness;

@@ -1,12 +1,20 @@
 // SPDX-License-Identifier: MIT OR Apache-2.0
 #![doc = include_str!("../README.md")]
 #![forbid(unsafe_code)]
-#![warn(missing_debug_implementations)]
+#![warn(missing_debug_implementations, missing_docs, clippy::missing_errors_doc, clippy::missing_panics_doc)]
 #![no_std]
 
 extern crate alloc;
 #[cfg(feature = "std")]
 extern crate std;
+
+/// An index that isn't below a count is refused, as that of a slice, where the proved call has it for a duty.
+macro_rules! below {
+    ($i:expr, $count:expr) => {
+        assert!($i < $count, "index {} of {}", $i, $count)
+    };
+}
+pub(crate) use below;
 
 pub mod canon;
 pub mod columns;
@@ -18,14 +26,19 @@ mod views;
 pub mod writer;
 
 mod wkb; // A clone has these modules once tools/erase has made them.
-mod wkb_abi;
+#[allow(clippy::all, unused_imports)]
+mod wkb_abi {
+    pub mod column;
+    pub mod fault;
+    pub mod level_slices;
+    pub mod status;
+    pub mod totals;
+}
 mod wkb_bounds;
-mod wkb_c;
 mod wkb_check;
-#[allow(dead_code)]
+#[allow(clippy::all, unused_imports)]
 mod wkb_clients {
     pub mod geopackage;
-    mod own;
 }
 mod wkb_geom;
 mod wkb_levels;
@@ -74,7 +87,7 @@ pub use wkb::Endianness;
 /// # Ok::<(), Box<dyn std::error::Error>>(())
 /// ```
 pub mod check {
-    pub use crate::wkb::check::*;
+    pub use crate::wkb::check::{bounds, check, Bounds, Cause, Range, Refused, Summary, WkbType};
 }
 
 /// A walk over all coordinates of a geometry of any kind, at every level and in order. It takes no memory.
@@ -90,7 +103,7 @@ pub mod check {
 /// impl Visitor for Xs {
 ///     fn visit<C: CoordTrait>(&mut self, coord: &C) -> Result<(), AllocError> {
 ///         self.0.try_reserve(1).map_err(|_| AllocError)?;
-///         self.0.push(f64::from_bits(coord.x()));
+///         self.0.push(coord.x());
 ///         Ok(())
 ///     }
 /// }
@@ -101,7 +114,7 @@ pub mod check {
 /// # Ok::<(), porchsorrel_wkb::error::WkbError>(())
 /// ```
 pub mod coordinates {
-    pub use crate::wkb::coordinates::*;
+    pub use crate::wkb::coordinates::{visit_coordinates, Visitor};
 }
 
 /// Why a geometry is not read or not written.
@@ -117,7 +130,7 @@ pub mod coordinates {
 /// }
 /// ```
 pub mod error {
-    pub use crate::wkb::error::*;
+    pub use crate::wkb::error::{General, Overflow, WkbError, WkbResult};
 }
 
 /// The traits that geometries of one's own implement, as views do; types that have them over words that are lent; and
@@ -141,20 +154,8 @@ pub mod error {
 /// }
 ///
 /// impl CoordTrait for Place {
-///     fn nth(&self, n: usize) -> Option<u64> {
+///     fn nth_word(&self, n: usize) -> Option<u64> {
 ///         [self.longitude, self.latitude].get(n).map(|it| it.to_bits())
-///     }
-///     fn at(&self, n: usize) -> u64 {
-///         [self.longitude, self.latitude][n].to_bits()
-///     }
-///     fn x(&self) -> u64 {
-///         self.at(0)
-///     }
-///     fn y(&self) -> u64 {
-///         self.at(1)
-///     }
-///     fn x_y(&self) -> (u64, u64) {
-///         (self.x(), self.y())
 ///     }
 /// }
 ///
@@ -172,5 +173,10 @@ pub mod error {
 /// # Ok::<(), porchsorrel_wkb::error::WkbError>(())
 /// ```
 pub mod geom {
-    pub use crate::wkb::geom::*;
+    pub use crate::wkb::geom::{
+        is_at_most, ordinate, Coord, CoordTrait, Dimensioned, Dimensions, Geometry, GeometryCollection,
+        GeometryCollectionTrait, GeometryTrait, GeometryType, Line, LineString, LineStringTrait, LineTrait,
+        MultiLineString, MultiLineStringTrait, MultiPoint, MultiPointTrait, MultiPolygon, MultiPolygonTrait, Point,
+        PointTrait, Polygon, PolygonTrait, Rect, RectTrait, Triangle, TriangleTrait,
+    };
 }

@@ -2,7 +2,7 @@
 //! The reader: the geometry at the start of some bytes, as a view that borrows them.
 //!
 //! ```
-//! use porchsorrel_wkb::geom::{GeometryTrait, GeometryType, PolygonTrait};
+//! use porchsorrel_wkb::geom::{CoordTrait, GeometryTrait, GeometryType, PolygonTrait};
 //! use porchsorrel_wkb::reader::read_wkb;
 //!
 //! // The sum of the first ordinates of a polygon's rings; none of another geometry.
@@ -21,7 +21,10 @@
 //! polygon.extend([0., 0., 4., 0., 2., 3., 0., 0.].iter().flat_map(|it: &f64| it.to_le_bytes()));
 //! assert_eq!(sum_of_x(&polygon), Some(6.0));
 //! ```
-pub use crate::wkb::reader::*;
+pub use crate::wkb::reader::{
+    Coord, Dimension, GeometryCollection, GeometryType, LineString, LinearRing, MultiLineString, MultiPoint,
+    MultiPolygon, Point, Polygon, Wkb, MAX_WKB_NESTING_DEPTH,
+};
 
 use crate::check::check;
 use crate::error::WkbResult;
@@ -29,8 +32,8 @@ use crate::error::WkbResult;
 /// Reads the geometry at the start of the bytes. Bytes after it are not looked at.
 ///
 /// At most 9 bytes are allocated for each byte of input, and 20 KB, whatever it claims. So a collection is checked first,
-/// by [`check`]: of collections in one another, each may claim the rest of the input. [`Wkb::try_new`] and [`read_wkb_counted`]
-/// return the same without a check, and may allocate 840 bytes for each byte of input that they then reject.
+/// by [`check`]: of collections in one another, each may claim the rest of the input. [`Wkb::try_new`] returns the
+/// same without a check, and may allocate 840 bytes for each byte of input that it then rejects.
 ///
 /// # Errors
 ///

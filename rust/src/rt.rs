@@ -19,6 +19,11 @@ impl fmt::Display for AllocError {
 
 /// A copy, which may take memory.
 pub trait TryClone: Sized {
+    /// Copies it.
+    ///
+    /// # Errors
+    ///
+    /// Memory is refused.
     fn try_clone(&self) -> Result<Self, AllocError>;
 }
 
@@ -121,6 +126,78 @@ macro_rules! try_vec {
     };
 }
 pub(crate) use try_vec;
+
+/// The calls of `CoordTrait` that have a default.
+macro_rules! coord_calls {
+    () => {
+        /// The word at an index.
+        ///
+        /// # Panics
+        ///
+        /// If there is none; so do the calls below for the words that they return.
+        #[inline]
+        fn word_at(&self, n: usize) -> u64 {
+            self.nth_word(n).expect("an index below the number of words")
+        }
+        /// The first word.
+        #[inline]
+        fn x_word(&self) -> u64 {
+            self.word_at(0)
+        }
+        /// The second word.
+        #[inline]
+        fn y_word(&self) -> u64 {
+            self.word_at(1)
+        }
+        /// The first two words.
+        #[inline]
+        fn x_y_words(&self) -> (u64, u64) {
+            (self.x_word(), self.y_word())
+        }
+        /// The number at an index, if there is one: x, y, and then z, m or both.
+        #[inline]
+        fn nth(&self, n: usize) -> Option<f64> {
+            self.nth_word(n).map(f64::from_bits)
+        }
+        /// The number at an index.
+        #[inline]
+        fn nth_or_panic(&self, n: usize) -> f64 {
+            f64::from_bits(self.word_at(n))
+        }
+        /// The first number.
+        #[inline]
+        fn x(&self) -> f64 {
+            f64::from_bits(self.x_word())
+        }
+        /// The second number.
+        #[inline]
+        fn y(&self) -> f64 {
+            f64::from_bits(self.y_word())
+        }
+        /// The first two numbers.
+        #[inline]
+        fn x_y(&self) -> (f64, f64) {
+            (self.x(), self.y())
+        }
+    };
+}
+pub(crate) use coord_calls;
+
+/// The call of `LineStringTrait` that has a default.
+macro_rules! line_calls {
+    () => {
+        /// The coordinate at an index.
+        ///
+        /// # Panics
+        ///
+        /// If there is none.
+        #[inline]
+        fn coord_at(&self, i: usize) -> Self::CoordType {
+            self.coord(i).expect("an index below the number of coordinates")
+        }
+    };
+}
+pub(crate) use line_calls;
 
 impl From<AllocError> for io::Error {
     fn from(_: AllocError) -> io::Error {

@@ -1,7 +1,7 @@
 // SPDX-License-Identifier: MIT OR Apache-2.0
-//! What views and bounds have beside the proved calls: iterators over parts, numbers in the place of words, and copies.
+//! What views and bounds have beside the proved calls: iterators over parts, numbers of envelopes, and copies.
 use crate::check::{Bounds, Range};
-use crate::geom::{self, CoordTrait, MultiLineStringTrait, MultiPointTrait, MultiPolygonTrait, PolygonTrait};
+use crate::geom::{self, MultiLineStringTrait, MultiPointTrait, MultiPolygonTrait, PolygonTrait};
 use crate::reader::{
     Coord, GeometryCollection, LineString, LinearRing, MultiLineString, MultiPoint, MultiPolygon, Point, Polygon, Wkb,
 };
@@ -79,46 +79,6 @@ impl fmt::Debug for geom::GeometryCollection<'_> {
     fn fmt(&self, f: &mut fmt::Formatter<'_>) -> fmt::Result {
         f.write_str("GeometryCollection ")?;
         f.debug_list().entries(geom::GeometryCollectionTrait::geometries(self)).finish()
-    }
-}
-
-/// Numbers. `CoordTrait` has the same calls for words, which are their bits.
-///
-/// ```
-/// use porchsorrel_wkb::geom::{CoordTrait, GeometryTrait, GeometryType, PointTrait};
-/// use porchsorrel_wkb::reader::read_wkb;
-///
-/// let wkb = read_wkb(b"\x01\x01\0\0\0\0\0\0\0\0\0\xf0\x3f\0\0\0\0\0\0\0\x40")?;
-/// if let GeometryType::Point(point) = wkb.as_type() {
-///     let coord = point.coord().expect("a point that isn't empty");
-///     assert_eq!((coord.x(), coord.y(), coord.nth(2)), (1.0, 2.0, None));
-///     assert_eq!(CoordTrait::x(&coord), 1.0_f64.to_bits());
-/// }
-/// # Ok::<(), porchsorrel_wkb::error::WkbError>(())
-/// ```
-impl Coord<'_> {
-    /// The number at an index, if there is one: x, y, and then z, m or both.
-    #[inline]
-    pub fn nth(&self, n: usize) -> Option<f64> {
-        CoordTrait::nth(self, n).map(f64::from_bits)
-    }
-
-    /// The first number.
-    #[inline]
-    pub fn x(&self) -> f64 {
-        f64::from_bits(self.at(0))
-    }
-
-    /// The second number.
-    #[inline]
-    pub fn y(&self) -> f64 {
-        f64::from_bits(self.at(1))
-    }
-
-    /// The first two numbers.
-    #[inline]
-    pub fn x_y(&self) -> (f64, f64) {
-        (self.x(), self.y())
     }
 }
 

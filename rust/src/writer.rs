@@ -15,7 +15,13 @@
 //!
 //! A writer takes a `Vec<u8>`, a file or any other [`Write`](std::io::Write). [`to_vec`] and a [`VecSink`] answer where
 //! memory is refused, as a `Vec` by itself doesn't.
-pub use crate::wkb::writer::*;
+pub use crate::wkb::writer::{
+    geometry_collection_wkb_size, geometry_wkb_size, geometry_wkb_size_with, line_string_wkb_size, line_wkb_size,
+    multi_line_string_wkb_size, multi_point_wkb_size, multi_polygon_wkb_size, point_wkb_size, polygon_wkb_size,
+    rect_wkb_size, to_vec, triangle_wkb_size, write_geometry, write_geometry_collection, write_line, write_line_string,
+    write_multi_line_string, write_multi_point, write_multi_polygon, write_point, write_polygon, write_rect,
+    write_to_slice, write_triangle, Form, Out, Sink, SliceSink, VecSink, WriteOptions,
+};
 
 use crate::rt::io;
 use core::fmt;

@@ -2,10 +2,9 @@
 //! What users meet first: a program in the manner of the crate `wkb`, errors and their texts, and iterators of views.
 use porchsorrel_wkb::canon::{canonical, same};
 use porchsorrel_wkb::check::{bounds, check, Refused, WkbType};
-use porchsorrel_wkb::columns::{NotCollected, Status};
+use porchsorrel_wkb::columns::{Levels, NotCollected, Status};
 use porchsorrel_wkb::error::{General, Overflow, WkbError};
-use porchsorrel_wkb::geom::levels::{Ends, Polygons, Rings};
-use porchsorrel_wkb::geom::{self, Coord, PointTrait};
+use porchsorrel_wkb::geom::{self, Coord, PointTrait, PolygonTrait};
 use porchsorrel_wkb::geom::{CoordTrait, Dimensioned, Dimensions, GeometryTrait, GeometryType, LineStringTrait};
 use porchsorrel_wkb::geopackage::{read_header, NoHeader};
 use porchsorrel_wkb::reader::{read_wkb, Dimension, Wkb};
@@ -200,7 +199,7 @@ fn statuses_are_those_of_the_header() {
         let number: String = number.chars().take_while(char::is_ascii_digit).collect();
         let defined = ours.contains(&format!("const {name}: Status = Status({number});"))
             && ours.contains(&format!("Status::{name} => \"{text}\""));
-        assert!(defined || ["NO_MEMORY", "UNKNOWN_OPTION"].contains(&name), "{name} = {number}, {text}");
+        assert!(defined || ["NO_MEMORY", "NO_ROOM", "UNKNOWN_OPTION"].contains(&name), "{name} = {number}, {text}");
         count += 1;
     }
     assert_eq!(count, header.matches("\n  WKB_STATUS_").count());
@@ -237,11 +236,7 @@ impl LineStringTrait for Zeros {
     }
 
     fn coord(&self, i: usize) -> Option<Self::CoordType> {
-        (i < self.0).then(|| self.coord_at(i))
-    }
-
-    fn coord_at(&self, _: usize) -> Self::CoordType {
-        Coord::new(Dimensions::Xy, &[0, 0]).unwrap()
+        Coord::new(Dimensions::Xy, &[0, 0]).filter(|_| i < self.0)
     }
 }
 
@@ -259,12 +254,11 @@ fn sizes_that_usize_may_not_hold() {
             (size, _) => panic!("{count} coordinates: {size:?}"),
         }
     }
-    for to in [1, u64::from(u32::MAX), 1 << 32, u64::MAX] {
-        assert_eq!(Ends::Each { from: 0, to }.len() as u64, to.min(usize::MAX as u64));
+    for end in [3, u64::from(u32::MAX), 1 << 32, u64::MAX] {
+        let levels = Levels { words: &[0.0; 4], ring_ends: Some(&[2, end]), ..Levels::default() };
+        let rows = levels.encode(WkbType::LineString(Dimension::Xy), &WriteOptions::default()).unwrap();
+        assert_eq!(rows.statuses, [Status::OK, Status::BAD_LEVELS]);
     }
-    let ends = Ends::At { start: u64::from(u32::MAX), ends: &[] };
-    let rings = Rings::new(Dimensions::Xy, &[0; 8], Ends::Each { from: 0, to: 4 }).unwrap();
-    assert!(Polygons::new(rings, ends).is_some());
 }
 
 /// Iterators go from both ends, and know how long they are; numbers have the bits of words.
@@ -282,5 +276,39 @@ fn views() {
     assert_eq!((coords.next().map(|it| it.x_y()), coords.len()), (Some((1.0, 2.0)), 1));
     let coord = line.coord(1).unwrap();
     assert_eq!([0, 1, 2, 3, 4].map(|n| coord.nth(n)), [Some(5.0), Some(6.0), Some(7.0), Some(8.0), None]);
-    assert_eq!([0, 3].map(|n| CoordTrait::nth(&coord, n)), [5.0, 8.0].map(|it: f64| Some(it.to_bits())));
+    assert_eq!([0, 3].map(|n| coord.nth_word(n)), [5.0, 8.0].map(|it: f64| Some(it.to_bits())));
+}
+
+/// A generic call returns the numbers that the view's own returns; and an index that isn't below its count returns
+/// nothing else, even if its product with a size is no `usize`.
+#[test]
+fn indices_that_are_none() {
+    fn sum<L: LineStringTrait>(line: &L) -> f64 {
+        (0..line.num_coords()).map(|i| line.coord_at(i).x() + line.coord_at(i).nth_or_panic(1)).sum()
+    }
+    fn panics<T>(call: impl FnOnce() -> T) -> bool {
+        std::panic::catch_unwind(std::panic::AssertUnwindSafe(call)).is_err()
+    }
+    let bytes = [&b"\x01\x02\0\0\0\x02\0\0\0"[..], &[1.0, 2.0, 3.0, 4.0].map(f64::to_le_bytes).concat()].concat();
+    let wkb = read_wkb(&bytes).unwrap();
+    let line = match wkb.as_type() {
+        GeometryType::LineString(line) => line,
+        _ => panic!("no line string"),
+    };
+    let polygon = [&b"\x01\x03\0\0\0\x01\0\0\0"[..], &bytes[5..]].concat();
+    let polygon = read_wkb(&polygon).unwrap();
+    let ring = match polygon.as_type() {
+        GeometryType::Polygon(polygon) => polygon.exterior().unwrap(),
+        _ => panic!("no polygon"),
+    };
+    let words = [1.0, 2.0, 3.0, 4.0].map(f64::to_bits);
+    let own = geom::LineString::new(Dimensions::Xy, &words).unwrap();
+    assert_eq!((sum(line), sum(&ring), sum(&own)), (10.0, 10.0, 10.0));
+    let (coord, own_coord) = (line.coord(0).unwrap(), own.coord(0).unwrap());
+    for i in (1..usize::BITS).map(|shift| 1_usize << shift).flat_map(|it| [it, it + 1, usize::MAX - it + 1]) {
+        assert!(line.coord(i).is_none() && ring.coord(i).is_none() && own.coord(i).is_none());
+        assert!(panics(|| line.coord_at(i)) && panics(|| ring.coord_at(i)) && panics(|| own.coord_at(i)));
+        assert!(panics(|| coord.word_at(i)) && panics(|| own_coord.word_at(i)) && panics(|| coord.nth_or_panic(i)));
+        assert_eq!((coord.nth_word(i), own_coord.nth_word(i), coord.nth(i)), (None, None, None));
+    }
 }

@@ -5,7 +5,7 @@ use porchsorrel_wkb::canon::{canonical, canonical_into, canonical_with_srid, sam
 use porchsorrel_wkb::check::{bounds, check, Bounds, Cause, Refused, Summary, WkbType};
 use porchsorrel_wkb::columns::*;
 use porchsorrel_wkb::error::General;
-use porchsorrel_wkb::geom::{GeometryTrait, GeometryType, PointTrait, PolygonTrait};
+use porchsorrel_wkb::geom::{CoordTrait, GeometryTrait, GeometryType, PointTrait, PolygonTrait};
 use porchsorrel_wkb::reader::{read_wkb, Dimension, LineString, LinearRing, Point, Polygon, Wkb};
 use porchsorrel_wkb::writer::{to_vec, write_geometry, write_to_slice, Form, Out, SliceSink, VecSink, WriteOptions};
 use porchsorrel_wkb::Endianness;

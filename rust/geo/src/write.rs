@@ -1,13 +1,14 @@
 // SPDX-License-Identifier: MIT OR Apache-2.0
 //! Encodings of any geometry that has the traits.
 use geo_traits::{
-    CoordTrait, GeometryCollectionTrait, GeometryTrait, GeometryType, LineStringTrait, LineTrait, MultiLineStringTrait,
-    MultiPointTrait, MultiPolygonTrait, PointTrait, PolygonTrait, RectTrait, TriangleTrait,
+    CoordTrait, Dimensions, GeometryCollectionTrait, GeometryTrait, GeometryType, LineStringTrait, LineTrait,
+    MultiLineStringTrait, MultiPointTrait, MultiPolygonTrait, PointTrait, PolygonTrait, RectTrait, TriangleTrait,
 };
+use porchsorrel_wkb::check::WkbType;
+use porchsorrel_wkb::columns::Levels;
 use porchsorrel_wkb::error::{General, Overflow, WkbError, WkbResult};
-use porchsorrel_wkb::geom::levels::{Ends, Kind, Levels, Place};
-use porchsorrel_wkb::geom::{Dimensions, Geometry, GeometryCollection};
-use porchsorrel_wkb::reader::MAX_WKB_NESTING_DEPTH;
+use porchsorrel_wkb::geom::{Geometry, GeometryCollection};
+use porchsorrel_wkb::reader::{Dimension, MAX_WKB_NESTING_DEPTH};
 use porchsorrel_wkb::{writer, AllocError, Endianness};
 use std::io::Write;
 use writer::WriteOptions;
@@ -59,14 +60,17 @@ fn extend<T: Copy>(list: &mut Vec<T>, items: &[T]) -> WkbResult<()> {
     Ok(())
 }
 
+/// The type of geometries of a kind.
+type Kind = fn(Dimension) -> WkbType;
+
 /// The dimension that coordinates are written in.
-fn named(dim: geo_traits::Dimensions) -> WkbResult<Dimensions> {
+fn named(dim: Dimensions) -> WkbResult<Dimension> {
     match dim {
-        geo_traits::Dimensions::Xy | geo_traits::Dimensions::Unknown(2) => Ok(Dimensions::Xy),
-        geo_traits::Dimensions::Xyz | geo_traits::Dimensions::Unknown(3) => Ok(Dimensions::Xyz),
-        geo_traits::Dimensions::Xym => Ok(Dimensions::Xym),
-        geo_traits::Dimensions::Xyzm | geo_traits::Dimensions::Unknown(4) => Ok(Dimensions::Xyzm),
-        geo_traits::Dimensions::Unknown(words) => Err(WkbError::General(General::UnsupportedDimensions(words))),
+        Dimensions::Xy | Dimensions::Unknown(2) => Ok(Dimension::Xy),
+        Dimensions::Xyz | Dimensions::Unknown(3) => Ok(Dimension::Xyz),
+        Dimensions::Xym => Ok(Dimension::Xym),
+        Dimensions::Xyzm | Dimensions::Unknown(4) => Ok(Dimension::Xyzm),
+        Dimensions::Unknown(words) => Err(WkbError::General(General::UnsupportedDimensions(words))),
     }
 }
 
@@ -84,7 +88,7 @@ fn append(
         let kind = parts.fill(geometry)?;
         return parts.append(out, kind, options);
     };
-    let empty = GeometryCollection::new(named(geometry.dim())?, Vec::new());
+    let empty = GeometryCollection::new(named(geometry.dim())?.into(), Vec::new());
     if depth == MAX_WKB_NESTING_DEPTH {
         return Err(WkbError::NestingDepthExceeded(depth));
     }
@@ -104,15 +108,15 @@ fn append(
 /// The levels of a geometry that is no collection: its words, the ends of its rings in coordinates, and those of its
 /// points, line strings or polygons in rings.
 struct Parts {
-    dim: Dimensions,
-    words: Vec<u64>,
+    dim: Dimension,
+    words: Vec<f64>,
     rings: Vec<u64>,
     singles: Vec<u64>,
 }
 
 impl Parts {
     /// Rejects a part of another dimension than the whole.
-    fn fits(&self, dim: geo_traits::Dimensions) -> WkbResult<()> {
+    fn fits(&self, dim: Dimensions) -> WkbResult<()> {
         if named(dim)? == self.dim {
             Ok(())
         } else {
@@ -123,7 +127,7 @@ impl Parts {
     /// Appends a coordinate of these numbers.
     fn numbers(&mut self, number: impl Fn(usize) -> f64) -> WkbResult<()> {
         self.words.try_reserve(4).map_err(|_| AllocError)?;
-        self.words.extend((0..self.dim.size()).map(|n| number(n).to_bits()));
+        self.words.extend((0..self.dim.width()).map(number));
         Ok(())
     }
 
@@ -133,7 +137,7 @@ impl Parts {
     }
 
     fn end_ring(&mut self) -> WkbResult<()> {
-        extend(&mut self.rings, &[(self.words.len() / self.dim.size()) as u64])
+        extend(&mut self.rings, &[(self.words.len() / self.dim.width()) as u64])
     }
 
     fn end_single(&mut self) -> WkbResult<()> {
@@ -175,7 +179,7 @@ impl Parts {
     }
 
     fn rect(&mut self, it: &impl RectTrait<T = f64>) -> WkbResult<()> {
-        self.dim = Dimensions::Xy;
+        self.dim = Dimension::Xy;
         let ((left, bottom), (right, top)) = (it.min().x_y(), it.max().x_y());
         for corner in [[left, bottom], [left, top], [right, top], [right, bottom], [left, bottom]] {
             self.numbers(|n| corner[n])?;
@@ -186,37 +190,34 @@ impl Parts {
 
     /// Takes the parts of a geometry, and returns the kind that it is written as.
     fn fill(&mut self, geometry: &impl GeometryTrait<T = f64>) -> WkbResult<Kind> {
-        match geometry.as_type() {
-            GeometryType::Point(it) => self.point(it).map(|()| Kind::Point),
-            GeometryType::LineString(it) => self.line(it.coords()).map(|()| Kind::LineString),
-            GeometryType::Polygon(it) => self.polygon(it).map(|()| Kind::Polygon),
-            GeometryType::MultiPoint(it) => it.points().try_for_each(|it| self.point(&it)).map(|()| Kind::MultiPoint),
+        let (filled, kind): (_, Kind) = match geometry.as_type() {
+            GeometryType::Point(it) => (self.point(it), WkbType::Point),
+            GeometryType::LineString(it) => (self.line(it.coords()), WkbType::LineString),
+            GeometryType::Polygon(it) => (self.polygon(it), WkbType::Polygon),
+            GeometryType::MultiPoint(it) => (it.points().try_for_each(|it| self.point(&it)), WkbType::MultiPoint),
             GeometryType::MultiLineString(it) => {
-                it.line_strings().try_for_each(|it| self.member_line(&it)).map(|()| Kind::MultiLineString)
+                (it.line_strings().try_for_each(|it| self.member_line(&it)), WkbType::MultiLineString)
             }
             GeometryType::MultiPolygon(it) => {
-                it.polygons().try_for_each(|it| self.polygon(&it)).map(|()| Kind::MultiPolygon)
+                (it.polygons().try_for_each(|it| self.polygon(&it)), WkbType::MultiPolygon)
             }
-            GeometryType::Rect(it) => self.rect(it).map(|()| Kind::Polygon),
+            GeometryType::Rect(it) => (self.rect(it), WkbType::Polygon),
             GeometryType::Triangle(it) => {
-                let corners = [it.first(), it.second(), it.third(), it.first()];
-                self.line(corners.into_iter()).map(|()| Kind::Polygon)
+                (self.line([it.first(), it.second(), it.third(), it.first()].into_iter()), WkbType::Polygon)
             }
-            GeometryType::Line(it) => self.line([it.start(), it.end()].into_iter()).map(|()| Kind::LineString),
+            GeometryType::Line(it) => (self.line([it.start(), it.end()].into_iter()), WkbType::LineString),
             GeometryType::GeometryCollection(_) => unreachable!("a collection has members, and no levels"),
-        }
+        };
+        filled.map(|()| kind)
     }
 
     /// Appends the encoding of a geometry of this kind.
     fn append(&self, out: &mut Vec<u8>, kind: Kind, options: &WriteOptions) -> WkbResult<()> {
-        let ends = |ends| Ends::At { start: 0, ends };
         let all = [self.singles.len() as u64];
-        let (words, ring_ends, single_ends) = (&self.words[..], ends(&self.rings), ends(&self.singles));
-        let levels = Levels { words, ring_ends, single_ends, row_ends: ends(&all) };
-        let row = levels.row(kind, self.dim, 0, &mut Place::front()).expect("levels of this kind");
-        let (at, size) = (out.len(), row.size(options)?);
-        out.try_reserve(size).map_err(|_| AllocError)?;
-        out.resize(at + size, 0);
-        row.write(options, &mut out[at..]).map(drop)
+        let (ring_ends, single_ends, row_ends) = (Some(&self.rings[..]), Some(&self.singles[..]), Some(&all[..]));
+        let levels = Levels { words: &self.words, ring_ends, single_ends, row_ends };
+        let rows = levels.encode(kind(self.dim), options)?;
+        // The levels fit the kind, so only a count is left that may not fit.
+        extend(out, rows.row(0).ok_or(WkbError::OverflowError(Overflow::Count))?)
     }
 }

@@ -15,5 +15,5 @@ fn each_allocation_fails() {
     let written = || to_vec(&Geometry::from(&wkb), &WriteOptions::default());
     assert_eq!(written().unwrap(), input);
     // The collection's head twice, words, rings, singles, and the rest.
-    assert!(failing::tried(written) >= 6);
+    assert!(failing::tried(written) >= 9);
 }
