@@ -136,7 +136,7 @@ impl<'a> Column<'a> {
     ///
     /// Memory is refused.
     pub fn check(&self) -> Result<Vec<Status>, AllocError> {
-        statuses(self.found(), |row| row.map(drop))
+        statuses(self.rows(), |row| row.and_then(|bytes| found_in(bytes).map(drop).map_err(Status::of)))
     }
 
     /// What [`bounds`](crate::check::bounds) finds of each row: the bounds of no coordinate where it has none.
@@ -176,8 +176,12 @@ impl<'a> Column<'a> {
         // An encoding is at most an SRID longer than its row, and rows with bytes don't overlap.
         let room = self.rows().filter_map(Result::ok).map(|it| it.len() + SRID_SIZE).sum();
         let (mut data, mut ends, mut at) = (try_filled(0, room)?, Vec::try_with_room(self.len())?, 0);
-        let statuses = statuses(self.geometries(), |row| {
-            let written = row.map(|(bytes, found)| at += lay(bytes, &found, options(&found), &mut data[at..]));
+        let statuses = statuses(self.rows(), |row| {
+            let written = row.and_then(|bytes| {
+                let found = found_in(bytes).map_err(Status::of)?;
+                at += lay(bytes, &found, options(&found), &mut data[at..]);
+                Ok(())
+            });
             ends.push_reserved(at as u64);
             written
         })?;
@@ -194,9 +198,12 @@ impl<'a> Column<'a> {
     pub fn coordinates(&self, dimension: Dimension) -> Result<Coordinates, AllocError> {
         let mut row_ends = Vec::try_with_room(self.len())?;
         let mut totals = Totals { coordinates: 0, rings: 0, singles: 0 };
-        let statuses = statuses(self.geometries(), |row| {
-            let passed =
-                row.map(|(bytes, found)| totals = totals.after(bytes, &found, &Piece::outermost(bytes, &found)));
+        let statuses = statuses(self.rows(), |row| {
+            let passed = row.and_then(|bytes| {
+                let found = found_in(bytes).map_err(Status::of)?;
+                totals = totals.after(bytes, &found, &Piece::outermost(bytes, &found));
+                Ok(())
+            });
             row_ends.push_reserved(totals.singles);
             passed
         })?;
@@ -205,10 +212,12 @@ impl<'a> Column<'a> {
         let mut single_ends = try_filled(0, totals.singles as usize)?;
         let mut levels = LevelSlices { words: &mut words, ring_ends: &mut ring_ends, single_ends: &mut single_ends };
         let mut at = Totals { coordinates: 0, rings: 0, singles: 0 };
-        for (bytes, found) in self.geometries().flatten() {
-            let first = Piece::outermost(bytes, &found);
-            lay_levels(bytes, &first, at, dimension, &mut levels);
-            at = at.after(bytes, &found, &first);
+        for bytes in self.rows().flatten() {
+            if let Ok(found) = found_in(bytes) {
+                let first = Piece::outermost(bytes, &found);
+                lay_levels(bytes, &first, at, dimension, &mut levels);
+                at = at.after(bytes, &found, &first);
+            }
         }
         // The same memory, since a word has the size of a number.
         let words = words.into_iter().map(f64::from_bits).collect();
@@ -217,14 +226,12 @@ impl<'a> Column<'a> {
 }
 
 /// What becomes of each row by a call.
-fn statuses<T>(
-    rows: impl ExactSizeIterator<Item = T>,
-    mut call: impl FnMut(T) -> Result<(), Status>,
+fn statuses<'a>(
+    rows: impl ExactSizeIterator<Item = Result<&'a [u8], Status>>,
+    mut call: impl FnMut(Result<&'a [u8], Status>) -> Result<(), Status>,
 ) -> Result<Vec<Status>, AllocError> {
     let mut statuses = Vec::try_with_room(rows.len())?;
-    for row in rows {
-        statuses.push_reserved(call(row).err().unwrap_or(Status::OK));
-    }
+    statuses.extend(rows.map(|row| call(row).err().unwrap_or(Status::OK)));
     Ok(statuses)
 }
 

@@ -74,24 +74,23 @@ impl Levels<'_> {
         if words.len() % dimension.width() != 0 {
             return Ok(Encodings { data: Vec::new(), ends, statuses });
         }
-        let mut call = |out: &mut [u8]| {
-            let (mut floor, mut end) = (Place::front(), 0_u64);
-            for row in 0..rows {
-                let at = (end as usize).min(out.len());
-                let size = match levels.write_row(kind, dimension.into(), options, row, &mut floor, &mut out[at..]) {
-                    Written::Whole(size) | Written::LacksRoom(size) => {
-                        statuses[row] = Status::OK;
-                        size
-                    }
-                    Written::Unfit => 0,
-                };
-                end += size as u64;
-                ends[row] = end;
+        let (mut floor, mut end) = (Place::front(), 0_u64);
+        for row in 0..rows {
+            let size = levels.row(kind, dimension.into(), row, &mut floor).and_then(|it| it.size(options).ok());
+            if let Some(size) = size {
+                (statuses[row], end) = (Status::OK, end + size as u64);
             }
-            usize::try_from(end).map_err(|_| AllocError)
-        };
-        let mut data = try_filled(0, call(&mut [])?)?;
-        call(&mut data)?;
+            ends[row] = end;
+        }
+        let mut data = try_filled(0, usize::try_from(end).map_err(|_| AllocError)?)?;
+        let (mut floor, mut at) = (Place::front(), 0);
+        for row in 0..rows {
+            if let Written::Whole(size) =
+                levels.write_row(kind, dimension.into(), options, row, &mut floor, &mut data[at..])
+            {
+                at += size;
+            }
+        }
         Ok(Encodings { data, ends, statuses })
     }
 
