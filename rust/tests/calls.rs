@@ -255,7 +255,8 @@ fn sizes_that_usize_may_not_hold() {
         }
     }
     for end in [3, u64::from(u32::MAX), 1 << 32, u64::MAX] {
-        let levels = Levels { words: &[0.0; 4], ring_ends: Some(&[2, end]), ..Levels::default() };
+        let ends = [2, end];
+        let levels = Levels { words: &[0.0; 4], ring_ends: Some(&ends), ..Levels::default() };
         let rows = levels.encode(WkbType::LineString(Dimension::Xy), &WriteOptions::default()).unwrap();
         assert_eq!(rows.statuses, [Status::OK, Status::BAD_LEVELS]);
     }
