@@ -213,22 +213,32 @@ pub use std::io;
 pub mod io {
     use core::fmt;
 
+    /// Why a write or a read failed.
     #[derive(Debug, Clone, Copy, PartialEq, Eq)]
     #[non_exhaustive]
     pub enum ErrorKind {
+        /// The input ends too early.
         UnexpectedEof,
+        /// Nothing was written.
         WriteZero,
+        /// An allocation failed.
         OutOfMemory,
+        /// It was interrupted, and may be tried again.
         Interrupted,
+        /// Another reason.
         Other,
     }
 
+    /// An error of a [`Write`], made of its kind.
     #[derive(Debug)]
     pub struct Error(ErrorKind);
 
+    /// A result, or such an error.
     pub type Result<T> = core::result::Result<T, Error>;
 
     impl Error {
+        /// Its kind.
+        #[must_use]
         pub fn kind(&self) -> ErrorKind {
             self.0
         }
@@ -252,7 +262,13 @@ pub mod io {
         }
     }
 
+    /// What takes bytes.
     pub trait Write {
+        /// Takes some of the bytes, and returns how many.
+        ///
+        /// # Errors
+        ///
+        /// None was taken.
         fn write(&mut self, bytes: &[u8]) -> Result<usize>;
     }
 
