@@ -3,42 +3,49 @@
  * and calls its proved wkb_raw_ call. The texts, the version, the class of refusals and wkb_words have no such call. */
 #include "wkb_raw.h"
 
-/* The proved calls assume this of the compiler and its options: structs as they were proved, 64-bit pointers,
- * little-endian. */
+/* The proved calls assume this of the compiler and its options: structs as they were proved, with pointers and sizes of
+ * 64 bits, or of 32. */
 #define IS_LAID(TYPE, SIZE, ALIGNMENT, PLACES) \
   _Static_assert(sizeof(TYPE) == (SIZE) && _Alignof(TYPE) == (ALIGNMENT) && (PLACES), "another layout of " #TYPE)
 #define AT(TYPE, OFFSET, MEMBER) (offsetof(TYPE, MEMBER) == (OFFSET))
-_Static_assert(sizeof(void *) == 8 && sizeof(size_t) == 8, "another size of pointers");
-IS_LAID(wkb_found, 64, 8, AT(wkb_found, 0, size) && AT(wkb_found, 8, parts) && AT(wkb_found, 16, coordinates) &&
+enum { P = sizeof(void *), LONG = _Alignof(uint64_t) };
+_Static_assert((P == 8 || P == 4) && sizeof(size_t) == P, "another size of pointers");
+IS_LAID(wkb_found, 64, LONG, AT(wkb_found, 0, size) && AT(wkb_found, 8, parts) && AT(wkb_found, 16, coordinates) &&
         AT(wkb_found, 24, offset) && AT(wkb_found, 32, count) && AT(wkb_found, 40, srid) &&
         AT(wkb_found, 44, has_srid) && AT(wkb_found, 48, kind) && AT(wkb_found, 52, dimension) &&
         AT(wkb_found, 56, width) && AT(wkb_found, 60, order));
-IS_LAID(wkb_fault, 40, 8, AT(wkb_fault, 0, part) && AT(wkb_fault, 8, offset) && AT(wkb_fault, 16, end) &&
+IS_LAID(wkb_fault, 40, LONG, AT(wkb_fault, 0, part) && AT(wkb_fault, 8, offset) && AT(wkb_fault, 16, end) &&
         AT(wkb_fault, 24, len) && AT(wkb_fault, 32, code) && AT(wkb_fault, 36, status));
 IS_LAID(wkb_options, 12, 4, AT(wkb_options, 0, order) && AT(wkb_options, 4, form) && AT(wkb_options, 8, srid));
-IS_LAID(wkb_part, 64, 8, AT(wkb_part, 0, begin) && AT(wkb_part, 8, end) && AT(wkb_part, 16, offset) &&
+IS_LAID(wkb_part, 64, LONG, AT(wkb_part, 0, begin) && AT(wkb_part, 8, end) && AT(wkb_part, 16, offset) &&
         AT(wkb_part, 24, count) && AT(wkb_part, 32, next) && AT(wkb_part, 40, srid) && AT(wkb_part, 44, has_srid) &&
         AT(wkb_part, 48, kind) && AT(wkb_part, 52, dimension) && AT(wkb_part, 56, width) && AT(wkb_part, 60, order));
-IS_LAID(wkb_range, 24, 8, AT(wkb_range, 0, least) && AT(wkb_range, 8, greatest) && AT(wkb_range, 16, count));
-IS_LAID(wkb_box, 96, 8, AT(wkb_box, 0, x) && AT(wkb_box, 24, y) && AT(wkb_box, 48, z) && AT(wkb_box, 72, m));
-IS_LAID(wkb_raw_column, 64, 8, AT(wkb_raw_column, 0, bytes) && AT(wkb_raw_column, 8, bytes_len) &&
-        AT(wkb_raw_column, 16, offsets) && AT(wkb_raw_column, 24, offsets_len) && AT(wkb_raw_column, 32, offset_size)
-        && AT(wkb_raw_column, 40, validity) && AT(wkb_raw_column, 48, validity_len) &&
-        AT(wkb_raw_column, 56, validity_offset));
-IS_LAID(wkb_raw_level_column, 112, 8, AT(wkb_raw_level_column, 0, words) && AT(wkb_raw_level_column, 8, word_count) &&
-        AT(wkb_raw_level_column, 16, ring_ends) && AT(wkb_raw_level_column, 24, ring_end_count) &&
-        AT(wkb_raw_level_column, 32, rings) && AT(wkb_raw_level_column, 40, single_ends) &&
-        AT(wkb_raw_level_column, 48, single_end_count) && AT(wkb_raw_level_column, 56, singles) &&
-        AT(wkb_raw_level_column, 64, row_ends) && AT(wkb_raw_level_column, 72, row_end_count) &&
-        AT(wkb_raw_level_column, 80, rows) && AT(wkb_raw_level_column, 88, validity) &&
-        AT(wkb_raw_level_column, 96, validity_len) && AT(wkb_raw_level_column, 104, validity_offset));
-IS_LAID(wkb_raw_level_slices, 48, 8, AT(wkb_raw_level_slices, 0, words) && AT(wkb_raw_level_slices, 8, words_room) &&
-        AT(wkb_raw_level_slices, 16, ring_ends) && AT(wkb_raw_level_slices, 24, ring_room) &&
-        AT(wkb_raw_level_slices, 32, single_ends) && AT(wkb_raw_level_slices, 40, single_room));
-IS_LAID(wkb_raw_totals, 24, 8, AT(wkb_raw_totals, 0, coordinates) && AT(wkb_raw_totals, 8, rings) &&
+IS_LAID(wkb_range, 24, LONG, AT(wkb_range, 0, least) && AT(wkb_range, 8, greatest) && AT(wkb_range, 16, count));
+IS_LAID(wkb_box, 96, LONG, AT(wkb_box, 0, x) && AT(wkb_box, 24, y) && AT(wkb_box, 48, z) && AT(wkb_box, 72, m));
+IS_LAID(wkb_raw_column, 8 * P, P, AT(wkb_raw_column, 0, bytes) && AT(wkb_raw_column, P, bytes_len) &&
+        AT(wkb_raw_column, 2 * P, offsets) && AT(wkb_raw_column, 3 * P, offsets_len) &&
+        AT(wkb_raw_column, 4 * P, offset_size) && AT(wkb_raw_column, 5 * P, validity) &&
+        AT(wkb_raw_column, 6 * P, validity_len) && AT(wkb_raw_column, 7 * P, validity_offset));
+IS_LAID(wkb_raw_level_column, (11 * P + 24 + LONG - 1) / LONG * LONG, LONG, AT(wkb_raw_level_column, 0, words) &&
+        AT(wkb_raw_level_column, P, word_count) && AT(wkb_raw_level_column, 2 * P, ring_ends) &&
+        AT(wkb_raw_level_column, 3 * P, ring_end_count) && AT(wkb_raw_level_column, 4 * P, rings) &&
+        AT(wkb_raw_level_column, 4 * P + 8, single_ends) && AT(wkb_raw_level_column, 5 * P + 8, single_end_count) &&
+        AT(wkb_raw_level_column, 6 * P + 8, singles) && AT(wkb_raw_level_column, 6 * P + 16, row_ends) &&
+        AT(wkb_raw_level_column, 7 * P + 16, row_end_count) && AT(wkb_raw_level_column, 8 * P + 16, rows) &&
+        AT(wkb_raw_level_column, 8 * P + 24, validity) && AT(wkb_raw_level_column, 9 * P + 24, validity_len) &&
+        AT(wkb_raw_level_column, 10 * P + 24, validity_offset));
+IS_LAID(wkb_raw_level_slices, 6 * P, P, AT(wkb_raw_level_slices, 0, words) &&
+        AT(wkb_raw_level_slices, P, words_room) && AT(wkb_raw_level_slices, 2 * P, ring_ends) &&
+        AT(wkb_raw_level_slices, 3 * P, ring_room) && AT(wkb_raw_level_slices, 4 * P, single_ends) &&
+        AT(wkb_raw_level_slices, 5 * P, single_room));
+IS_LAID(wkb_raw_totals, 24, LONG, AT(wkb_raw_totals, 0, coordinates) && AT(wkb_raw_totals, 8, rings) &&
         AT(wkb_raw_totals, 16, singles));
-#if defined __BYTE_ORDER__ && __BYTE_ORDER__ != __ORDER_LITTLE_ENDIAN__
-#error "the proved calls are for little endian"
+
+/* The byte order that isn't the machine's. */
+#if defined __BYTE_ORDER__ && __BYTE_ORDER__ == __ORDER_BIG_ENDIAN__
+static const wkb_order OTHER_ORDER = WKB_ORDER_LITTLE;
+#else
+static const wkb_order OTHER_ORDER = WKB_ORDER_BIG;
 #endif
 
 /* The target of an empty slice's pointer, for any type of its items. */
@@ -47,6 +54,18 @@ static const uint64_t NOTHING[1] = {0};
 static const uint8_t *bytes_of(const void *bytes, size_t len) {
   return len == 0 ? (const uint8_t *)NOTHING : (const uint8_t *)bytes;
 }
+
+/* Returns where a proved call writes a number for a caller: here, where a size_t is narrower than the number. */
+static uint64_t *number_of(size_t *number, uint64_t *here) {
+  return number != NULL && sizeof *number == sizeof *here ? (uint64_t *)number : here;
+}
+
+/* Passes on what it has written here. That fits, since it counts what is in memory, or would be. */
+static void pass_on(const uint64_t *here, size_t *number, int is_written) {
+  if (number != NULL && sizeof *number != sizeof *here && is_written) *number = (size_t)*here;
+}
+
+static int has_size(wkb_status status) { return status == WKB_STATUS_OK || status == WKB_STATUS_NO_ROOM; }
 
 unsigned wkb_version(void) { return WKB_VERSION; }
 
@@ -167,10 +186,12 @@ wkb_status wkb_bounds(const void *buf, size_t len, wkb_box *box, wkb_fault *faul
 wkb_status wkb_write(const void *buf, size_t len, const wkb_options *options, void *out, size_t room, size_t *size,
                      wkb_fault *fault) {
   uint8_t out_here;
-  size_t size_here;
+  uint64_t size_here;
   wkb_fault fault_here;
-  return wkb_raw_write(bytes_of(buf, len), len, options, room == 0 ? &out_here : (uint8_t *)out, room,
-                       size ? size : &size_here, fault ? fault : &fault_here);
+  wkb_status status = wkb_raw_write(bytes_of(buf, len), len, options, room == 0 ? &out_here : (uint8_t *)out, room,
+                                    number_of(size, &size_here), fault ? fault : &fault_here);
+  pass_on(&size_here, size, has_size(status));
+  return status;
 }
 
 wkb_status wkb_same(const void *a, size_t a_len, const void *b, size_t b_len, uint32_t *equal, wkb_fault *fault,
@@ -184,10 +205,12 @@ wkb_status wkb_same(const void *a, size_t a_len, const void *b, size_t b_len, ui
 
 wkb_status wkb_parts(const void *buf, size_t len, wkb_part *parts, size_t room, size_t *count, wkb_fault *fault) {
   wkb_part part_here;
-  size_t count_here;
+  uint64_t count_here;
   wkb_fault fault_here;
-  return wkb_raw_parts(bytes_of(buf, len), len, room == 0 ? &part_here : parts, room, count ? count : &count_here,
-                       fault ? fault : &fault_here);
+  wkb_status status = wkb_raw_parts(bytes_of(buf, len), len, room == 0 ? &part_here : parts, room,
+                                    number_of(count, &count_here), fault ? fault : &fault_here);
+  pass_on(&count_here, count, has_size(status));
+  return status;
 }
 
 /* Returns the bytes of all offsets of a column; none if no row has an offset. */
@@ -249,7 +272,7 @@ size_t wkb_column_parts(const wkb_column *column, wkb_part *parts, size_t room, 
   if (rows == 0) return 0;
   wkb_raw_column raw = unpacked(column);
   wkb_raw_column_parts(&raw, room == 0 ? &part_here : parts, room, ends, rows, statuses, rows);
-  return ends[rows - 1];
+  return ends[rows - 1] < SIZE_MAX ? (size_t)ends[rows - 1] : SIZE_MAX;
 }
 
 size_t wkb_column_write(const wkb_column *column, const wkb_options *options, void *out, size_t room, uint64_t *ends,
@@ -259,17 +282,21 @@ size_t wkb_column_write(const wkb_column *column, const wkb_options *options, vo
   if (rows == 0) return 0;
   wkb_raw_column raw = unpacked(column);
   wkb_raw_column_write(&raw, options, room == 0 ? &out_here : (uint8_t *)out, room, ends, rows, statuses, rows);
-  return ends[rows - 1];
+  return ends[rows - 1] < SIZE_MAX ? (size_t)ends[rows - 1] : SIZE_MAX;
 }
 
 wkb_status wkb_collect(const wkb_column *column, wkb_kind kind, wkb_dim dimension, const wkb_options *options,
                        void *out, size_t room, size_t *size, wkb_fault *fault, size_t *row) {
   uint8_t out_here;
-  size_t size_here, row_here;
+  uint64_t size_here, row_here;
   wkb_fault fault_here;
   wkb_raw_column raw = unpacked(column);
-  return wkb_raw_collect(&raw, column->rows, kind, dimension, options, room == 0 ? &out_here : (uint8_t *)out, room,
-                         size ? size : &size_here, fault ? fault : &fault_here, row ? row : &row_here);
+  wkb_status status = wkb_raw_collect(&raw, column->rows, kind, dimension, options,
+                                      room == 0 ? &out_here : (uint8_t *)out, room, number_of(size, &size_here),
+                                      fault ? fault : &fault_here, number_of(row, &row_here));
+  pass_on(&size_here, size, has_size(status));
+  pass_on(&row_here, row, status >= WKB_STATUS_NULL_ROW);
+  return status;
 }
 
 void wkb_column_coordinates(const wkb_column *column, wkb_dim dimension, wkb_coordinates *out, uint8_t *statuses) {
@@ -327,16 +354,16 @@ size_t wkb_column_from_coordinates(const wkb_levels *levels, wkb_kind kind, wkb_
   wkb_raw_level_column raw = unpacked_levels(levels);
   wkb_raw_column_from_coordinates(&raw, kind, dimension, options, room == 0 ? &out_here : (uint8_t *)out, room, ends,
                                   rows, statuses, rows);
-  return ends[rows - 1];
+  return ends[rows - 1] < SIZE_MAX ? (size_t)ends[rows - 1] : SIZE_MAX;
 }
 
 void wkb_words(const void *buf, const wkb_part *part, uint64_t first, uint64_t count, double *out) {
   uint64_t words = part->width * count;
   if (words == 0) return;
   const uint8_t *bytes = (const uint8_t *)buf + part->offset + 8 * part->width * first;
-  if (part->order == WKB_ORDER_BIG) {
+  if (part->order == OTHER_ORDER) {
     for (uint64_t k = 0; k < words; k++) {
-      uint64_t word = wkb_big_word(bytes + 8 * k);
+      uint64_t word = OTHER_ORDER == WKB_ORDER_BIG ? wkb_big_word(bytes + 8 * k) : wkb_little_word(bytes + 8 * k);
       memcpy(out + k, &word, sizeof word);
     }
     return;

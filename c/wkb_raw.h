@@ -1,7 +1,7 @@
 /* SPDX-License-Identifier: MIT OR Apache-2.0 */
 /* The proved calls of crates/wkb_c, which wkb.c calls and the library hides. A slice is a pointer and a length, also in
- * a struct. No pointer may be null, not even if its length is 0, and each is aligned. A size_t is a usize or a u64
- * of Rattle, of 64 bits as these are. The contracts in crates/wkb_c/src define the calls. */
+ * a struct. No pointer may be null, not even if its length is 0, and each is aligned. A size_t is a usize of Rattle.
+ * The contracts in crates/wkb_c/src define the calls. */
 #ifndef WKB_RAW_H
 #define WKB_RAW_H
 
@@ -57,10 +57,10 @@ typedef struct wkb_raw_level_column {
 wkb_status wkb_raw_check(const uint8_t *buf, size_t len, wkb_found *found, wkb_fault *fault);
 wkb_status wkb_raw_bounds(const uint8_t *buf, size_t len, wkb_box *bounds, wkb_fault *fault);
 wkb_status wkb_raw_write(const uint8_t *buf, size_t len, const wkb_options *options, uint8_t *out, size_t room,
-                         size_t *size, wkb_fault *fault);
+                         uint64_t *size, wkb_fault *fault);
 wkb_status wkb_raw_same(const uint8_t *a, size_t a_len, const uint8_t *b, size_t b_len, uint32_t *equal,
                         wkb_fault *fault, uint32_t *which);
-wkb_status wkb_raw_parts(const uint8_t *buf, size_t len, wkb_part *parts, size_t room, size_t *count,
+wkb_status wkb_raw_parts(const uint8_t *buf, size_t len, wkb_part *parts, size_t room, uint64_t *count,
                          wkb_fault *fault);
 
 void wkb_raw_column_check(const wkb_raw_column *column, uint8_t *statuses, size_t rows);
@@ -73,8 +73,8 @@ void wkb_raw_column_parts(const wkb_raw_column *column, wkb_part *parts, size_t 
 void wkb_raw_column_write(const wkb_raw_column *column, const wkb_options *options, uint8_t *out, size_t room,
                           uint64_t *ends, size_t end_count, uint8_t *statuses, size_t rows);
 wkb_status wkb_raw_collect(const wkb_raw_column *column, size_t rows, uint32_t kind, uint32_t dimension,
-                           const wkb_options *options, uint8_t *out, size_t room, size_t *size, wkb_fault *fault,
-                           size_t *row);
+                           const wkb_options *options, uint8_t *out, size_t room, uint64_t *size, wkb_fault *fault,
+                           uint64_t *row);
 void wkb_raw_column_coordinates(const wkb_raw_column *column, uint32_t dimension, wkb_raw_level_slices *out,
                                 uint64_t *row_ends, size_t row_count, wkb_raw_totals *totals, uint8_t *statuses,
                                 size_t rows);

@@ -84,7 +84,8 @@ static void hostile_columns_are_told(void) {
   uint8_t data[84];
   const size_t size = spelled(POINTS, data);
   for (size_t k = 0; k < sizeof COLUMNS / sizeof COLUMNS[0]; k++) {
-    const uint32_t bits = COLUMNS[k].present << FIRST_BIT;
+    const uint32_t present = COLUMNS[k].present << FIRST_BIT;
+    const uint8_t bits[] = {(uint8_t)present, (uint8_t)(present >> 8), (uint8_t)(present >> 16)};
     int32_t narrow[MOST + 1];
     for (size_t i = 0; i <= MOST; i++) {
       const int64_t it = COLUMNS[k].offsets[i];
@@ -92,7 +93,7 @@ static void hostile_columns_are_told(void) {
     }
     const void *const offsets[] = {COLUMNS[k].offsets, narrow, COLUMNS[k].offsets, NULL};
     for (size_t i = 0; i < sizeof SIZES / sizeof SIZES[0]; i++) {
-      wkb_column of = {data, size, offsets[i < 2 ? i : 2 + i % 2], SIZES[i], &bits, FIRST_BIT, COLUMNS[k].rows};
+      wkb_column of = {data, size, offsets[i < 2 ? i : 2 + i % 2], SIZES[i], bits, FIRST_BIT, COLUMNS[k].rows};
       rows_are(&of, COLUMNS[k].statuses);
     }
   }
@@ -193,13 +194,14 @@ static void is_told(size_t rows, wkb_kind kind, wkb_dim dimension, wkb_options o
   }
 }
 
-/* Kinds, dimensions and options without a meaning are told first, and then too many rows. No row is read for either. */
+/* Kinds, dimensions and options without a meaning are told first, and then too many rows. No row is read for either.
+ * A size_t of 32 bits holds no count of too many rows. */
 static void no_row_is_read_in_vain(void) {
-  static const size_t MANY = (size_t)1 << 32;
-  const size_t counts[] = {0, 3, MANY - 1, MANY, MANY + 1, SIZE_MAX};
+  static const uint64_t MANY = (uint64_t)1 << 32;
+  const uint64_t counts[] = {0, 3, MANY - 1, MANY, MANY + 1, UINT64_MAX};
   static const uint32_t NO_KINDS[] = {0, 1, 3, 8, 1004, UINT32_MAX};
   const wkb_status unknown = WKB_STATUS_UNKNOWN_OPTION;
-  for (size_t i = 0; i < sizeof counts / sizeof counts[0]; i++) {
+  for (size_t i = 0; i < sizeof counts / sizeof counts[0] && counts[i] == (size_t)counts[i]; i++) {
     for (int k = 0; k < 6; k++) is_told(counts[i], NO_KINDS[k], WKB_DIM_XY, LITTLE_ISO, unknown);
     is_told(counts[i], KIND, 4, LITTLE_ISO, unknown);
     is_told(counts[i], KIND, UINT32_MAX, LITTLE_ISO, unknown);

@@ -61,9 +61,14 @@ void fill(filled *f) {
   f->column = column;
 }
 
-uint32_t summed(uint32_t sum, const void *of, size_t len) {
+uint32_t summed(uint32_t sum, const void *of, size_t len, size_t item) {
   const uint8_t *from = of;
-  for (size_t i = 0; i < len; i++) sum = (sum ^ from[i]) * 0x01000193;
+  const uint16_t one = 1;
+  const bool is_big = *(const uint8_t *)&one == 0;
+  for (size_t i = 0; i < len; i++) {
+    const size_t size = item == 1 ? 1 : i % item < offsetof(wkb_part, srid) ? 8 : 4;
+    sum = (sum ^ from[is_big ? i ^ (size - 1) : i]) * 0x01000193;
+  }
   return sum;
 }
 
@@ -97,7 +102,7 @@ static const char *wrong_writing(const lasting *r, uint32_t number) {
   if (!is_kept(out + size, r->len + 5 - size)) return "bytes after the encoding are written";
   if (status != WKB_STATUS_OK)
     return size == 0 && is_fault(r, &fault) ? NULL : "wkb_write has another fault than wkb_check";
-  if (summed(NO_SUM, out, size) != r->sums[number]) return "a byte that is written changes";
+  if (summed(NO_SUM, out, size, 1) != r->sums[number]) return "a byte that is written changes";
   wkb_same(r->bytes, r->len, out, size, &equal, NULL, NULL);
   if (!equal) return "what is written has another value";
   memset(out, UNTOUCHED, size);
@@ -115,7 +120,7 @@ static const char *wrong_bounds(const lasting *r) {
   if (status != r->status) return "wkb_bounds has another status than wkb_check";
   if (status != WKB_STATUS_OK && !is_kept(&box, sizeof box)) return "bounds of a refused input";
   if (status != WKB_STATUS_OK) return is_fault(r, &fault) ? NULL : "wkb_bounds has another fault than wkb_check";
-  if (summed(NO_SUM, &box, sizeof box) != r->sums[OF_BOUNDS]) return "a bound changes";
+  if (summed(NO_SUM, &box, sizeof box, 8) != r->sums[OF_BOUNDS]) return "a bound changes";
   status = wkb_bounds(r->bytes, (size_t)r->fields[0] - 1, &box, NULL);
   return wkb_status_is_early_end(status) ? NULL : "a byte less is no early end";
 }
@@ -178,8 +183,8 @@ static const char *wrong_words(const lasting *r, const wkb_part *parts, size_t c
     if (parts[i].kind <= WKB_KIND_LINE_STRING) wrong = put_part(&all, r->bytes, &parts[i]);
     if (parts[i].kind == WKB_KIND_POLYGON) all.single_ends[all.singles++] = all.rings + parts[i].count;
   }
-  for (int under = 0; under < 4; under++) sum = summed(sum, all.words[under], 8 * all.used[under]);
-  sum = summed(summed(sum, all.ring_ends, 8 * all.rings), all.single_ends, 8 * all.singles);
+  for (int under = 0; under < 4; under++) sum = summed(sum, all.words[under], 8 * all.used[under], 8);
+  sum = summed(summed(sum, all.ring_ends, 8 * all.rings, 8), all.single_ends, 8 * all.singles, 8);
   return !wrong && sum != r->sums[OF_LEVELS] ? "a word changes" : wrong;
 }
 
@@ -194,7 +199,8 @@ static const char *wrong_parts(const lasting *r) {
   if (!is_kept(parts + count, sizeof parts - count * sizeof parts[0])) return "more parts are written";
   if (status != WKB_STATUS_OK)
     return count == 0 && is_fault(r, &fault) ? NULL : "wkb_parts has another fault than wkb_check";
-  if (count != wanted || summed(NO_SUM, parts, count * sizeof parts[0]) != r->sums[OF_PARTS]) return "a part changes";
+  const uint32_t sum = summed(NO_SUM, parts, count * sizeof parts[0], sizeof parts[0]);
+  if (count != wanted || sum != r->sums[OF_PARTS]) return "a part changes";
   for (size_t i = 0; i < count; i++)
     if (!is_slice(r->bytes, &parts[i])) return "the bytes of a part are another geometry";
   const char *wrong = wrong_words(r, parts, count);

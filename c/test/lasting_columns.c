@@ -78,8 +78,8 @@ static void are_checked(const wkb_column *column) {
   for (size_t i = 0; i < rows; i++) {
     const bool is_empty = memcmp(&found[i], &ZEROS, sizeof ZEROS) == 0;
     expect(is_good(i) ? is_found(&of[i - 1], &found[i]) : is_empty, "what is found of a row", "");
-    const uint32_t wanted = is_good(i) ? of[i - 1].sums[OF_BOUNDS] : summed(NO_SUM, &no_bounds, sizeof no_bounds);
-    expect(summed(NO_SUM, &boxes[i], sizeof boxes[i]) == wanted, "the bounds of a row", "");
+    const uint32_t wanted = is_good(i) ? of[i - 1].sums[OF_BOUNDS] : summed(NO_SUM, &no_bounds, sizeof no_bounds, 8);
+    expect(summed(NO_SUM, &boxes[i], sizeof boxes[i], 8) == wanted, "the bounds of a row", "");
   }
   expect(is_kept(&found[rows], sizeof found[0]) && is_kept(&boxes[rows], sizeof boxes[0]), "a row more", "");
 }
@@ -91,7 +91,7 @@ static void are_put(const uint8_t *items, size_t item, size_t room, size_t total
     expect(statuses[i] == status_in(i, ends[i], room), "the status of a row in a room", "");
     expect(is_good(i) ? ends[i] > start : ends[i] == start, "the end of a row", "");
     if (statuses[i] != WKB_STATUS_OK) continue;
-    const uint32_t found_sum = summed(NO_SUM, items + item * start, item * (size_t)(ends[i] - start));
+    const uint32_t found_sum = summed(NO_SUM, items + item * start, item * (size_t)(ends[i] - start), item);
     expect(found_sum == of[i - 1].sums[sum], "the items of a row", sum == OF_PARTS ? "parts" : "bytes");
     put = ends[i];
   }
@@ -142,7 +142,7 @@ static level_ends ends_of(size_t row) {
 static uint32_t summed_from(uint32_t sum, const uint64_t *all, uint64_t begin, uint64_t end, uint64_t first) {
   for (uint64_t i = begin; i < end; i++) {
     const uint64_t own = all[i] - first;
-    sum = summed(sum, &own, sizeof own);
+    sum = summed(sum, &own, sizeof own, 8);
   }
   return sum;
 }
@@ -172,7 +172,7 @@ static uint64_t are_back(const wkb_levels *levels, uint32_t kind, uint32_t dimen
     const uint32_t status = !is_own ? WKB_STATUS_NULL_ROW : has_room ? WKB_STATUS_OK : WKB_STATUS_NO_ROOM;
     expect(statuses[i] == status && ends[i] >= start, "the status of levels", "");
     if (!has_room) continue;
-    const uint32_t sum = summed(NO_SUM, out + start, (size_t)(ends[i] - start));
+    const uint32_t sum = summed(NO_SUM, out + start, (size_t)(ends[i] - start), 1);
     expect(sum == (is_own ? of[i - 1].sums[number] : NO_SUM), "a row of levels", "");
     put = ends[i];
   }
@@ -217,7 +217,7 @@ static void are_split(const wkb_column *column) {
     for (size_t i = 0; i < rows; i++, start = end) {
       end = ends_of(i);
       const uint64_t width = WIDTHS[dimension], count = end.coordinates - start.coordinates;
-      sums[i] = summed(sums[i], words + width * start.coordinates, (size_t)(8 * width * count));
+      sums[i] = summed(sums[i], words + width * start.coordinates, (size_t)(8 * width * count), 8);
       if (dimension < WKB_DIM_XYZM) continue;
       sums[i] = summed_from(sums[i], ring_ends, start.rings, end.rings, start.coordinates);
       sums[i] = summed_from(sums[i], single_ends, start.singles, end.singles, start.rings);
@@ -243,7 +243,7 @@ static void members_are_collected(const lasting *r, wkb_options options, uint32_
   for (uint64_t at = 1; at < table[0].next; at = table[at].next) begins[++column.rows] = (int64_t)table[at].end;
   memset(out, UNTOUCHED, r->len + 5);
   wkb_status status = wkb_collect(&column, kind, dimension, &options, out, r->len + 4, &size, NULL, NULL);
-  expect(status == WKB_STATUS_OK && summed(NO_SUM, out, size) == sum, "what is collected", "");
+  expect(status == WKB_STATUS_OK && summed(NO_SUM, out, size, 1) == sum, "what is collected", "");
   expect(is_kept(out + size, r->len + 5 - size), "more is collected", "");
   memset(out, UNTOUCHED, size);
   status = wkb_collect(&column, kind, dimension, &options, out, size - 1, &needed, NULL, NULL);

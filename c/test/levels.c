@@ -49,9 +49,11 @@ static const worked WORKED[] = {
 /* The bit of the first row is bit 5, so that other rows have bits of the byte behind. */
 static void rows_are_written(const worked *w) {
   double words[32];
-  uint8_t out[OUT_MOST], statuses[ROWS_MOST], wanted[OUT_MOST], present[2] = {255, 255};
+  uint8_t out[OUT_MOST], statuses[ROWS_MOST], wanted[OUT_MOST], present[2] = {255, 255}, bytes[sizeof words];
   uint64_t ends[ROWS_MOST];
-  size_t count = spelled(w->words, (uint8_t *)words) / sizeof words[0], start = 0;
+  size_t count = spelled(w->words, bytes) / sizeof words[0], start = 0;
+  const wkb_part part = {.width = 1, .order = WKB_ORDER_LITTLE};
+  wkb_words(bytes, &part, 0, count, words);
   for (size_t i = 0; i < w->rows; i++) present[(5 + i) / 8] ^= (uint8_t)((w->statuses[i] == NONE) << (5 + i) % 8);
   const wkb_levels levels = {words, count, w->ring_ends, w->rings, w->single_ends, w->singles, w->row_ends, w->rows,
                              present, 5};
