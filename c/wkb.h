@@ -30,10 +30,10 @@
  * null.
  *
  * Calls don't allocate and are async-signal-safe, also in a forked child and on a thread with a small stack: wkb_parts
- * and wkb_column_parts take at most 20 KB of it (28 KB on Windows), any other call 2 KB (tested). Calls are
- * thread-safe: there is no global state (tested). Four times the parts of a geometry are at most the length of its
- * input plus 8. The work over an input is at most proportional to its length, over a column to its rows and bytes, or
- * to its rows, singles, rings and coordinates, whatever its offsets and ends say (tested).
+ * and wkb_column_parts take at most 20 KB of it (28 KB on Windows), any other call 2 KB, and by make CORE=rust up to
+ * twice that (tested). Calls are thread-safe: there is no global state (tested). Four times the parts of a geometry are
+ * at most the length of its input plus 8. The work over an input is at most proportional to its length, over a column
+ * to its rows and bytes, or to its rows, singles, rings and coordinates, whatever its offsets and ends say (tested).
  *
  * Within version 1 these stay as they are: names, numbers and structs; which inputs are accepted, those of the grammar
  * with its seven kinds and at most 128 collections inside one another; and every byte that is written for an input and

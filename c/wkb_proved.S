@@ -13,5 +13,6 @@
 #elif defined __AARCH64EL__ && defined __LP64__ && defined __ENVIRONMENT_MAC_OS_X_VERSION_MIN_REQUIRED__
 .include "proved/aarch64-macos.s"
 #else
-#error "wkb is for Linux and FreeBSD on x86-64 and aarch64, Windows on x86-64, macOS on arm64, and no other system"
+#error "wkb is for Linux and FreeBSD (on x86-64 and aarch64; make CORE=rust takes any processor), \
+Windows on x86-64, macOS on arm64, and no other system"
 #endif

@@ -5,13 +5,16 @@
 #include "shared.h"
 #include <pthread.h>
 
-/* What wkb.h says of calls that return parts, and of the others. */
-#ifndef _WIN32
-enum { PARTS_MOST = 20 << 10 };
-#else
-enum { PARTS_MOST = 28 << 10 };
+/* What wkb.h says of calls that return parts, and of the others, times what other compilers of the core take. */
+#ifndef STACK_TIMES
+#define STACK_TIMES 1
 #endif
-enum { OTHERS_MOST = 2 << 10 };
+#ifndef _WIN32
+enum { PARTS_MOST = STACK_TIMES * (20 << 10) };
+#else
+enum { PARTS_MOST = STACK_TIMES * (28 << 10) };
+#endif
+enum { OTHERS_MOST = STACK_TIMES * (2 << 10) };
 enum { DEPTH = 127, STACK_SIZE = 1 << 18, PAINT = 0xa5 };
 
 static uint8_t bytes[EVERY_BYTES];

@@ -1,0 +1,36 @@
+// SPDX-License-Identifier: MIT OR Apache-2.0
+//! The core of the C library by rustc, for any processor: the calls of `calls.rs`, with each index tested. A test that
+//! failed would end the program. No call takes memory.
+#![no_std]
+// Stable since Rust 1.68.
+#![feature(default_alloc_error_handler)]
+
+extern crate alloc;
+
+#[path = "calls.rs"]
+mod calls;
+
+use alloc::alloc::{GlobalAlloc, Layout};
+use calls::{erased::*, *};
+
+extern "C" {
+    fn abort() -> !;
+}
+
+#[panic_handler]
+fn end(_: &core::panic::PanicInfo) -> ! {
+    unsafe { abort() }
+}
+
+struct NoMemory;
+
+unsafe impl GlobalAlloc for NoMemory {
+    unsafe fn alloc(&self, _: Layout) -> *mut u8 {
+        core::ptr::null_mut()
+    }
+
+    unsafe fn dealloc(&self, _: *mut u8, _: Layout) {}
+}
+
+#[global_allocator]
+static NO_MEMORY: NoMemory = NoMemory;
