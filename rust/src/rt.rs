@@ -280,6 +280,11 @@ pub mod io {
     }
 }
 
+impl crate::wkb_geom::Endianness {
+    /// The machine's byte order.
+    pub(crate) const MACHINE: Self = if cfg!(target_endian = "big") { Self::BigEndian } else { Self::LittleEndian };
+}
+
 /// The part of the crate byteorder that the sources use.
 pub mod byteorder {
     pub trait ByteOrder {

@@ -21,11 +21,11 @@ fn point(x: f64, y: f64) -> Vec<u8> {
 }
 
 fn small(offsets: &[i32]) -> Vec<u8> {
-    offsets.iter().flat_map(|it| it.to_le_bytes()).collect()
+    offsets.iter().flat_map(|it| it.to_ne_bytes()).collect()
 }
 
 fn large(offsets: &[i64]) -> Vec<u8> {
-    offsets.iter().flat_map(|it| it.to_le_bytes()).collect()
+    offsets.iter().flat_map(|it| it.to_ne_bytes()).collect()
 }
 
 /// Points in both orders, one of them cut, and a null row.

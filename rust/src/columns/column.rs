@@ -26,8 +26,8 @@ pub struct Column<'a> {
 }
 
 impl<'a> Column<'a> {
-    /// A column with offsets of 32 bits in little endian, as the bytes of Arrow's buffer, which aren't copied. There is one
-    /// offset more than there are rows. Numbers become such bytes by `to_le_bytes`.
+    /// A column with offsets of 32 bits in the machine's order, as the bytes of Arrow's buffer, which aren't copied.
+    /// There is one offset more than there are rows. Numbers become such bytes by `to_ne_bytes`.
     #[must_use]
     pub fn binary(data: &'a [u8], offsets: &'a [u8]) -> Self {
         Column { data, offsets, offset_size: 4, validity: None }
@@ -259,7 +259,7 @@ impl Rows {
                 made.data.try_extend_from_slice(bytes.as_ref())?;
                 made.validity[row / 8] |= 1 << (row % 8);
             }
-            made.offsets.try_extend_from_slice(&(made.data.len() as u64).to_le_bytes())?;
+            made.offsets.try_extend_from_slice(&(made.data.len() as u64).to_ne_bytes())?;
         }
         Ok(made)
     }
