@@ -1,0 +1,57 @@
+"""Each number that is made a usize is one that 32 bits hold. The proofs are for 64 bits, and don't say so.
+
+A usize is a length, an index below one, or a count of a caller's own geometry. What bytes, offsets and levels claim is
+a u32 or a u64, which only a cast makes a usize. A cast is of the lesser of the number and a usize, as in
+`n.min(buf.len() as u64) as usize`, or its line is listed. Sums and products are tested for overflow where a usize has
+32 bits (checks/systems/targets_test), which doesn't see a cast; there rustc refuses constants that are too large.
+"""
+import re
+
+from checks import judge
+from pages import texts
+
+# Why it fits, and the lines; * is any text.
+CASTS = {
+    "it was compared with a length, or is an index below one": """
+        Ok((count, end as usize))
+        Ok(&self.bytes[start as usize..end as usize])
+        if end < start || end >= 1 << 31 || bytes.len() < end as usize {
+        *self.*part(from as usize, to as usize)*
+        let * = self.*_ends.begin(* as usize);
+        let * = width * self.ends.* as usize;
+        let start = asked.width() * at.coordinates as usize;
+        *_ends[at.* as usize] = at.*;
+        let start = self.*_offset(i as u64) as usize;
+        let i = i as usize;""",
+    "the bytes of so many items were found": """
+        walk.coordinates += * as usize;
+        self.offset + self.dimension.coordinate_size() * self.count as usize
+        self.geometries += piece.count as usize;
+        let words = piece.dimension.width() * piece.count as usize;
+        self.count as usize
+        if i >= self.count as usize {""",
+    "it is a u32, and in no sum or product": """
+        for i in 0..count as usize {
+        let count = count as usize;
+        (count as usize).min(remaining / least)""",
+    "any width is right": """
+        for _ in 0..usize::BITS {""",
+}
+LESSER = re.compile(r"\.min\([\w:.]+(\(\))? as u\d+\) as usize\b")
+# What has other bytes, or another value, for another processor.
+OF_A_PROCESSOR = re.compile(r"\bas usize\b|_ne_bytes|\busize::BITS|\bsize_of::|\btarget_(?:endian|pointer)|\btransmute")
+
+
+class Casts(judge.Judge):
+    """Each line that depends on the width of a usize or the order of bytes is listed, and each listed one is there."""
+
+    def wrong(self):
+        left = {line.strip(): path for path, text in texts("crates/*/src/**/*.rt").items() for line in text.splitlines()
+                if OF_A_PROCESSOR.search(LESSER.sub("", line.split("//")[0]))}
+        for it in " ".join(CASTS.values()).strip().splitlines():
+            listed = re.compile(re.escape(it.strip()).replace(r"\*", ".*"))
+            known = [line for line in left if listed.fullmatch(line)]
+            if not known:
+                yield f"nothing is {it.strip()}"
+            left = {line: path for line, path in left.items() if line not in known}
+        yield from (f"{path}: {line}" for line, path in left.items())
