@@ -1,6 +1,6 @@
 // SPDX-License-Identifier: MIT OR Apache-2.0
 //! The inputs of c/test/lasting.rows, whose answers are those of a model (`checks/library/lasting --help`): one by one,
-//! by each way of writing, and as a column with null rows.
+//! by each way of writing, and as a column with null rows; and with faults, where each target has to answer alike.
 use porchsorrel_wkb::canon::{canonical, canonical_into, canonical_with_srid, same};
 use porchsorrel_wkb::check::{bounds, check, Bounds, Cause, Refused, Summary, WkbType};
 use porchsorrel_wkb::columns::*;
@@ -49,6 +49,16 @@ fn rows() -> Vec<Row> {
     rows
 }
 
+fn options(number: usize, own: Option<u32>) -> WriteOptions {
+    let form = match number % 4 {
+        0 => Form::Iso,
+        1 => Form::Ewkb { srid: own },
+        2 => Form::Ewkb { srid: Some(4326) },
+        _ => Form::Ewkb { srid: None },
+    };
+    WriteOptions { endianness: ORDERS[number / 4], form }
+}
+
 impl Row {
     fn found(&self) -> Summary {
         let of = |i: usize| self.fields[i] as usize;
@@ -64,13 +74,7 @@ impl Row {
 
     /// The options of a sum.
     fn options(&self, number: usize) -> WriteOptions {
-        let form = match number % 4 {
-            0 => Form::Iso,
-            1 => Form::Ewkb { srid: self.found().srid },
-            2 => Form::Ewkb { srid: Some(4326) },
-            _ => Form::Ewkb { srid: None },
-        };
-        WriteOptions { endianness: ORDERS[number / 4], form }
+        options(number, self.found().srid)
     }
 
     fn has_refused(&self, why: &Refused) -> bool {
@@ -326,17 +330,50 @@ fn facts() {
     }
 }
 
-/// Rows without SRIDs, which each get one: no column needs more room.
+/// A number below another, by xorshift, which is the same on each target.
+fn below(end: usize, state: &mut u64) -> usize {
+    *state ^= *state << 13;
+    *state ^= *state >> 7;
+    *state ^= *state << 17;
+    usize::try_from(*state % end as u64).unwrap()
+}
+
+/// An input of these, with up to three faults: a byte, a power of two as a count, or another input, and maybe no more.
+fn hostile(rows: &[Row], state: &mut u64) -> Vec<u8> {
+    let mut input = rows[below(rows.len(), state)].input.clone();
+    for _ in 0..below(4, state) {
+        let rest = input.split_off(below(60, state).min(input.len()));
+        let (count, other) = ((1_u32 << below(32, state)) - below(2, state) as u32, &rows[below(rows.len(), state)]);
+        let faults = [&[count as u8][..], &count.to_le_bytes(), &count.to_be_bytes(), &other.input];
+        let fault = faults[below(4, state)];
+        input.extend(fault);
+        input.extend(rest.iter().skip(fault.len()).take(below(400, state)));
+    }
+    input
+}
+
+/// Inputs with faults, each by one of the options and under one dimension: what is rewritten is what a view and a column
+/// write. checks/systems/targets_test compares the sums of all answers between targets.
 #[test]
-fn as_a_column_that_grows() {
-    let is_plain = |it: &Row| it.status == 0 && it.found().srid.is_none() && it.found().parts == 1;
-    let rows: Vec<Row> =
-        rows().into_iter().filter(|it| is_plain(it) && it.input.len() as u64 == it.fields[0]).collect();
-    assert!(rows.len() > 50);
-    let made = Rows::of(rows.iter().map(|it| Some(&it.input))).unwrap();
-    for number in [2, 6] {
-        let written = made.column().write(&rows[0].options(number)).unwrap();
-        let sums: Vec<u32> = written.rows().map(|it| summed(it.unwrap())).collect();
-        assert_eq!(sums, rows.iter().map(|it| it.sums[number]).collect::<Vec<_>>());
+fn hostile_inputs() {
+    let (rows, mut state, mut sum) = (rows(), 1, 0);
+    for number in 1..=std::env::var("INPUTS").map_or(1000, |it| it.parse().unwrap()) {
+        let input = hostile(&rows, &mut state);
+        let (options, dimension) = (options(number % 8, Some(1)), DIMENSIONS[number % 4]);
+        let key = canonical(&input, &options).map_err(|why| why.to_string());
+        assert_eq!(key, read_wkb(&input).and_then(|it| to_vec(&it, &options)).map_err(|why| why.to_string()));
+        let (made, own) = (Rows::of([Some(&input), None]).unwrap(), coordinates(&input, dimension));
+        let (column, ends) = (made.column(), [&own.ring_ends[..], &own.single_ends, &own.row_ends]);
+        assert_eq!(column.write(&options).unwrap().row(0), key.as_deref().ok());
+        let [ring_ends, single_ends, row_ends] = ends.map(Some);
+        let levels = Levels { words: &own.words, ring_ends, single_ends, row_ends };
+        let encoded = levels.encode(WkbType::MultiPolygon(dimension), &options).unwrap().data;
+        let collected = column.slice(0..1).collect(WkbType::GeometryCollection(dimension), &options);
+        let told = format!("{sum} {key:?} {:?} {:?} {collected:?}", check(&input), column.facts());
+        let numbers = own.words.iter().map(|it| it.to_bits()).chain(ends.concat());
+        sum = summed(&[told.into_bytes(), encoded, numbers.flat_map(u64::to_le_bytes).collect()].concat());
+        if number % 1000 == 0 {
+            println!("answers to {number} inputs: {sum:08x}");
+        }
     }
 }
