@@ -1,7 +1,6 @@
-// speed ROUNDS: nanoseconds of a call over random geometries of one shape after another, and by the row of a call for a
-// column of them, beside the readers of GEOS and OGR where they are, and beside plain C, which checks/hosts/fuzz compares
-// with the library. All calls of a shape are timed in each round, and the shortest of the rounds counts. It prints
-// tables in Markdown.
+// speed ROUNDS: how many times as long as calls over random geometries of one shape after another the readers of GEOS and
+// OGR take, where they are, and plain C, which checks/hosts/fuzz compares with the library. All calls of a shape are
+// timed in each round, and the shortest of the rounds counts. It prints a table in Markdown.
 // speed --count: calls each once over all geometries of a shape, between two looks at the clock, and prints a line for
 // it: the shape, the call and the geometries, with tabs between them. bench/instructions counts what lies between.
 #include "plain_columns.h"
@@ -44,7 +43,6 @@ struct timed {
 // What was timed for a shape.
 struct shape_times {
   const char *shape;
-  std::size_t bytes;
   std::vector<timed> calls;
 
   const timed *of(const std::string &name) const {
@@ -238,7 +236,7 @@ void time_call(shape_times &to, timed &it, inputs &of) {
 }
 
 shape_times time_shape(const char *shape, const std::vector<row> &rows, std::vector<timed> calls) {
-  shape_times times{shape, rows[0].size(), std::move(calls)};
+  shape_times times{shape, std::move(calls)};
   std::vector<row> turned;
   for (const row &it : rows) turned.push_back(written(it, BIG));
   inputs little(rows), big(std::move(turned));
@@ -270,17 +268,16 @@ void all_words(const row &input) {
   sum += words[1];
 }
 
-// One long line string in each order, so that the words alone are timed.
-std::vector<shape_times> time_words() {
+// One long line string in each order, so that the words alone are counted.
+void time_words() {
   const row little = line<LONG>();
-  std::vector<shape_times> all;
+  const char *name = "little endian";
   for (const row &input : {little, written(little, BIG)}) {
     parts_of(input);
-    const std::vector<timed> calls{{"wkb_word", each_word, nullptr, 2 * LONG},
-                                   {"wkb_words", all_words, nullptr, 2 * LONG}};
-    all.push_back(time_shape(all.empty() ? "little endian" : "big endian", std::vector<row>(100, input), calls));
+    time_shape(name, std::vector<row>(100, input), {{"wkb_word", each_word, nullptr, 2 * LONG},
+                                                    {"wkb_words", all_words, nullptr, 2 * LONG}});
+    name = "big endian";
   }
-  return all;
 }
 
 // A table: its head, with a line below, and then a row after the other.
@@ -305,49 +302,36 @@ double time_of(const timed *it, bool of_column) {
   return it == nullptr ? NEVER : of_column ? it->shortest_of_column : it->shortest;
 }
 
-// The times of those of the calls that were timed: a row for each shape, and where it is wanted one of its column.
-void print_calls(const char *first, const std::vector<shape_times> &all, const std::vector<std::string> &names,
-                 bool with_columns, int digits) {
-  std::vector<std::string> heads{first, "bytes"}, here;
-  std::copy_if(names.begin(), names.end(), std::back_inserter(here), [&](const auto &it) { return all[0].of(it); });
-  heads.insert(heads.end(), here.begin(), here.end());
-  print_head(heads);
-  for (const shape_times &it : all) {
-    for (const bool of_column : {false, true}) {
-      if (of_column && !with_columns) continue;
-      std::printf("| %-24s |", of_column ? "  in a column" : it.shape);
-      print_cell("bytes", of_column ? NEVER : static_cast<double>(it.bytes), 0);
-      for (const std::string &name : here) print_cell(name, time_of(it.of(name), of_column), digits);
-      std::printf("\n");
-    }
-  }
-  std::printf("\n");
-}
-
-// A call beside its like in plain C, and the head of the column of their quotient.
+// A call beside theirs, and the head of the column of their quotient.
 struct pair {
   const char *head;
   const char *name;
-  bool of_column;
+  const char *theirs;
+  bool of_column = false;
 };
 
-constexpr pair PAIRS[] = {{"other order", "write", false},
-                          {"as it is", "write as it is", false},
-                          {"bounds", "bounds", false},
-                          {"big endian bounds", "big endian bounds", false},
-                          {"coordinates", "coordinates", true}};
+constexpr pair PAIRS[] = {{"OGR", "bounds", "OGR"},
+                          {"GEOS", "bounds", "GEOS"},
+                          {"bounds", "bounds", "bounds in plain C"},
+                          {"big endian bounds", "big endian bounds", "big endian bounds in plain C"},
+                          {"other order", "write", "write in plain C"},
+                          {"as it is", "write as it is", "write as it is in plain C"},
+                          {"coordinates", "coordinates", "coordinates in plain C", true}};
 
-// Our times by those of plain C.
-void print_quotients(const std::vector<shape_times> &all) {
-  std::vector<std::string> heads{"our time / plain C"};
-  for (const pair &of : PAIRS) heads.emplace_back(of.head);
+// Our times of a check and of the bounds, and their times by ours, of those that were timed.
+void print_times(const std::vector<shape_times> &all) {
+  std::vector<std::string> heads{"their time / ours", "check, ns", "bounds, ns"};
+  std::vector<pair> here;
+  std::copy_if(std::begin(PAIRS), std::end(PAIRS), std::back_inserter(here),
+               [&](const pair &of) { return all[0].of(of.theirs); });
+  for (const pair &of : here) heads.emplace_back(of.head);
   print_head(heads);
   for (const shape_times &it : all) {
     std::printf("| %-24s |", it.shape);
-    for (const pair &of : PAIRS) {
-      const double plain = time_of(it.of(std::string(of.name) + " in plain C"), of.of_column);
-      print_cell(of.head, time_of(it.of(of.name), of.of_column) / plain, 2);
-    }
+    print_cell(heads[1], time_of(it.of("check"), false), 1);
+    print_cell(heads[2], time_of(it.of("bounds"), false), 1);
+    for (const pair &of : here)
+      print_cell(of.head, time_of(it.of(of.theirs), of.of_column) / time_of(it.of(of.name), of.of_column), 2);
     std::printf("\n");
   }
   std::printf("\n");
@@ -361,13 +345,10 @@ int main(int argc, char **argv) {
     rounds = passes = 1;
   else if (argc == 2)
     rounds = std::atoi(argv[1]);
-  const std::vector<shape_times> shapes = time_shapes(), long_lines = time_words();
-  if (counts) return 0;
-  print_calls("ns a row", shapes,
-              {"check", "found", "bounds", "big endian bounds", "parts", "parts, words", "parts, each word", "write",
-               "coordinates", "from coordinates", "OGR", "GEOS"},
-              true, 1);
-  print_quotients(shapes);
-  print_calls("ns a word", long_lines, {"wkb_word", "wkb_words"}, false, 2);
+  const std::vector<shape_times> shapes = time_shapes();
+  if (counts)
+    time_words();
+  else
+    print_times(shapes);
   return sum == 0.5 ? 1 : 0;
 }
