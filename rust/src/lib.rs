@@ -19,6 +19,7 @@ pub(crate) use below;
 pub mod canon;
 pub mod columns;
 pub mod geopackage;
+pub mod parts;
 pub mod reader;
 mod refused;
 mod rt;

@@ -6,6 +6,7 @@ use porchsorrel_wkb::check::{bounds, check, Bounds, Cause, Refused, Summary, Wkb
 use porchsorrel_wkb::columns::*;
 use porchsorrel_wkb::error::General;
 use porchsorrel_wkb::geom::{CoordTrait, GeometryTrait, GeometryType, PointTrait, PolygonTrait};
+use porchsorrel_wkb::parts::parts;
 use porchsorrel_wkb::reader::{read_wkb, Dimension, LineString, LinearRing, Point, Polygon, Wkb};
 use porchsorrel_wkb::writer::{to_vec, write_geometry, write_to_slice, Form, Out, SliceSink, VecSink, WriteOptions};
 use porchsorrel_wkb::Endianness;
@@ -96,6 +97,18 @@ fn summed(bytes: &[u8]) -> u32 {
 fn sum_of(bounds: &Bounds) -> u32 {
     let ranges = [bounds.x, bounds.y, bounds.z, bounds.m];
     summed(&ranges.map(|it| [it.min().to_bits(), it.max().to_bits(), it.count].map(u64::to_le_bytes).concat()).concat())
+}
+
+fn sum_of_parts(input: &[u8]) -> u32 {
+    let numbers = parts(input).unwrap().into_iter().flat_map(|it| {
+        let places = [it.begin, it.end, it.offset, it.count, it.next].map(|it| (it as u64).to_le_bytes());
+        let (kind, dimension) = (it.wkb_type.map_or(0, WkbType::kind), it.dimension);
+        assert!(it.wkb_type.map_or(true, |it| it.dimension() == dimension));
+        let header = [it.srid.unwrap_or(0), it.srid.is_some().into(), kind, dimension.thousands()];
+        let rest = [dimension.width() as u32, u8::from(it.order).into()];
+        [places.concat(), header.map(u32::to_le_bytes).concat(), rest.map(u32::to_le_bytes).concat()].concat()
+    });
+    summed(&numbers.collect::<Vec<u8>>())
 }
 
 fn coordinates(input: &[u8], dimension: Dimension) -> Coordinates {
@@ -198,6 +211,7 @@ fn refused(it: &Row) {
     assert_eq!(text, Wkb::try_new(&it.input).unwrap_err().to_string());
     assert_eq!(text, canonical(&it.input, &WriteOptions::default()).unwrap_err().to_string());
     assert_eq!(text, same(&it.input, &[]).unwrap_err().to_string());
+    assert_eq!(text, parts(&it.input).unwrap_err().to_string());
     let mut out = vec![7];
     assert_eq!(text, canonical_into(&it.input, &WriteOptions::default(), &mut out).unwrap_err().to_string());
     assert!(out.is_empty());
@@ -219,6 +233,7 @@ fn each_input() {
         assert_eq!(check(&it.input), Ok(found), "{:x?}", it.input);
         assert_eq!((wkb.buf(), wkb.srid()), (&it.input[..found.bytes], found.srid));
         assert_eq!(sum_of(&bounds(&it.input).unwrap()), it.sums[8], "{:x?}", it.input);
+        assert_eq!(sum_of_parts(&it.input), it.sums[9], "{:x?}", it.input);
         assert_eq!(sum_of_levels(&it.input), it.sums[10], "{:x?}", it.input);
         let mut walked = vec![];
         walk(&wkb, &mut walked);

@@ -7,6 +7,7 @@ use porchsorrel_wkb::columns::{Facts, Levels, NotCollected, Rows};
 use porchsorrel_wkb::error::WkbError;
 #[cfg(not(feature = "std"))]
 use porchsorrel_wkb::io;
+use porchsorrel_wkb::parts::parts;
 use porchsorrel_wkb::reader::{read_wkb, Dimension, Wkb};
 use porchsorrel_wkb::writer::{to_vec, write_geometry, Form, VecSink, WriteOptions};
 use porchsorrel_wkb::{AllocError, Endianness};
@@ -37,6 +38,7 @@ fn each_allocation_fails() {
     assert!(tried(|| canonical(&input, &options)) == 1);
     assert!(tried(|| canonical_into(&input, &options, &mut Vec::new())) == 1);
     assert!(tried(|| canonical_with_srid(&input, Endianness::LittleEndian)) == 1);
+    assert_eq!(tried(|| parts(&input)), 2);
     let wkb = read_wkb(&input).unwrap();
     assert!(tried(|| wkb.try_clone().map(drop)) > 5);
     assert!(tried(|| to_vec(&wkb, &options)) == 1);

@@ -1,0 +1,97 @@
+// SPDX-License-Identifier: MIT OR Apache-2.0
+//! The table of parts: a geometry, its rings and its members at every level, each before what is inside it.
+//!
+//! ```
+//! use porchsorrel_wkb::check::WkbType;
+//! use porchsorrel_wkb::parts::parts;
+//! use porchsorrel_wkb::reader::Dimension;
+//!
+//! // A polygon of one ring of two coordinates.
+//! let mut polygon = b"\x01\x03\0\0\0\x01\0\0\0\x02\0\0\0".to_vec();
+//! polygon.extend([0.0_f64, 0.0, 4.0, 3.0].iter().flat_map(|it| it.to_le_bytes()));
+//! let table = parts(&polygon)?;
+//! assert_eq!((table[0].wkb_type, table[0].count), (Some(WkbType::Polygon(Dimension::Xy)), 1));
+//! assert_eq!((table[1].wkb_type, table[1].offset, table[1].count), (None, 13, 2));
+//! # Ok::<(), porchsorrel_wkb::error::WkbError>(())
+//! ```
+use crate::check::{check, WkbType};
+use crate::error::WkbResult;
+use crate::reader::Dimension;
+use crate::rt::{try_filled, TryVec};
+use crate::wkb_abi::{fault::NO_FAULT, parts::Part as Entry};
+use crate::wkb_c::wkb_raw_parts;
+use crate::wkb_check::RING;
+use crate::wkb_geom::code::of_kind;
+use crate::Endianness;
+use alloc::vec::Vec;
+
+/// A geometry, or a ring of a polygon. Places count bytes from the start of the input.
+#[derive(Clone, Copy, Debug, PartialEq, Eq, Hash)]
+pub struct Part {
+    /// Its kind and dimension. None is a ring.
+    pub wkb_type: Option<WkbType>,
+    /// The dimension; a ring has its polygon's.
+    pub dimension: Dimension,
+    /// The order of its numbers; a ring has its polygon's.
+    pub order: Endianness,
+    /// Its own SRID.
+    pub srid: Option<u32>,
+    /// Where it begins.
+    pub begin: usize,
+    /// Where its own coordinates, rings or members begin.
+    pub offset: usize,
+    /// How many of these it has; a point has one coordinate, an empty point too.
+    pub count: usize,
+    /// Where it ends, with all that is inside it.
+    pub end: usize,
+    /// The index of the part behind all that is inside it.
+    pub next: usize,
+}
+
+impl Part {
+    fn of(entry: &Entry) -> Part {
+        let dimension = Dimension::of_thousands(entry.dimension).unwrap_or(Dimension::Xy);
+        Part {
+            wkb_type: (entry.kind != RING).then(|| of_kind(entry.kind, dimension)),
+            dimension,
+            order: if entry.order == 0 { Endianness::BigEndian } else { Endianness::LittleEndian },
+            srid: (entry.has_srid == 1).then_some(entry.srid),
+            begin: entry.begin as usize,
+            offset: entry.offset as usize,
+            count: entry.count as usize,
+            end: entry.end as usize,
+            next: entry.next as usize,
+        }
+    }
+}
+
+const NO_ENTRY: Entry = Entry {
+    begin: 0,
+    end: 0,
+    offset: 0,
+    count: 0,
+    next: 0,
+    srid: 0,
+    has_srid: 0,
+    kind: RING,
+    dimension: 0,
+    width: 0,
+    order: 0,
+};
+
+/// The parts of the geometry at the start of the bytes. Bytes after it are not looked at.
+///
+/// A table takes 64 bytes a part while it is made, beside the one that is returned.
+///
+/// # Errors
+///
+/// As [`read_wkb`](crate::reader::read_wkb) rejects the bytes; or memory is refused. Where the fault is says
+/// [`check`](crate::check::check).
+pub fn parts(bytes: &[u8]) -> WkbResult<Vec<Part>> {
+    let found = check(bytes)?;
+    let mut entries = try_filled(NO_ENTRY, found.parts)?;
+    wkb_raw_parts(bytes, &mut entries, &mut 0, &mut { NO_FAULT });
+    let mut table = Vec::try_with_room(found.parts)?;
+    table.extend(entries.iter().map(Part::of));
+    Ok(table)
+}
