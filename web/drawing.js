@@ -104,7 +104,7 @@ function shapesOf(chosen, scales) {
 
 /** The drawing, so many pixels wide, and how much of the geometry it has; none without a finite coordinate. */
 export function draw(bytes, parts, width) {
-  const own = parts.flatMap((it) => [it, ...it.members ?? []]).filter((it) => ['Point', 'LineString', 'Ring'].includes(it.kind));
+  const own = parts.filter((it) => ['Point', 'LineString', 'Ring'].includes(it.kind));
   const everyPart = Math.ceil(own.length / LIMITS.parts);
   const some = own.filter((_, i) => i % everyPart === 0);
   const sum = (of) => of.reduce((count, it) => count + it.count, 0);

@@ -2,7 +2,7 @@
 // What the bytes of an input mean, field by field, also of rejected ones, as far as they go.
 import { DIMENSIONS, KINDS, geopackageHeader, inspect } from './wkb.js';
 
-const [SRID_FLAG, MOST_OF_POINT] = [0x20000000, 41];
+const SRID_FLAG = 0x20000000;
 const NOUNS = { Point: 'coordinate', LineString: 'coordinate', Ring: 'coordinate', Polygon: 'ring' };
 export const nounOf = (kind) => NOUNS[kind] ?? 'member';
 export const counted = (count, noun) => `${count.toLocaleString('en')} ${noun}${count === 1 ? '' : 's'}`;
@@ -13,47 +13,43 @@ export const spelled = (it) => Object.is(it, -0) ? '-0' : String(it).replace('In
 
 /** The parts with their depth, and the one that they are inside of; the rejected one is the last. */
 export function readParts(bytes, front) {
-  const { parts, error } = inspect(bytes.subarray(front));
-  if (error) parts.push({ begin: error.offset, error });
+  const own = bytes.subarray(front);
+  const { parts, error } = inspect(own);
+  if (error?.reason === 'SHORT_MULTI_POINT') addMembers(parts, own, error);
+  else if (error) parts.push({ begin: error.offset, error });
   const open = [];
   parts.forEach((part, index) => {
     part.index = index;
     place(part, open);
-    if (part.error) describe(part, bytes, front);
+    if (part.error) describe(part, own);
     else if (KINDS.indexOf(part.kind) > 2) open.push({ part, left: part.count });
   });
   return { parts, error };
 }
 
-/** Gives the rejected part what there is of a part: its kind, its whole coordinates, and its whole members if these are
- * points, which the check counts before it looks at them. */
-function describe(part, bytes, front) {
+/** Adds a multi point that is cut off, its whole members, and the one that is cut. The check counts them before it looks
+ * at them; so they are those of a copy whose count fits. */
+function addMembers(parts, own, error) {
+  const fields = new Fields(own, error.offset, { error });
+  const { kind, axes, isLittle, count } = fields.front();
+  const [copy, fit] = [own.slice(), Math.floor((own.length - fields.at) / (5 + 8 * axes.length))];
+  new DataView(copy.buffer).setUint32(fields.at - 4, fit, isLittle);
+  const members = inspect(copy).parts.slice(parts.length + 1, parts.length + 1 + fit);
+  parts.push({ kind, dimension: axes, begin: error.offset, count, claims: error }, ...members,
+    { begin: members.at(-1)?.end ?? fields.at, error });
+}
+
+/** Gives the rejected part what there is of a part: its kind, and its whole coordinates. */
+function describe(part, own) {
   if (part.inside?.kind === 'Polygon') {
     Object.assign(part, { kind: 'Ring', dimension: part.inside.dimension, byteOrder: part.inside.byteOrder });
   }
-  const fields = new Fields(bytes, front + part.begin, part);
+  const fields = new Fields(own, part.begin, part);
   const { kind, axes, isLittle, count } = fields.front() ?? {};
-  part.members = [];
   if (!fields.isWhole || !kind) return;
-  const left = Math.floor((bytes.length - fields.at) / (8 * axes.length));
-  Object.assign(part, { kind, dimension: axes, byteOrder: isLittle ? 'little' : 'big', offset: fields.at - front,
+  const left = Math.floor((own.length - fields.at) / (8 * axes.length));
+  Object.assign(part, { kind, dimension: axes, byteOrder: isLittle ? 'little' : 'big', offset: fields.at,
     count: KINDS.indexOf(kind) < 3 ? Math.min(count, left) : 0 });
-  if (part.error.reason === 'SHORT_MULTI_POINT') part.members = pointsAt(bytes.subarray(front), part.offset, part.index);
-}
-
-/** The whole points from there on: one that begins as that before it is looked at no more. */
-function pointsAt(bytes, at, index) {
-  const copy = ({ kind, dimension, byteOrder, count, begin, offset, end }, to) => ({ kind, dimension, byteOrder, count, index,
-    begin: to, offset: to + offset - begin, end: to + end - begin });
-  const points = [];
-  for (let last; ; at = last.end) {
-    const isLike = last && 2 * last.end - last.begin <= bytes.length
-      && [0, 1, 2, 3, 4].every((i) => bytes[at + i] === bytes[last.begin + i]);
-    const { parts: [point], error } = isLike ? { parts: [last] } : inspect(bytes.subarray(at, at + MOST_OF_POINT));
-    if (error || point.kind !== 'Point') return points;
-    last = copy(point, at);
-    points.push(last);
-  }
 }
 
 function place(part, open) {
@@ -127,7 +123,7 @@ class Fields {
 
   /** A count of what the part has; if less is there, it may be the culprit. */
   count(kind, isLittle) {
-    const { needed, has } = this.part.error ?? {};
+    const { needed, has } = this.part.claims ?? (this.part.inside?.claims ? {} : this.part.error ?? {});
     return this.take(4, 'count', (at) => {
       const count = this.number(isLittle)(at);
       const claim = needed ? `: the part would have ${counted(needed, 'byte')}, and there are ${has.toLocaleString('en')}` : '';
@@ -169,22 +165,7 @@ export function rowsOf(bytes, front, part, most) {
   const fields = new Fields(bytes, front + part.begin, part);
   const { kind, axes, isLittle, count } = fields.front() ?? {};
   if (kind && fields.isWhole && KINDS.indexOf(kind) < 3) fields.coordinates(count, axes, isLittle, most);
-  const { rows } = fields;
-  if (part.error?.reason === 'SHORT_MULTI_POINT') rows.push(...memberRows(bytes, front, part, most));
-  return rows;
-}
-
-/** The rows of the whole members of a rejected multi point, of many the first ones and the last, and of what is behind. */
-function memberRows(bytes, front, part, most) {
-  const [first, last] = [part.members.slice(0, most), part.members.slice(most).slice(-1)];
-  const rows = first.flatMap((it) => rowsOf(bytes, front, it, most));
-  const more = part.members.length - first.length - last.length;
-  if (more > 0) rows.push({ at: front + first.at(-1).end, spans: [], text: `.. ${counted(more, 'more member')}`, part, isGap: true });
-  rows.push(...last.flatMap((it) => rowsOf(bytes, front, it, most)));
-  const rest = new Fields(bytes, front + (part.members.at(-1)?.end ?? part.offset), part);
-  const header = rest.header();
-  if (header?.kind === 'Point') rest.coordinates(1, header.axes, header.isLittle, 1);
-  return [...rows, ...rest.rows];
+  return fields.rows;
 }
 
 /** The header of a GeoPackage's blob, if the bytes begin with one: its size, and the rows of its fields. */

@@ -1,7 +1,7 @@
 // SPDX-License-Identifier: MIT OR Apache-2.0
 // The inspector: what is put into the page is put as text, never as HTML.
-import { bounds, check, toGeoJSON, write } from './wkb.js';
-import { decode, inputsOf, textOf } from './input.js';
+import { bounds, bytesOf, check, toGeoJSON, write } from './wkb.js';
+import { inputsOf, textOf } from './input.js';
 import { counted, nounOf, readFront, readParts, rowsOf, spelled } from './explain.js';
 import { draw } from './drawing.js';
 
@@ -34,7 +34,7 @@ function hexOf(bytes) {
   return text;
 }
 
-const bytesAt = (index) => typeof state.inputs[index] === 'string' ? decode(state.inputs[index]) : state.inputs[index];
+const bytesAt = (index) => typeof state.inputs[index] === 'string' ? bytesOf(state.inputs[index]) : state.inputs[index];
 
 function isAccepted(index) {
   try {

@@ -1,219 +1,329 @@
 // SPDX-License-Identifier: MIT OR Apache-2.0
-//! The calls that wkb.js makes, over the erased sources. This is a crate of its own, of what `tools/erase` makes. It has
-//! no `unsafe`: input and results are vectors of the desk, and JavaScript is told where they are.
+//! The calls that wkb.js makes, over the Rust crate. There is no `unsafe`: inputs and results are vectors of the desk,
+//! and JavaScript is told where they are. Numbers are laid as f64, which holds each that fits 32 bits.
 //!
 //! The proofs are for a `usize` of 64 bits, and here it has 32. So web/build compiles with checks of overflow: where a
 //! number didn't fit, the call would trap, and no answer would be wrong.
 
-extern crate alloc;
+extern crate porchsorrel_wkb;
 
-#[path = "../rust/src"]
-pub mod erased {
-    pub mod geopackage;
-    pub mod refused;
-    pub mod rt;
-    pub mod wkb;
-    pub mod wkb_abi;
-    pub mod wkb_bounds;
-    // Without the calls for columns.
-    pub mod wkb_c {
-        pub mod bounds;
-        pub mod check;
-        pub mod parts;
-        pub mod write;
-    }
-    pub mod wkb_check;
-    pub mod wkb_clients {
-        pub mod geopackage;
-        mod own;
-    }
-    pub mod columns {
-        mod status;
-        pub use status::Status;
-    }
-    pub mod wkb_geom;
-    pub mod wkb_levels;
-    pub mod wkb_plain;
-    pub mod wkb_read;
-    pub mod wkb_rewrite;
-    pub mod wkb_sink;
-    pub mod wkb_view;
-    pub mod wkb_write;
+use porchsorrel_wkb::canon::{canonical_into, same};
+use porchsorrel_wkb::check::{bounds, check, Bounds, Cause, Refused, WkbType};
+use porchsorrel_wkb::columns::{Column, Status};
+use porchsorrel_wkb::error::{General, WkbError};
+use porchsorrel_wkb::geopackage::{read_header, NoHeader};
+use porchsorrel_wkb::parts::{parts, Part};
+use porchsorrel_wkb::reader::Dimension;
+use porchsorrel_wkb::writer::{Form, WriteOptions};
+use porchsorrel_wkb::{AllocError, Endianness};
+
+/// Why a call has no result. Refused bytes have the numbers of `Status`.
+enum Failure {
+    Memory,
+    NoHeader(NoHeader),
+    TooFewBits,
+    Refused(Refused),
 }
 
-use erased::wkb::{check, error};
-use erased::*;
-pub use rt::{AllocError, TryClone};
-use rt::TryVec;
-use wkb_abi::fault::{WkbFault, NO_FAULT};
-use wkb_abi::found::{Found, NOTHING_FOUND};
-use wkb_abi::options::Options;
-use wkb_abi::parts::Part;
-use wkb_abi::status::{NO_MEMORY, NO_ROOM, OK};
-use wkb_bounds::Bounds;
-use wkb_check::Piece;
-use wkb_geom::code::POLYGON;
-
-/// The header of a GeoPackage's blob.
-#[repr(C)]
-pub struct Header {
-    envelope: [(f64, f64); 4],
-    size: u32,
-    srs_id: i32,
-    is_empty: u32,
-    axes: u32,
+impl From<AllocError> for Failure {
+    fn from(_: AllocError) -> Failure {
+        Failure::Memory
+    }
 }
 
-/// The input, and the results of the last calls: the numbers, as far as `size`, are read by wkb.js where they are.
-#[repr(C)]
-pub struct Desk {
-    found: Found,
-    fault: WkbFault,
-    bounds: Bounds,
-    header: Header,
-    /// Where the last result of many bytes is, and how many there are.
-    place: *const u8,
-    size: usize,
-    /// The input, and maybe bytes of a longer one before it.
+impl From<Refused> for Failure {
+    fn from(why: Refused) -> Failure {
+        Failure::Refused(why)
+    }
+}
+
+/// The error of a call over these bytes.
+fn failure(bytes: &[u8], why: WkbError) -> Failure {
+    match (why, check(bytes)) {
+        (WkbError::Memory(_), _) | (_, Ok(_)) => Failure::Memory,
+        (_, Err(why)) => Failure::Refused(why),
+    }
+}
+
+/// The numbers of kind (0 of a ring), dimension and order, and the SRID, where -1 is none.
+fn header(of: Option<WkbType>, dimension: Dimension, order: Endianness, srid: Option<u32>) -> [f64; 4] {
+    let kind = of.map_or(0, WkbType::kind);
+    [kind.into(), dimension.thousands().into(), order.byte().into(), srid.map_or(-1.0, f64::from)]
+}
+
+/// What the last call found.
+#[derive(Default)]
+struct Results {
+    numbers: Vec<f64>,
     bytes: Vec<u8>,
-    length: usize,
-    parts: Vec<Part>,
-    out: Vec<u8>,
+    statuses: Vec<u8>,
+    offsets: [Vec<i32>; 3],
 }
 
-impl Desk {
-    fn input(&self) -> &[u8] {
-        &self.bytes[..self.length]
+impl Results {
+    fn lay(&mut self, numbers: &[f64]) -> Result<(), Failure> {
+        self.numbers.try_reserve(numbers.len()).map_err(|_| Failure::Memory)?;
+        self.numbers.extend_from_slice(numbers);
+        Ok(())
     }
 
-    /// Makes this text the result.
+    fn lay_part(&mut self, it: &Part) -> Result<(), Failure> {
+        self.lay(&header(it.wkb_type, it.dimension, it.order, it.srid))?;
+        self.lay(&[it.begin, it.end, it.offset, it.count, it.next].map(|it| it as f64))
+    }
+
+    fn lay_bounds(&mut self, it: &Bounds) -> Result<(), Failure> {
+        [it.x, it.y, it.z, it.m].iter().try_for_each(|it| self.lay(&[it.min(), it.max(), it.count as f64]))
+    }
+
+    /// Keeps the ends of a level as offsets: a 0 comes first.
+    fn keep_offsets(&mut self, level: usize, ends: &[u64]) -> Result<(), Failure> {
+        let offsets = &mut self.offsets[level];
+        offsets.clear();
+        offsets.try_reserve(ends.len() + 1).map_err(|_| Failure::Memory)?;
+        offsets.push(0);
+        ends.iter().try_for_each(|end| Ok(offsets.push(i32::try_from(*end).map_err(|_| Failure::Memory)?)))
+    }
+
+    fn keep_statuses(&mut self, statuses: Vec<Status>) {
+        self.statuses = statuses.into_iter().map(Status::number).collect();
+    }
+
     fn say(&mut self, text: &str) {
-        self.out.clear();
-        self.out.extend_from_slice(text.as_bytes());
-        self.place = self.out.as_ptr();
-        self.size = self.out.len();
+        self.bytes.clear();
+        self.bytes.extend_from_slice(text.as_bytes());
+    }
+
+    /// The number of a failure, beside its text and the numbers of a fault.
+    fn told(&mut self, why: Failure) -> u32 {
+        self.numbers.clear();
+        match why {
+            Failure::Memory => 1,
+            Failure::NoHeader(why) => {
+                self.say(&why.to_string());
+                2
+            }
+            Failure::TooFewBits => 3,
+            Failure::Refused(why) => {
+                self.say(&why.to_string());
+                let code = if let Cause::General(General::CodeOutOfRange(code)) = why.cause { code } else { 0 };
+                let (end, len) = why.ends().unwrap_or_default();
+                self.numbers.extend([why.part as f64, why.offset as f64, end as f64, len as f64, code.into()]);
+                why.status().number().into()
+            }
+        }
     }
 }
 
-/// The parts before this one of rejected bytes, each up to its rings and members: the check has passed over them.
-fn parts_before(buf: &[u8], part: u64, out: &mut Vec<Part>) -> Result<(), AllocError> {
-    out.clear();
-    let (mut at, mut rings, mut last) = (0, 0, None);
-    for index in 1..=part as usize {
-        let piece = match last {
-            Some(Piece { order, dimension, .. }) if rings > 0 => {
-                rings -= 1;
-                Piece::of_ring(buf, at, order, dimension)
-            }
-            _ => Piece::of_geometry(buf, at),
-        };
-        if piece.kind == POLYGON {
-            rings = piece.count;
-        }
-        at = piece.end();
-        out.try_push(Part::of(&piece, at, index))?;
-        last = Some(piece);
+/// The inputs, and the results of the last call.
+#[derive(Default)]
+pub struct Desk {
+    inputs: [Vec<u8>; 3],
+    results: Results,
+}
+
+/// The column whose data, offsets and validity are the inputs. Without validity `first` is -1, else its first bit.
+fn column(inputs: &[Vec<u8>; 3], offset_size: u32, first: f64) -> Result<Column<'_>, Failure> {
+    let [data, offsets, validity] = inputs;
+    let column = if offset_size == 4 { Column::binary(data, offsets) } else { Column::large_binary(data, offsets) };
+    if first < 0.0 {
+        return Ok(column);
     }
-    Ok(())
+    column.with_validity(validity, first as usize).ok_or(Failure::TooFewBits)
+}
+
+fn options(order: u32, form: u32, srid: u32, own: Option<u32>) -> WriteOptions {
+    let endianness = if order == 0 { Endianness::BigEndian } else { Endianness::LittleEndian };
+    let form = match form {
+        0 => Form::Iso,
+        OWN_SRID => Form::Ewkb { srid: own },
+        2 => Form::Ewkb { srid: Some(srid) },
+        _ => Form::Ewkb { srid: None },
+    };
+    WriteOptions { endianness, form }
+}
+
+const OWN_SRID: u32 = 1;
+
+fn count_at(bytes: &[u8], at: usize, order: Endianness) -> usize {
+    let count = [0, 1, 2, 3].map(|i| bytes[at + i]);
+    (if order == Endianness::BigEndian { u32::from_be_bytes(count) } else { u32::from_le_bytes(count) }) as usize
+}
+
+/// The geometry that begins there, up to its rings or members: its header with a count of 0 is a geometry, too.
+fn open_part(bytes: &[u8], begin: usize) -> Option<Part> {
+    let empty = |size| [&bytes[begin..begin + size], &[0; 4]].concat();
+    let (size, part) = [5, 9].iter().find_map(|size| Some((size, parts(&empty(*size)).ok()?[0])))?;
+    let offset = begin + size + 4;
+    Some(Part { begin, offset, count: count_at(bytes, begin + size, part.order), end: offset, ..part })
+}
+
+fn ring_at(bytes: &[u8], begin: usize, polygon: &Part) -> Part {
+    let (count, offset) = (count_at(bytes, begin, polygon.order), begin + 4);
+    let end = offset + polygon.dimension.coordinate_size() * count;
+    Part { wkb_type: None, srid: None, begin, offset, count, end, ..*polygon }
+}
+
+/// The parts before the rejected one, each up to its rings and members: those of whole geometries, and geometries that
+/// the rejected part is inside of, of which the check has seen header and count.
+fn parts_before(bytes: &[u8], refused: &Refused) -> Result<Vec<Part>, Failure> {
+    let (mut found, mut at) = (Vec::<Part>::new(), 0);
+    found.try_reserve(refused.part).map_err(|_| Failure::Memory)?;
+    while found.len() < refused.part {
+        match check(&bytes[at..]) {
+            Ok(whole) if found.len() + whole.parts <= refused.part => {
+                let shifted = |it: Part| Part { begin: it.begin + at, offset: it.offset + at, end: it.end + at, ..it };
+                found.extend(parts(&bytes[at..]).map_err(|why| failure(bytes, why))?.into_iter().map(shifted));
+                at += whole.bytes;
+            }
+            _ => {
+                let open = open_part(bytes, at).expect("the header of a geometry that the check has begun");
+                found.push(open);
+                at = open.end;
+                while matches!(open.wkb_type, Some(WkbType::Polygon(_))) && found.len() < refused.part {
+                    found.push(ring_at(bytes, at, &open));
+                    at = found[found.len() - 1].end;
+                }
+            }
+        }
+    }
+    for (index, it) in found.iter_mut().enumerate() {
+        it.end = if it.wkb_type.map_or(0, WkbType::kind) < 3 { it.end } else { it.offset };
+        it.next = index + 1;
+    }
+    Ok(found)
 }
 
 macro_rules! calls {
-    ($($(#[$doc:meta])* $name:ident($desk:ident $(, $argument:ident: $type:ty)*) -> $result:ty $code:block)*) => {$(
+    ($($(#[$doc:meta])* $name:ident($inputs:ident, $out:ident $(, $argument:ident: $type:ty)*) $code:block)*) => {$(
         $(#[$doc])*
         #[no_mangle]
-        pub extern "C" fn $name($desk: &mut Desk $(, $argument: $type)*) -> $result $code
+        pub extern "C" fn $name(desk: &mut Desk $(, $argument: $type)*) -> u32 {
+            fn call($inputs: &[Vec<u8>; 3], $out: &mut Results $(, $argument: $type)*) -> Result<(), Failure> $code
+            desk.results.numbers.clear();
+            call(&desk.inputs, &mut desk.results $(, $argument)*).map_or_else(|why| desk.results.told(why), |()| 0)
+        }
     )*};
 }
 
 /// Makes the desk, which stays as long as the module.
 #[no_mangle]
 pub extern "C" fn wkb_desk() -> Box<Desk> {
-    Box::new(Desk {
-        found: NOTHING_FOUND,
-        fault: NO_FAULT,
-        bounds: Bounds::empty(),
-        header: Header { envelope: [(0.0, 0.0); 4], size: 0, srs_id: 0, is_empty: 0, axes: 0 },
-        place: core::ptr::null(),
-        size: 0,
-        bytes: Vec::new(),
-        length: 0,
-        parts: Vec::new(),
-        out: Vec::new(),
-    })
+    Box::default()
+}
+
+/// Where the so many bytes of an input are to be put; null without memory.
+#[no_mangle]
+pub extern "C" fn wkb_input(desk: &mut Desk, which: usize, length: usize) -> *mut u8 {
+    let input = &mut desk.inputs[which];
+    if input.try_reserve(length.saturating_sub(input.len())).is_err() {
+        return core::ptr::null_mut();
+    }
+    input.resize(length, 0);
+    input.as_mut_ptr()
+}
+
+/// Where a result is: the numbers, the bytes, the statuses, or one of the levels' offsets.
+#[no_mangle]
+pub extern "C" fn wkb_place(desk: &Desk, which: usize) -> *const u8 {
+    let it = &desk.results;
+    match which {
+        0 => it.numbers.as_ptr().cast(),
+        1 => it.bytes.as_ptr(),
+        2 => it.statuses.as_ptr(),
+        _ => it.offsets[which - 3].as_ptr().cast(),
+    }
+}
+
+/// How many items a result has.
+#[no_mangle]
+pub extern "C" fn wkb_size(desk: &Desk, which: usize) -> usize {
+    let it = &desk.results;
+    [it.numbers.len(), it.bytes.len(), it.statuses.len()]
+        .get(which)
+        .copied()
+        .unwrap_or_else(|| it.offsets[which - 3].len())
 }
 
 calls! {
-    /// Where the so many bytes of an input are to be put; null without memory.
-    wkb_input(desk, length: usize) -> *mut u8 {
-        if desk.bytes.len() < length && desk.bytes.try_resize(length, 0).is_err() {
-            return core::ptr::null_mut();
+    wkb_check(inputs, out) {
+        let it = check(&inputs[0])?;
+        out.lay(&header(Some(it.wkb_type), it.wkb_type.dimension(), it.order, it.srid))?;
+        out.lay(&[it.bytes, it.parts, it.coordinates].map(|it| it as f64))
+    }
+
+    wkb_bounds(inputs, out) {
+        out.lay_bounds(&bounds(&inputs[0])?)
+    }
+
+    /// Lists the parts.
+    wkb_parts(inputs, out) {
+        let bytes = &inputs[0];
+        parts(bytes).map_err(|why| failure(bytes, why))?.iter().try_for_each(|it| out.lay_part(it))
+    }
+
+    /// Lists the parts before the rejected one of rejected bytes.
+    wkb_parts_before(inputs, out) {
+        match check(&inputs[0]) {
+            Ok(_) => Ok(()),
+            Err(why) => parts_before(&inputs[0], &why)?.iter().try_for_each(|it| out.lay_part(it)),
         }
-        desk.length = length;
-        desk.bytes.as_mut_ptr()
     }
 
-    wkb_check(desk) -> u32 {
-        wkb_c::check::wkb_raw_check(&desk.bytes[..desk.length], &mut desk.found, &mut desk.fault)
+    wkb_write(inputs, out, order: u32, form: u32, srid: u32) {
+        let own = if form == OWN_SRID { check(&inputs[0])?.srid } else { None };
+        canonical_into(&inputs[0], &options(order, form, srid, own), &mut out.bytes).map_err(|why| failure(&inputs[0], why))
     }
 
-    wkb_bounds(desk) -> u32 {
-        wkb_c::bounds::wkb_raw_bounds(&desk.bytes[..desk.length], &mut desk.bounds, &mut desk.fault)
+    /// Whether two inputs have one value.
+    wkb_equal(inputs, out) {
+        check(&inputs[0])?;
+        check(&inputs[1])?;
+        out.lay(&[f64::from(u8::from(same(&inputs[0], &inputs[1]).map_err(|why| failure(&inputs[0], why))?))])
     }
 
-    /// Lists the parts, or of rejected bytes those before the rejected one.
-    wkb_parts(desk) -> u32 {
-        let (buf, mut count) = (&desk.bytes[..desk.length], 0);
-        let mut status = wkb_c::parts::wkb_raw_parts(buf, &mut desk.parts, &mut count, &mut desk.fault);
-        if status == NO_ROOM {
-            let first = Part::of(&Piece::of_geometry(buf, 0), 0, 0);
-            if desk.parts.try_resize(count as usize, first).is_err() {
-                return NO_MEMORY;
-            }
-            status = wkb_c::parts::wkb_raw_parts(buf, &mut desk.parts, &mut count, &mut desk.fault);
-        } else if status != OK {
-            count = desk.fault.part;
-            if parts_before(buf, count, &mut desk.parts).is_err() {
-                return NO_MEMORY;
-            }
+    wkb_geopackage(inputs, out) {
+        let it = read_header(&inputs[0]).map_err(Failure::NoHeader)?;
+        let axes = ["", "xy", "xyz", "xym"].iter().position(|axes| *axes == it.axes).unwrap_or(4) as u32;
+        out.lay(&[it.size as f64, it.srs_id.into(), u8::from(it.is_empty).into(), axes.into()])?;
+        it.envelope.iter().try_for_each(|(least, greatest)| out.lay(&[*least, *greatest]))
+    }
+
+    wkb_column_check(inputs, out, size: u32, first: f64) {
+        Ok(out.keep_statuses(column(inputs, size, first)?.check()?))
+    }
+
+    wkb_column_bounds(inputs, out, size: u32, first: f64) {
+        let (all, statuses) = column(inputs, size, first)?.bounds()?;
+        out.keep_statuses(statuses);
+        let ranges = all.iter().flat_map(|it| [it.x, it.y, it.z, it.m]);
+        out.numbers.try_reserve(8 * all.len()).map_err(|_| Failure::Memory)?;
+        Ok(out.numbers.extend(ranges.flat_map(|it| [it.min(), it.max()])))
+    }
+
+    wkb_column_facts(inputs, out, size: u32, first: f64) {
+        let it = column(inputs, size, first)?.facts()?;
+        out.lay(&[it.rows, it.accepted, it.null_rows, it.refused, it.without_srid, it.types.len()].map(|it| it as f64))?;
+        out.lay_bounds(&it.bounds)?;
+        for (of, rows) in &it.types {
+            out.lay(&[of.kind().into(), of.dimension().thousands().into(), *rows as f64])?;
         }
-        desk.place = desk.parts.as_ptr().cast();
-        desk.size = count as usize;
-        status
+        it.srids.iter().try_for_each(|it| out.lay(&[f64::from(*it)]))
     }
 
-    /// Writes the input under the options. An encoding is at most four bytes longer than its input.
-    wkb_write(desk, order: u32, form: u32, srid: u32) -> u32 {
-        let (buf, mut size) = (&desk.bytes[..desk.length], 0);
-        if desk.out.len() < buf.len() + 4 && desk.out.try_resize(buf.len() + 4, 0).is_err() {
-            return NO_MEMORY;
-        }
-        let options = Options { order, form, srid };
-        let status = wkb_c::write::wkb_raw_write(buf, &options, &mut desk.out, &mut size, &mut desk.fault);
-        desk.place = desk.out.as_ptr();
-        desk.size = size as usize;
-        status
+    wkb_column_coordinates(inputs, out, size: u32, first: f64, dimension: u32) {
+        let dimension = Dimension::of_thousands(dimension).unwrap_or(Dimension::Xy);
+        let it = column(inputs, size, first)?.coordinates(dimension)?;
+        out.numbers = it.words;
+        out.keep_statuses(it.statuses);
+        [it.row_ends, it.single_ends, it.ring_ends].iter().enumerate().try_for_each(|(i, ends)| out.keep_offsets(i, ends))
     }
 
-    /// Says why the input is rejected.
-    wkb_text(desk) -> u32 {
-        let refused = check::check(desk.input()).err();
-        desk.say(&refused.map(|it| it.to_string()).unwrap_or_default());
-        OK
-    }
-
-    /// Reads the header of a GeoPackage's blob; 1 if there is none, and then it says why.
-    wkb_geopackage(desk) -> u32 {
-        match geopackage::read_header(desk.input()) {
-            Ok(it) => {
-                let axes = ["", "xy", "xyz", "xym"].iter().position(|axes| *axes == it.axes).unwrap_or(4) as u32;
-                let (size, is_empty) = (it.size as u32, it.is_empty.into());
-                desk.header = Header { envelope: it.envelope, size, srs_id: it.srs_id, is_empty, axes };
-                OK
-            }
-            Err(why) => {
-                desk.say(&why.to_string());
-                1
-            }
-        }
+    wkb_column_write(inputs, out, size: u32, first: f64, order: u32, form: u32, srid: u32) {
+        let (column, asked) = (column(inputs, size, first)?, options(order, form, srid, None));
+        let it = if form == OWN_SRID { column.write_with_srids(asked.endianness)? } else { column.write(&asked)? };
+        out.bytes = it.data;
+        out.keep_statuses(it.statuses);
+        out.keep_offsets(0, &it.ends)
     }
 }

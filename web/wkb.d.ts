@@ -18,6 +18,8 @@ export type Geometry =
 /** The kinds by their numbers, of which 0 is a ring, and the dimensions by theirs. */
 export const KINDS: readonly (Kind | 'Ring')[];
 export const DIMENSIONS: readonly Dimension[];
+/** The names of the statuses of a column's rows: 0 is 'OK', 16 'NULL_ROW', 17 'BAD_OFFSETS', others are reasons. */
+export const STATUSES: Readonly<Record<number, string>>;
 
 /** Why some bytes are rejected: the first fault from their start on. */
 export class WkbError extends Error {
@@ -73,14 +75,14 @@ export interface WriteOptions {
   byteOrder?: ByteOrder;
   /** By default 'iso', which has no SRID. */
   form?: 'iso' | 'ewkb';
-  /** Of 'ewkb': a number, null for none; by default the geometry's own. */
+  /** Of 'ewkb' alone: a number, null for none; by default the geometry's own. */
   srid?: number | null;
 }
 
 export interface GeopackageHeader {
   /** Where the geometry begins. */
   size: number;
-  /** 0 and -1 stand for undefined ones. */
+  /** The SRID; 0 and -1 stand for undefined ones. */
   srsId: number;
   isEmpty: boolean;
   axes: '' | Dimension;
@@ -88,6 +90,10 @@ export interface GeopackageHeader {
   envelope: [number, number][];
 }
 
+/** Compiles the code ahead, and not on this thread. Without it the first call compiles it, and waits. */
+export function start(): Promise<void>;
+/** The bytes of a text: hex, also behind \x or 0x or as X'..', or base64. Throws a SyntaxError for another. */
+export function bytesOf(text: string): Uint8Array;
 /** Each call throws a WkbError for rejected bytes, a TypeError or RangeError for wrong arguments or want of memory. */
 export function check(bytes: Bytes): Found;
 /** The bounds of all coordinates; NaNs are left out. */
@@ -111,3 +117,58 @@ export function canonical(bytes: Bytes): Uint8Array;
 export function equal(a: Bytes, b: Bytes): boolean;
 /** The header before the geometry in a GeoPackage's blob. */
 export function geopackageHeader(blob: Bytes): GeopackageHeader;
+
+export interface Facts {
+  rows: number;
+  accepted: number;
+  nullRows: number;
+  /** How many are rejected for their bytes. The rest has bad offsets. */
+  refused: number;
+  types: { kind: Kind; dimension: Dimension; rows: number }[];
+  bounds: { x: Range; y: Range; z: Range; m: Range };
+  /** The SRIDs that occur, in order, and how many geometries have none. */
+  srids: number[];
+  withoutSrid: number;
+}
+
+/** Coordinates one after another; row i has the singles (points, line strings, polygons) from rows[i] up to rows[i + 1],
+ * a single so has rings, and a ring coordinates. Null and rejected rows have none. */
+export interface Coordinates {
+  values: Float64Array;
+  rows: Int32Array;
+  singles: Int32Array;
+  rings: Int32Array;
+  statuses: Uint8Array;
+}
+
+/** GeoArrow's buffers, interleaved: the offsets of its lists from the outermost on, and a bit for each row. */
+export interface GeoArrow {
+  kind: Kind;
+  dimension: Dimension;
+  values: Float64Array;
+  offsets: Int32Array[];
+  validity: Uint8Array;
+}
+
+/** A column as Arrow has it: row i has the bytes of the data from offset i up to offset i + 1. Offsets may be anything: a
+ * row whose offsets are bad is 17. Each call answers for all rows; its statuses say why a row has no result. */
+export class Column {
+  /** With a validity bitmap, least significant bit first, 0 for a null row; the first row's bit is `first`. */
+  constructor(data: Bytes, offsets: Int32Array | BigInt64Array, nulls?: { validity?: Bytes | null; first?: number });
+  /** A copy of rows, of which null or undefined is a null row. */
+  static of(rows: Iterable<Bytes | null | undefined>): Column;
+  readonly length: number;
+  /** The status of each row: 0 for a geometry. */
+  check(): Uint8Array;
+  /** What occurs in the rows. */
+  facts(): Facts;
+  /** Eight numbers a row: the least and the greatest x, y, z and m, or Infinity and -Infinity. */
+  bounds(): { bounds: Float64Array; statuses: Uint8Array };
+  /** The coordinates of all rows in one array; what a geometry doesn't have is NaN. By default 'xy'. */
+  coordinates(dimension?: Dimension): Coordinates;
+  /** The rows as GeoArrow has those of one kind, or of its multi kind if both occur; else a TypeError. A null point is
+   * NaNs. The dimension is one that has all ordinates which occur, unless it is given. */
+  geoArrow(dimension?: Dimension): GeoArrow;
+  /** The encoding of each row one after another, as `write` makes it, and its offsets. */
+  write(options?: WriteOptions): { data: Uint8Array; offsets: Int32Array; statuses: Uint8Array };
+}

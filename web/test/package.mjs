@@ -1,16 +1,22 @@
 // SPDX-License-Identifier: MIT OR Apache-2.0
 // The package over c/test/lasting.rows, and what the types say besides.
 import assert from 'node:assert/strict';
-import { readFileSync } from 'node:fs';
+import { execFileSync, spawnSync } from 'node:child_process';
+import { mkdtempSync, readFileSync, rmSync, writeFileSync } from 'node:fs';
 import { createRequire } from 'node:module';
+import { tmpdir } from 'node:os';
+import { join } from 'node:path';
 import { test } from 'node:test';
+import { fileURLToPath } from 'node:url';
 import { runInNewContext } from 'node:vm';
 import { Worker } from 'node:worker_threads';
 import * as wkb from '../out/package/wkb.js';
 
 const DIMENSIONS = ['xy', 'xyz', 'xym', 'xyzm'];
 const ORDERS = ['big', 'little'];
-const bytesOf = (hex) => Uint8Array.from(Buffer.from(hex, 'hex'));
+const { bytesOf } = wkb;
+const POINT = bytesOf('0101000000000000000000f03f0000000000000040');
+const [PACKAGE, DESK] = ['wkb', 'desk'].map((it) => new URL(`../out/package/${it}.js`, import.meta.url).href);
 const file = readFileSync(new URL('../../c/test/lasting.rows', import.meta.url), 'utf8');
 const ROWS = file.split('\n').filter((it) => it && !it.startsWith('#')).map((line) => {
   const [hex, status, ...rest] = line.split(' ');
@@ -48,13 +54,12 @@ test('rejected rows', () => {
     for (const call of [wkb.check, wkb.bounds, wkb.parts, wkb.toGeoJSON, wkb.write, wkb.canonical]) {
       assert.throws(() => call(input), why);
     }
-    const good = bytesOf('0101000000000000000000f03f0000000000000040');
-    assert.throws(() => wkb.equal(input, good), why);
-    assert.throws(() => wkb.equal(good, input), why);
+    assert.throws(() => wkb.equal(input, POINT), why);
+    assert.throws(() => wkb.equal(POINT, input), why);
     const { parts, error } = wkb.inspect(input);
     assert.equal(error.message, (() => { try { wkb.check(input); } catch (it) { return it.message; } })());
     assert.equal(parts.length, part);
-    for (const it of parts) assert.ok(it.begin < it.end && it.end <= offset);
+    parts.forEach((it, i) => assert.deepEqual([it.next, it.end], [i + 1, parts[i + 1]?.begin ?? offset]));
   }
 });
 
@@ -115,7 +120,8 @@ test('GeoJSON there and back', () => {
   assert.deepEqual(wkb.toGeoJSON(wkb.fromGeoJSON(polygon, { byteOrder: 'big' })), polygon);
   const collection = { type: 'GeometryCollection', geometries: [{ type: 'Point', coordinates: [1, 2, 3] }] };
   assert.equal(wkb.check(wkb.fromGeoJSON(collection)).dimension, 'xyz');
-  for (const it of [null, {}, { type: 'Feature' }, { type: 'Ring', coordinates: [] }]) {
+  assert.throws(() => wkb.fromGeoJSON({ type: 'Feature', geometry: polygon }), /give the geometry/);
+  for (const it of [null, {}, { type: 'FeatureCollection' }, { type: 'Ring', coordinates: [] }]) {
     assert.throws(() => wkb.fromGeoJSON(it), TypeError);
   }
   for (const it of [[1], [1, '2'], ['1', '2'], [null, null], [[1, 2]], [1, , 3]]) {
@@ -126,31 +132,166 @@ test('GeoJSON there and back', () => {
   }
 });
 
-test('the example of the page', async () => {
-  const page = readFileSync(new URL('../README.md', import.meta.url), 'utf8');
-  const code = /```js\n([^]*?)```/.exec(page)[1].replace('porchsorrel-wkb', new URL('../out/package/wkb.js', import.meta.url));
-  await import(`data:text/javascript,${encodeURIComponent(code)}`);
-});
+const MODULE = 'porchsorrel-wkb';
+const PAGE = readFileSync(new URL('../README.md', import.meta.url), 'utf8');
+const EXAMPLE = [...PAGE.matchAll(/```js\n([^]*?)```/g)].map((it) => it[1]).join('');
+test('the examples of the page', () => import(`data:text/javascript,${encodeURIComponent(EXAMPLE.replaceAll(MODULE, PACKAGE))}`));
 
 test('by require, where Node.js has that', { skip: !process.features.require_module }, () => {
   const { check } = createRequire(import.meta.url)('../out/package/wkb.js');
   assert.equal(check(Uint8Array.of(1, 7, 0, 0, 0, 0, 0, 0, 0)).size, 9);
 });
 
-test('a call that traps', async (it) => {
+test('a call that traps: a length that overflows', async (it) => {
   const { Instance } = WebAssembly;
   let made = 0;
   it.after(() => { WebAssembly.Instance = Instance; });
-  // The first one has its desk behind the memory.
+  // In the first instance an input is said to have 4 GB: so the size of its encoding doesn't fit 32 bits.
   WebAssembly.Instance = function (...values) {
     const { exports } = new Instance(...values);
-    const wkb_write = made++ > 0 ? exports.wkb_write : (_, ...more) => exports.wkb_write(-16, ...more);
+    const wkb_write = made++ > 0 ? exports.wkb_write : (desk, ...more) => {
+      const words = new Uint32Array(exports.memory.buffer, desk, 64);
+      words.forEach((it, i) => { words[i] = it === 77 ? 2 ** 32 - 1 : it; });
+      return exports.wkb_write(desk, ...more);
+    };
     return { exports: { ...exports, wkb_write } };
   };
-  const own = await import('../out/package/wkb.js?own');
-  const point = bytesOf('0101000000000000000000f03f0000000000000040');
-  assert.throws(() => own.canonical(point), WebAssembly.RuntimeError);
-  assert.deepEqual([own.check(point).size, own.canonical(point), made], [21, point, 2]);
+  const own = await import(`${DESK}?own`);
+  const write = (it) => {
+    own.over(it, 'wkb_write', ...own.numbered({ form: 'ewkb', srid: 1 }));
+    return wkb.check(own.bytes());
+  };
+  const long = new Uint8Array(77);
+  long.set(bytesOf('0102000020e6100000ffffff0f'));
+  assert.throws(() => write(long), (why) => why instanceof WebAssembly.RuntimeError && /unreachable/.test(why.message));
+  assert.deepEqual([write(POINT).srid, write(POINT).size, made], [1, 25, 2]);
+});
+
+test('memory that is refused', () => {
+  const code = `import * as wkb from '${PACKAGE}';
+    const point = wkb.bytesOf('${Buffer.from(POINT).toString('hex')}');
+    const long = new Uint8Array(9 + 21 * 2e4);
+    long.set([1, 4, 0, 0, 0, 32, 78, 0, 0]);
+    for (let i = 0; i < 2e4; i++) long.set(point, 9 + 21 * i);
+    const rows = wkb.Column.of(Array(2e5).fill(wkb.bytesOf('010200000000000000')));
+    for (const call of [() => wkb.check(new Uint8Array(8e6)), () => wkb.parts(long), () => wkb.toGeoJSON(long),
+      () => rows.bounds(), () => rows.write()]) {
+      try { call(); console.log('no error'); } catch (why) { if (why.name !== 'RangeError') console.log(why); }
+      if (wkb.check(long).parts !== 20001 || wkb.canonical(point).length !== 21) console.log('wrong');
+    }`;
+  const words = ['--wasm-max-mem-pages=64', '--input-type=module', '--eval', code];
+  assert.equal(execFileSync(process.execPath, words, { encoding: 'utf8' }), '');
+});
+
+test('started beside the main thread', async () => {
+  const own = await import(`${DESK}?started`);
+  const { Module } = WebAssembly;
+  WebAssembly.Module = () => { throw new Error('compiled at once'); };
+  try {
+    await Promise.all([own.start(), own.start()]);
+    own.over(POINT, 'wkb_check');
+    assert.equal(own.numbers()[4], 21);
+  } finally {
+    WebAssembly.Module = Module;
+  }
+});
+
+test('a column', () => {
+  const all = new wkb.Column(...buffersOf(ROWS.flatMap((it) => [it.input, it.input])), { validity: Uint8Array.from(ROWS, () => 0xaa), first: 1 });
+  assert.equal(all.length, 2 * ROWS.length);
+  const statuses = ROWS.flatMap((it) => [it.status, 16]);
+  assert.deepEqual([...all.check()], statuses);
+  const { bounds, statuses: ofBounds } = all.bounds();
+  assert.deepEqual([...ofBounds], statuses);
+  ROWS.forEach(({ input, status }, i) => {
+    const own = status === 0 ? Object.values(wkb.bounds(input)).flatMap((it) => [it.min, it.max]) : Array(4).fill([Infinity, -Infinity]).flat();
+    assert.deepEqual([...bounds.subarray(16 * i, 16 * i + 8)], own);
+  });
+  for (let i = 0; i < 8; i++) {
+    const { data, offsets } = all.write(options(i));
+    ROWS.forEach((it, row) => assert.equal(it.status === 0 ? summed(data.subarray(offsets[2 * row], offsets[2 * row + 1])) : undefined, it.sums[i]));
+  }
+  const facts = all.facts();
+  assert.deepEqual([facts.rows, facts.accepted, facts.nullRows, facts.refused], [2 * ROWS.length, 672, ROWS.length, ROWS.length - 672]);
+  assert.equal(facts.types.reduce((sum, it) => sum + it.rows, 0), 672);
+  const own = ROWS.filter((it) => it.status === 0 && it.fields[6] === 1).map((it) => it.fields[5]);
+  assert.deepEqual(facts.srids, [...new Set(own)].sort((a, b) => a - b));
+  assert.equal(facts.withoutSrid, 672 - own.length);
+  for (const { input, sums } of ROWS.filter((it) => it.status === 0)) {
+    const found = DIMENSIONS.map((it) => wkb.Column.of([input]).coordinates(it));
+    const ends = [found[0].rings, found[0].singles].map((it) => BigUint64Array.from(it.subarray(1), BigInt));
+    assert.equal(summed(...found.map((it) => it.values), ...ends), sums[10]);
+  }
+});
+
+/** The buffers of rows, with offsets of 64 bits. */
+function buffersOf(rows) {
+  let size = 0;
+  return [Buffer.concat(rows), BigInt64Array.of(0n, ...rows.map((it) => BigInt(size += it.length)))];
+}
+
+test('a column as GeoArrow, and columns of no meaning', () => {
+  const geo = (...geometries) => wkb.Column.of(geometries.map((it) => it && wkb.fromGeoJSON(it))).geoArrow();
+  const of = (type, coordinates) => ({ type, coordinates });
+  const [square, hole] = [[[0, 0], [4, 0], [4, 4], [0, 0]], [[1, 1], [2, 1], [1, 1]]];
+  const found = geo(of('Polygon', [square, hole]), null, of('MultiPolygon', [[hole], [square]]));
+  assert.deepEqual([found.kind, found.offsets.map((it) => [...it]), [...found.validity], found.values.length],
+    ['MultiPolygon', [[0, 1, 1, 3], [0, 2, 3, 4], [0, 4, 7, 10, 14]], [5], 28]);
+  assert.deepEqual([...found.values.subarray(8, 14)], hole.flat());
+  assert.deepEqual(geo(of('Polygon', [square, hole]), of('Polygon', [hole])).offsets.map((it) => [...it]), [[0, 2, 3], [0, 4, 7, 10]]);
+  assert.deepEqual(geo(of('LineString', square), null, of('LineString', hole)).offsets.map((it) => [...it]), [[0, 4, 4, 7]]);
+  assert.deepEqual(geo(of('MultiLineString', [square, hole]), of('LineString', hole)).offsets.map((it) => [...it]), [[0, 2, 3], [0, 4, 7, 10]]);
+  assert.deepEqual(geo(of('MultiPoint', hole), of('Point', [7, 8])).offsets.map((it) => [...it]), [[0, 3, 4]]);
+  const points = geo(of('Point', [1, 2, 3]), null, of('Point', [4, 5]));
+  assert.deepEqual([points.dimension, points.offsets, ...points.values], ['xyz', [], 1, 2, 3, NaN, NaN, NaN, 4, 5, NaN]);
+  for (const it of [[], [of('Point', [1, 2]), of('LineString', [])], [{ type: 'GeometryCollection', geometries: [] }]]) {
+    assert.throws(() => geo(...it), TypeError);
+  }
+  const large = new wkb.Column(POINT, BigInt64Array.of(0n, 21n, 2n ** 32n, 2n ** 32n + 21n, -1n));
+  assert.deepEqual([...large.check()], [0, 17, 17, 17]);
+  assert.deepEqual([...new wkb.Column(POINT, Int32Array.of(0, 21, 20, 21)).check()], [0, 17, 17]);
+  assert.equal(new wkb.Column(POINT, new Int32Array()).check().length, 0);
+  assert.throws(() => new wkb.Column(POINT, [0, 21]), TypeError);
+  assert.throws(() => new wkb.Column(POINT, Int32Array.of(0, 21), { validity: Uint8Array.of(1), first: 8 }).check(), RangeError);
+  for (const first of [-1, 0.5]) assert.throws(() => new wkb.Column(POINT, Int32Array.of(0), { first }), RangeError);
+  for (const it of ['coordinates', 'geoArrow']) assert.throws(() => wkb.Column.of([POINT])[it]('zm'), TypeError);
+});
+
+/** The names that an interface or a class of the types has, beside those that it extends. */
+function declared(name) {
+  const types = readFileSync(new URL('../out/package/wkb.d.ts', import.meta.url), 'utf8');
+  if (!name) return [...types.matchAll(/^export (?:function|const|class) (\w+)/gm)].map((it) => it[1]);
+  const [, base, body] = new RegExp(`(?:interface|class) ${name} (?:extends (?:Omit<)?(\\w+).*?)?{\n([^]*?)\n}`).exec(types);
+  const own = [...body.matchAll(/^  (?:readonly |static )?(\w+)[?(:]/gm)].map((it) => it[1]);
+  return [...base && base !== 'Error' ? declared(base) : [], ...own];
+}
+
+test('the types name what there is', () => {
+  const is = (it, name) => assert.deepEqual(Object.keys(it).sort(), [...new Set(declared(name))].sort(), name);
+  is({ ...wkb }, '');
+  const [column, { error }] = [wkb.Column.of([POINT]), wkb.inspect(POINT.subarray(1))];
+  const { name, ...fields } = error;
+  is(fields, 'WkbError');
+  is(wkb.check(POINT), 'Found');
+  is(wkb.parts(POINT)[0], 'Part');
+  is(wkb.bounds(POINT).x, 'Range');
+  is(wkb.geopackageHeader(bytesOf('47500000ffffffff')), 'GeopackageHeader');
+  is(column.facts(), 'Facts');
+  is(column.coordinates(), 'Coordinates');
+  is(column.geoArrow(), 'GeoArrow');
+  const methods = Object.fromEntries(Object.getOwnPropertyNames(wkb.Column.prototype).map((it) => [it, 1]));
+  is({ ...methods, of: wkb.Column.of, length: 1 }, 'Column');
+});
+
+const hasTsc = spawnSync('tsc', ['--version']).status === 0;
+test('the example of the page has the types', { skip: !hasTsc && 'there is no tsc' }, () => {
+  const folder = mkdtempSync(join(tmpdir(), 'types-'));
+  const code = EXAMPLE.replace(/^import assert.*/m, 'declare const assert: any;').replaceAll(MODULE, fileURLToPath(PACKAGE));
+  writeFileSync(join(folder, 'example.ts'), code.replaceAll('(error)', '(error: any)'));
+  const words = ['--noEmit', '--strict', '--target', 'es2022', '--moduleResolution', 'node', join(folder, 'example.ts')];
+  const { status, stdout } = spawnSync('tsc', words, { encoding: 'utf8' });
+  rmSync(folder, { recursive: true });
+  assert.equal(status, 0, stdout);
 });
 
 test('in a worker', async () => {
@@ -173,7 +314,7 @@ test('the header of a GeoPackage', () => {
 
 test('arguments, and inputs that are long or claim much', () => {
   for (const it of [null, 'ab', [1, 2]]) assert.throws(() => wkb.check(it), TypeError);
-  const point = bytesOf('0101000000000000000000f03f0000000000000040');
+  const point = POINT;
   assert.equal(wkb.check(point.buffer).kind, 'Point');
   assert.equal(wkb.check(new DataView(Uint8Array.of(7, ...point).buffer, 1)).kind, 'Point');
   class Liar extends Uint8Array { get length() { return 1; } }
@@ -184,6 +325,8 @@ test('arguments, and inputs that are long or claim much', () => {
   const { buffer } = runInNewContext('Uint8Array.of(1, 7, 0, 0, 0, 0, 0, 0, 0)');
   assert.equal(wkb.check(buffer).kind, 'GeometryCollection');
   for (const it of [{ byteOrder: 'middle' }, { form: 'wkt' }]) assert.throws(() => wkb.write(point, it), TypeError);
+  for (const it of [{ srid: 4326 }, { form: 'iso', srid: 0 }]) assert.throws(() => wkb.write(point, it), TypeError);
+  assert.deepEqual(wkb.write(point, { srid: null }), point);
   for (const srid of [-1, 1.5, 2 ** 32]) assert.throws(() => wkb.write(point, { form: 'ewkb', srid }), RangeError);
   const claims = { 2: 9 + 16 * 0xffffffff, 4: 9 + 21 * 0xffffffff };
   for (const [kind, needed] of Object.entries(claims)) {

@@ -116,7 +116,7 @@ test('what is drawn, listed and written', async () => {
   const huge = await shown('010200000002000000' + 'ffffffffffffefff'.repeat(2) + 'ffffffffffffef7f'.repeat(2));
   assert.match(huge.drawn, /2 coordinates/);
   const cut = await shown('010400000003000000' + POINT.repeat(2) + POINT.slice(0, 40));
-  assert.deepEqual([cut.shapes, cut.bad.at(-1)], [2, ['64', 'cut off: 7 of 8 bytes']]);
+  assert.deepEqual([cut.shapes, cut.bad.at(-1)], [3, ['64', 'cut off: 7 of 8 bytes']]);
   assert.match(cut.drawn, /2 coordinates, before the fault\.$/);
   const empty = await shown('0101000000' + '000000000000f87f'.repeat(2));
   assert.equal(empty.drawn, 'There is no coordinate to draw.');

@@ -1,0 +1,133 @@
+// SPDX-License-Identifier: MIT OR Apache-2.0
+// The calls of wasm.rs: an input is copied to where Rust has room for it, and a result is read where Rust says it is.
+import code from './code.js';
+
+let module, calls, desk;
+/** WebAssembly's memory, by its bytes and by its doubles. */
+export let bytesThere, numbersThere, viewThere;
+
+/** The kinds by their numbers, and the ordinates by those of dimensions. */
+export const KINDS = ['Ring', 'Point', 'LineString', 'Polygon', 'MultiPoint', 'MultiLineString', 'MultiPolygon',
+  'GeometryCollection'];
+export const DIMENSIONS = ['xy', 'xyz', 'xym', 'xyzm'];
+export const ORDERS = ['big', 'little'];
+/** How many numbers a part has in the table. */
+export const PART_SIZE = 9;
+
+const REASONS = {
+  32: 'SHORT_HEADER', 33: 'INVALID_BYTE_ORDER', 34: 'CODE_OUT_OF_RANGE', 35: 'INCORRECT_TYPE',
+  36: 'NESTING_DEPTH_EXCEEDED', 48: 'SHORT_POINT', 49: 'SHORT_LINE_STRING', 50: 'SHORT_MULTI_POINT',
+  51: 'SHORT_LINEAR_RING',
+};
+/** What the statuses of a column's rows mean; 0 is a geometry. */
+export const STATUSES = { 0: 'OK', 16: 'NULL_ROW', 17: 'BAD_OFFSETS', ...REASONS };
+const [NO_MEMORY, NO_HEADER, TOO_FEW_BITS, CODE, SHORT_POINT] = [1, 2, 3, 34, 48];
+const [NUMBERS, BYTES, ROWS, OFFSETS] = [0, 1, 2, 3];
+
+const codeBytes = () => Uint8Array.from(atob(code), (it) => it.charCodeAt(0));
+
+function settle({ exports }) {
+  [calls, desk] = [exports, exports.wkb_desk()];
+}
+
+/** Compiles the code ahead, and not on this thread. Else the first call compiles it, and waits. */
+export async function start() {
+  module ??= await WebAssembly.compile(codeBytes());
+  if (!calls) settle(await WebAssembly.instantiate(module));
+}
+
+/** Makes a call, and looks at the memory, which is another one when it has grown. A call that doesn't come back, as of a
+ * full stack or a number that didn't fit, may leave the desk in disorder; so the next one gets another. */
+function ask(name, ...values) {
+  let answer;
+  try {
+    if (!calls) settle(new WebAssembly.Instance(module ??= new WebAssembly.Module(codeBytes())));
+    answer = calls[name](desk, ...values);
+  } catch (error) {
+    calls = undefined;
+    throw error;
+  }
+  const { buffer } = calls.memory;
+  if (bytesThere?.buffer !== buffer) {
+    [bytesThere, numbersThere, viewThere] = [new Uint8Array(buffer), new Float64Array(buffer), new DataView(buffer)];
+  }
+  return answer;
+}
+
+/** Why some bytes are rejected: the first fault from their start on. */
+export class WkbError extends Error {
+  constructor(message, fields) {
+    super(message);
+    this.name = 'WkbError';
+    Object.assign(this, fields);
+  }
+}
+
+/** The bytes of an input in a view of our own: a subclass may say another length, or have another `slice`, as Buffer has. */
+export function asBytes(input) {
+  if (ArrayBuffer.isView(input)) return new Uint8Array(input.buffer, input.byteOffset, input.byteLength);
+  if (/^.object (Shared)?ArrayBuffer.$/.test(Object.prototype.toString.call(input))) return new Uint8Array(input);
+  throw new TypeError('the input has to be a Uint8Array, another view or an ArrayBuffer; bytesOf(text) makes one of hex');
+}
+
+/** Copies an input, and returns where it is. */
+export function put(input, which = 0) {
+  const bytes = asBytes(input);
+  const at = ask('wkb_input', which, bytes.length) >>> 0;
+  if (at === 0) throw new RangeError('out of memory');
+  bytesThere.set(bytes, at);
+  return at;
+}
+
+const placeOf = (which) => calls.wkb_place(desk, which) >>> 0;
+const sizeOf = (which) => calls.wkb_size(desk, which) >>> 0;
+
+/** Where the numbers of the last call are among the doubles of the memory, and how many they are. */
+export const numbersAt = () => placeOf(NUMBERS) / 8;
+export const numbersSize = () => sizeOf(NUMBERS);
+/** Copies of what the last call made. */
+export const numbers = () => numbersThere.slice(numbersAt(), numbersAt() + numbersSize());
+export const bytes = (which = BYTES) => bytesThere.slice(placeOf(which), placeOf(which) + sizeOf(which));
+export const statuses = () => bytes(ROWS);
+export const offsets = (level) => new Int32Array(bytesThere.buffer, placeOf(OFFSETS + level), sizeOf(OFFSETS + level)).slice();
+
+function failure(status) {
+  if (status === NO_MEMORY) return new RangeError('out of memory');
+  if (status === TOO_FEW_BITS) return new RangeError('there are fewer validity bits than rows');
+  const message = new TextDecoder().decode(bytes());
+  const it = { reason: 'NO_HEADER', part: 0, offset: 0, code: null, needed: null, has: null };
+  if (status === NO_HEADER) return new WkbError(message, it);
+  const [part, offset, needed, has, code] = numbers();
+  if (status === CODE) it.code = code;
+  if (status >= SHORT_POINT) Object.assign(it, { needed, has });
+  return new WkbError(message, { ...it, reason: REASONS[status], part, offset });
+}
+
+/** Makes a call over the inputs that are there; throws if it has no result. */
+export function run(name, ...values) {
+  const status = ask(name, ...values);
+  if (status !== 0) throw failure(status);
+}
+
+/** Makes a call over an input, whose place it returns. */
+export function over(input, name, ...values) {
+  const at = put(input);
+  run(name, ...values);
+  return at;
+}
+
+/** The numbers of the options, as wasm.rs takes them. */
+export function numbered({ byteOrder = 'little', form = 'iso', srid } = {}) {
+  const order = ORDERS.indexOf(byteOrder);
+  if (order < 0 || !['iso', 'ewkb'].includes(form)) throw new TypeError(`no byte order or form: ${byteOrder}, ${form}`);
+  const isNumber = Number.isInteger(srid) && srid >= 0 && srid < 2 ** 32;
+  if (!isNumber && srid != null) throw new RangeError(`no SRID: ${srid}`);
+  if (form === 'iso' && isNumber) throw new TypeError("ISO WKB has no SRID: form: 'ewkb' has one");
+  return [order, form === 'iso' ? 0 : isNumber ? 2 : srid === null ? 3 : 1, srid ?? 0];
+}
+
+/** The ranges of x, y, z and m whose numbers are at a place. */
+export function rangesAt(at) {
+  const range = (i) => ({ min: numbersThere[i], max: numbersThere[i + 1], count: numbersThere[i + 2] });
+  return { x: range(at), y: range(at + 3), z: range(at + 6), m: range(at + 9) };
+}
