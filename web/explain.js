@@ -1,6 +1,6 @@
 // SPDX-License-Identifier: MIT OR Apache-2.0
 // What the bytes of an input mean, field by field, also of rejected ones, as far as they go.
-import { DIMENSIONS, KINDS, geopackageHeader, inspect } from './wkb.js';
+import { DIMENSIONS, KINDS, equal, geopackageHeader, inspect } from './wkb.js';
 
 const SRID_FLAG = 0x20000000;
 const NOUNS = { Point: 'coordinate', LineString: 'coordinate', Ring: 'coordinate', Polygon: 'ring' };
@@ -180,4 +180,27 @@ export function readFront(bytes) {
     spans: [{ length: 8, name: header.axes[i] }, { length: 8, name: header.axes[i] }],
     text: `${header.axes[i]} from ${spelled(least)} to ${spelled(greatest)}` }));
   return { size: header.size, rows, header };
+}
+
+/** How many bytes from a place up to another differ, and the first of them. What one input lacks differs. */
+export function differing(mine, other, from, to) {
+  let [count, first] = [0, -1];
+  for (let i = from; i < to; i++) {
+    if (mine[i] === other[i]) continue;
+    count++;
+    if (first < 0) first = i;
+  }
+  return { count, first };
+}
+
+/** Whether two inputs are one geometry, and how many of their bytes differ. */
+export function compared(mine, other) {
+  const { count, first } = differing(mine, other, 0, Math.max(mine.length, other.length));
+  const bytes = count === 0 ? 'All bytes are the same' : `${counted(count, 'byte')} of ${mine.length.toLocaleString('en')} and `
+    + `${other.length.toLocaleString('en')} ${count === 1 ? 'differs' : 'differ'}, the first at ${first.toLocaleString('en')}`;
+  let verdict = 'One is rejected.';
+  try {
+    verdict = equal(...[mine, other].map((it) => it.subarray(readFront(it).size))) ? 'The same geometry.' : 'Another geometry.';
+  } catch { /* It is the verdict. */ }
+  return `${verdict} ${bytes}.`;
 }

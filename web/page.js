@@ -1,11 +1,11 @@
 // SPDX-License-Identifier: MIT OR Apache-2.0
 // The inspector: what is put into the page is put as text, never as HTML.
 import { bounds, bytesOf, check, toGeoJSON, write } from './wkb.js';
-import { inputsOf, textOf } from './input.js';
-import { counted, nounOf, readFront, readParts, rowsOf, spelled } from './explain.js';
+import { columnsOf, inputsOf, isGeometry, textOf } from './input.js';
+import { compared, counted, differing, nounOf, readFront, readParts, rowsOf, spelled } from './explain.js';
 import { draw } from './drawing.js';
 
-const MOST = { typed: 200000, parts: 300, rows: 400, hex: 4000, checked: 100000 };
+const MOST = { typed: 200000, parts: 300, rows: 400, hex: 4000, checked: 100000, link: 20000 };
 const EXAMPLES = [
   ['A point', '0101000000000000000000f03f0000000000000040'],
   ['A polygon with a hole, from PostGIS', '0103000020E610000002000000050000000000000000000000000000000000000000000000000000000000000000002440000000000000244000000000000024400000000000002440000000000000000000000000000000000000000000000000050000000000000000000040000000000000004000000000000000400000000000001040000000000000104000000000000010400000000000001040000000000000004000000000000000400000000000000040'],
@@ -14,11 +14,12 @@ const EXAMPLES = [
   ['A count that lies', '0102000000ffffffff000000000000f03f0000000000000040'],
   ['A curve', '0108000000030000000000000000000000000000000000f03f'],
   ['A blob of a GeoPackage', '47500001e61000000101000000000000000000f03f0000000000000040'],
+  ['Rows of CSV', 'id,name,geom\n1,"a, b",0101000000000000000000f03f0000000000000040\n2,c,0102000000000000000'],
   ['Three lines, one of them wrong', '0101000000000000000000f03f0000000000000040\n0201000000000000000000f03f0000000000000040\nAQEAAAAAAAAAAAAIQAAAAAAAABBA'],
 ];
 const $ = (id) => document.getElementById(id);
 /** The inputs, as texts or bytes; the one that is shown; and how many of its rows are. */
-const state = { inputs: [], index: 0, rows: MOST.rows, bytes: null, parts: [], front: null, statuses: [] };
+const state = { inputs: [], index: 0, rows: MOST.rows, bytes: null, parts: [], front: null, statuses: [], columns: [] };
 
 /** An element with a class, and texts or elements in it. */
 function make(name, className, ...children) {
@@ -36,21 +37,12 @@ function hexOf(bytes) {
 
 const bytesAt = (index) => typeof state.inputs[index] === 'string' ? bytesOf(state.inputs[index]) : state.inputs[index];
 
-function isAccepted(index) {
-  try {
-    const bytes = bytesAt(index);
-    return check(bytes.subarray(readFront(bytes).size)).size > 0;
-  } catch {
-    return false;
-  }
-}
-
 function take(inputs, source) {
   Object.assign(state, { inputs, statuses: [] });
   $('source').textContent = source;
   $('rows').hidden = inputs.length < 2;
   if (inputs.length > 1) {
-    state.statuses = inputs.slice(0, MOST.checked).map((_, i) => isAccepted(i));
+    state.statuses = inputs.slice(0, MOST.checked).map(isGeometry);
     const bad = state.statuses.filter((it) => !it).length;
     const all = state.statuses.length < inputs.length ? `the first ${counted(MOST.checked, 'line')}: ` : '';
     $('summary').textContent = all + (bad ? `${bad.toLocaleString('en')} rejected` : 'none is rejected');
@@ -60,6 +52,19 @@ function take(inputs, source) {
   }
   show(0);
 }
+
+/** Takes the inputs in a text; of CSV those in the column whose first cells have most geometries. */
+function takeText(text, source = '') {
+  state.columns = columnsOf(text);
+  $('columns').hidden = state.columns.length === 0;
+  if (state.columns.length === 0) return take(inputsOf(text), source);
+  const counts = state.columns.map((it) => it.cells.slice(0, 20).filter(isGeometry).length);
+  $('column').replaceChildren(...state.columns.map(({ name }, i) => new Option(name, i)));
+  $('column').value = counts.indexOf(Math.max(...counts));
+  return takeColumn(source);
+}
+
+const takeColumn = (source) => take(state.columns[$('column').value].cells, source);
 
 /** Shows one of the inputs. */
 function show(index) {
@@ -99,12 +104,54 @@ function showBytes() {
     say(`${found.kind}, ${found.dimension}${found.srid === null ? '' : `, SRID ${found.srid}`}, ${found.byteOrder} endian, ${counted(found.size, 'byte')}.`, false);
   }
   $('found').hidden = false;
+  $('link').hidden = bytes.length > MOST.link;
   $('forms').hidden = Boolean(error);
   showFacts(own, found, error);
   showDrawing(own, error);
   showParts();
   showRows();
   if (found) showForms(own, found);
+}
+
+/** Says how the other input compares, and marks the fields whose bytes differ. */
+function compare() {
+  const text = $('other').value.trim();
+  let other = state.bytes;
+  try {
+    if (text !== '') other = bytesOf(text);
+    $('compared').textContent = text === '' ? '' : compared(state.bytes, other);
+  } catch (error) {
+    $('compared').textContent = `No bytes: ${error.message}`;
+  }
+  for (const it of $('bytes').querySelectorAll('.span')) {
+    const [at, length] = [Number(it.dataset.at), Number(it.dataset.length)];
+    it.classList.toggle('differs', differing(state.bytes, other, at, at + length).count > 0);
+  }
+}
+
+/** Makes a link to this page that carries the bytes behind its mark, which no server gets, and copies it. */
+async function link() {
+  history.replaceState(null, '', `#hex=${hexOf(state.bytes)}`);
+  await copied($('link'), () => location.href);
+}
+
+async function copied(button, textOf) {
+  const name = button.textContent;
+  try {
+    await navigator.clipboard.writeText(textOf());
+    button.textContent = 'Copied';
+  } catch {
+    button.textContent = 'Not allowed';
+  }
+  setTimeout(() => { button.textContent = name; }, 1500);
+}
+
+function takeLink() {
+  const hex = /^#hex=(.*)/.exec(location.hash)?.[1];
+  if (hex === undefined) return false;
+  $('text').value = decodeURIComponent(hex);
+  takeText($('text').value, 'from the link');
+  return true;
 }
 
 function showFacts(own, found, error) {
@@ -182,7 +229,9 @@ function rowOf(row) {
   let at = row.at;
   for (const { length, name } of row.spans) {
     const digits = hexOf(state.bytes.subarray(at, at + Math.min(length, 32))).replace(/..(?!$)/g, '$& ');
-    if (length > 0) hex.append(make('span', `span ${name}`, digits + (length > 32 ? ' ..' : '')), ' ');
+    const span = make('span', `span ${name}`, digits + (length > 32 ? ' ..' : ''));
+    Object.assign(span.dataset, { at, length });
+    if (length > 0) hex.append(span, ' ');
     at += length;
   }
   const it = make('tr', '', make('td', '', row.isGap ? '' : row.at.toLocaleString('en')), hex, make('td', row.isBad ? 'bad' : '', row.text));
@@ -222,6 +271,7 @@ function showRows() {
   const names = [...new Set([...$('bytes').querySelectorAll('.span')].map((it) => it.classList[1]))];
   const words = { order: 'byte order', code: 'type code', srid: 'SRID', rest: 'behind it' };
   $('legend').replaceChildren(...names.map((it) => make('span', `span ${it}`, words[it] ?? it)));
+  compare();
 }
 
 /** The end of a geometry, and the bytes behind it. */
@@ -250,20 +300,8 @@ function formOf(name, isLong, textOf) {
   const button = make('button', '', 'Copy');
   button.type = 'button';
   button.setAttribute('aria-label', `Copy: ${name}`);
-  button.addEventListener('click', async () => {
-    try {
-      await navigator.clipboard.writeText(text ?? textOf());
-      button.textContent = 'Copied';
-    } catch {
-      button.textContent = 'Not allowed';
-    }
-    setTimeout(() => { button.textContent = 'Copy'; }, 1500);
-  });
+  button.addEventListener('click', () => copied(button, () => text ?? textOf()));
   return make('div', 'form', make('span', '', name), code, button);
-}
-
-function takeText(text, source = '') {
-  take(inputsOf(text), source);
 }
 
 async function takeFile(file) {
@@ -271,7 +309,9 @@ async function takeFile(file) {
   try {
     const bytes = new Uint8Array(await file.arrayBuffer());
     const text = textOf(bytes);
-    take(text === null ? [bytes] : inputsOf(text), `${file.name}, ${counted(bytes.length, 'byte')}`);
+    const source = `${file.name}, ${counted(bytes.length, 'byte')}`;
+    if (text === null) take([bytes], source);
+    else takeText(text, source);
   } catch (error) {
     take([], file.name);
     say(`No bytes: ${error.message}`, true);
@@ -296,6 +336,10 @@ function listen() {
     takeText(text, `pasted: ${counted(text.length, 'character')}`);
   });
   $('file').addEventListener('change', ({ target }) => target.files[0] && takeFile(target.files[0]));
+  $('column').addEventListener('change', () => takeColumn($('source').textContent));
+  $('other').addEventListener('input', compare);
+  $('link').addEventListener('click', link);
+  window.addEventListener('hashchange', takeLink);
   $('row').addEventListener('change', ({ target }) => show(target.value - 1));
   $('before').addEventListener('click', () => show(state.index - 1));
   $('after').addEventListener('click', () => show(state.index + 1));
@@ -335,5 +379,7 @@ function listen() {
 }
 
 listen();
-$('example').value = 1;
-$('example').dispatchEvent(new Event('change'));
+if (!takeLink()) {
+  $('example').value = 1;
+  $('example').dispatchEvent(new Event('change'));
+}

@@ -13,8 +13,8 @@ after(() => rmSync(WORK, { recursive: true, force: true }));
 cpSync(here('../out/package'), WORK, { recursive: true });
 for (const it of ['explain.js', 'input.js']) cpSync(here(`../${it}`), join(WORK, it));
 const { bytesOf } = await import(pathToFileURL(join(WORK, 'wkb.js')));
-const { readParts, rowsOf } = await import(pathToFileURL(join(WORK, 'explain.js')));
-const { inputsOf, textOf } = await import(pathToFileURL(join(WORK, 'input.js')));
+const { compared, readParts, rowsOf } = await import(pathToFileURL(join(WORK, 'explain.js')));
+const { columnsOf, inputsOf, textOf } = await import(pathToFileURL(join(WORK, 'input.js')));
 
 test('each byte of each row', () => {
   const lines = readFileSync(here('../../c/test/lasting.rows'), 'utf8').split('\n').filter((it) => it && it[0] !== '#');
@@ -55,7 +55,20 @@ test('texts', () => {
   assert.deepEqual(inputsOf(`${point}\n\n${point}\n`), [point, point]);
   assert.deepEqual(inputsOf(`${point.slice(0, 10)}\n${point.slice(10)}`), [point]);
   assert.deepEqual(inputsOf('01\n02'), ['01', '02']);
+  const table = `id;name;geom\n1;"a; ""b""";${point}\r\n2;;"${point}"\n`;
+  assert.deepEqual(columnsOf(table), [{ name: 'id', cells: ['1', '2'] }, { name: 'name', cells: ['a; "b"', ''] },
+    { name: 'geom', cells: [`${point}\r`, point] }]);
+  assert.deepEqual(columnsOf(`${point},1\n${point},2`).map((it) => it.name), ['column 1', 'column 2']);
+  assert.deepEqual([columnsOf(point), columnsOf(`${point}\n${point}`), columnsOf('')], [[], [], []]);
   const [utf8, utf16] = ['utf8', 'utf16le'].map((it) => Uint8Array.from(Buffer.from(`\ufeff${point}`, it)));
   const files = [bytesOf(point), new TextEncoder().encode(point), utf8, utf16];
   assert.deepEqual(files.map(textOf), [null, point, point, point]);
+});
+
+test('two inputs', () => {
+  const [point, other] = ['0101000000000000000000f03f0000000000000040', '00000000013ff00000000000004000000000000000'].map(bytesOf);
+  assert.equal(compared(point, point), 'The same geometry. All bytes are the same.');
+  assert.equal(compared(point, other), 'The same geometry. 9 bytes of 21 and 21 differ, the first at 0.');
+  assert.equal(compared(point, bytesOf('0101000000000000000000f03f0000000000000840')), 'Another geometry. 1 byte of 21 and 21 differs, the first at 19.');
+  assert.equal(compared(point, point.subarray(0, 20)), 'One is rejected. 1 byte of 21 and 20 differs, the first at 20.');
 });

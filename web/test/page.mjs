@@ -136,6 +136,27 @@ test('the list of parts is one stop of Tab, and arrows go through it', async () 
   assert.deepEqual(at, ['1', -1, 0, -1]);
 });
 
+test('a column of CSV, another input, and a link', async () => {
+  const csv = await shown(`id,geom\n1,${POINT}\n2,${POINT.slice(2)}`);
+  assert.match(csv.verdict, /^Point/);
+  const [name, count] = await run(`const [column, count] = ['column', 'count'].map((it) => document.getElementById(it));
+    return [column.selectedOptions[0].text, count.textContent];`);
+  assert.deepEqual([name, count], ['geom', '2']);
+  await shown(POINT);
+  const compared = (text) => run(`const other = document.getElementById('other');
+    other.value = ${JSON.stringify(text)};
+    other.dispatchEvent(new Event('input'));
+    return [document.getElementById('compared').textContent, document.querySelectorAll('.differs').length];`);
+  assert.deepEqual(await compared(POINT.replace('f03f', 'f83f')), ['Another geometry. 1 byte of 21 and 21 differs, the first at 11.', 1]);
+  assert.deepEqual(await compared('xy'), ['No bytes: neither hex nor base64: hex has no "x", the digit 1', 0]);
+  assert.deepEqual(await compared(''), ['', 0]);
+  await run('document.getElementById("link").click()');
+  assert.equal(await run('return location.hash'), `#hex=${POINT}`);
+  await run(`location.hash = '#hex=${POINT.slice(0, 20)}'`);
+  await new Promise((resolve) => { setTimeout(resolve, 300); });
+  assert.match((await run(`return (${READ})()`)).verdict, /^Rejected: the input ends inside a point/);
+});
+
 test('many lines', async () => {
   const found = await shown(() => Array(50000).fill('0101000000000000000000f03f0000000000000040').join('\n') + '\n02');
   assert.ok(found.time < MOST_TIME, `${found.time} ms`);
