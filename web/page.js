@@ -73,7 +73,9 @@ function show(index) {
   $('row').value = state.index + 1;
   $('before').disabled = state.index === 0;
   $('after').disabled = state.index + 1 >= state.inputs.length;
-  $('found').hidden = true;
+  for (const id of ['found', 'link']) $(id).hidden = true;
+  $('compared').textContent = '';
+  state.bytes = null;
   say('', false);
   if (state.inputs.length === 0) return;
   try {
@@ -115,6 +117,7 @@ function showBytes() {
 
 /** Says how the other input compares, and marks the fields whose bytes differ. */
 function compare() {
+  if (!state.bytes) return;
   const text = $('other').value.trim();
   let other = state.bytes;
   try {
