@@ -1,7 +1,7 @@
 // SPDX-License-Identifier: MIT OR Apache-2.0
 // Columns of geometries, as Arrow has them: each call answers for all rows, and no row stops the others.
-import { DIMENSIONS, KINDS, asBytes, bytes, numbered, numbers, numbersAt, numbersSize, numbersThere, offsets, put, rangesAt, run,
-  statuses } from './desk.js';
+import { DIMENSIONS, KINDS, asBytes, bytes, numbered, numbers, numbersAt, numbersSize, numbersThere, offsets, put, rangesAt,
+  run, statuses } from './desk.js';
 
 /** The bits of rows, least significant first: 1 for those that a function says. */
 function bitsOf(rows, isSet) {
@@ -20,6 +20,20 @@ const LISTS = {
   MultiLineString: (rows, singles, rings) => [rows, through(singles, rings)],
   MultiPolygon: (rows, singles, rings) => [rows, singles, rings],
 };
+
+/** The kind of all rows, or the multi kind of theirs. */
+function kindOf(kinds) {
+  const kind = kinds.find((it) => it.startsWith('Multi')) ?? kinds[0];
+  if (LISTS[kind] && kinds.every((it) => it === kind || `Multi${it}` === kind)) return kind;
+  throw new TypeError(`rows of one kind are needed, and here are: ${[...new Set(kinds)].join(', ') || 'none'}`);
+}
+
+/** Points, of which a row without one has NaNs. */
+function spread(values, rows, width) {
+  const all = new Float64Array(width * (rows.length - 1)).fill(NaN);
+  rows.subarray(1).forEach((end, i) => all.set(values.subarray(width * rows[i], width * end), width * i));
+  return all;
+}
 
 /** Rows in the buffers of Arrow, which are copied at each call. */
 export class Column {
@@ -72,8 +86,10 @@ export class Column {
     this.#run('wkb_column_facts');
     const [at, end] = [numbersAt(), numbersAt() + numbersSize()];
     const [rows, accepted, nullRows, refused, withoutSrid, count] = numbersThere.subarray(at, at + 6);
-    const typeAt = (i) => ({ kind: KINDS[numbersThere[i]], dimension: DIMENSIONS[numbersThere[i + 1]], rows: numbersThere[i + 2] });
-    const types = Array.from({ length: count }, (_, i) => typeAt(at + 18 + 3 * i));
+    const types = Array.from({ length: count }, (_, i) => {
+      const [kind, dimension, of] = numbersThere.subarray(at + 18 + 3 * i);
+      return { kind: KINDS[kind], dimension: DIMENSIONS[dimension], rows: of };
+    });
     const srids = Array.from(numbersThere.subarray(at + 18 + 3 * count, end));
     return { rows, accepted, nullRows, refused, types, bounds: rangesAt(at + 6), srids, withoutSrid };
   }
@@ -89,21 +105,11 @@ export class Column {
   /** The rows as GeoArrow has those of their kind, or of its multi kind if both occur. */
   geoArrow(asked) {
     const { types } = this.facts();
-    const kinds = [...new Set(types.map((it) => it.kind))];
-    const kind = kinds.find((it) => it.startsWith('Multi')) ?? kinds[0];
-    if (!LISTS[kind] || kinds.some((it) => it !== kind && `Multi${it}` !== kind)) {
-      throw new TypeError(`rows of one kind are needed, and here are: ${kinds.join(', ') || 'none'}`);
-    }
+    const kind = kindOf(types.map((it) => it.kind));
     const dimension = asked ?? DIMENSIONS[types.reduce((all, it) => all | DIMENSIONS.indexOf(it.dimension), 0)];
-    const found = this.coordinates(dimension);
-    const [values, validity] = [found.values, bitsOf(found.statuses, (it) => it === 0)];
-    const lists = LISTS[kind](found.rows, found.singles, found.rings);
-    if (kind !== 'Point' || values.length === dimension.length * this.length) return { kind, dimension, values, offsets: lists, validity };
-    const all = new Float64Array(dimension.length * this.length).fill(NaN);
-    found.rows.subarray(1).forEach((end, i) => {
-      if (end > found.rows[i]) all.set(values.subarray(dimension.length * (end - 1), dimension.length * end), dimension.length * i);
-    });
-    return { kind, dimension, values: all, offsets: lists, validity };
+    const { values, rows, singles, rings, statuses } = this.coordinates(dimension);
+    return { kind, dimension, values: kind === 'Point' ? spread(values, rows, dimension.length) : values,
+      offsets: LISTS[kind](rows, singles, rings), validity: bitsOf(statuses, (it) => it === 0) };
   }
 
   /** The encoding of each row one after another, and its offsets. */

@@ -37,11 +37,10 @@ impl From<Refused> for Failure {
     }
 }
 
-/// The error of a call over these bytes.
-fn failure(bytes: &[u8], why: WkbError) -> Failure {
-    match (why, check(bytes)) {
-        (WkbError::Memory(_), _) | (_, Ok(_)) => Failure::Memory,
-        (_, Err(why)) => Failure::Refused(why),
+/// The error of a call over bytes that the check has accepted.
+impl From<WkbError> for Failure {
+    fn from(_: WkbError) -> Failure {
+        Failure::Memory
     }
 }
 
@@ -61,6 +60,16 @@ struct Results {
 }
 
 impl Results {
+    /// The place and the number of items: of the numbers, the bytes, the statuses, or a level's offsets.
+    fn at(&self, which: usize) -> (*const u8, usize) {
+        match which {
+            0 => (self.numbers.as_ptr().cast(), self.numbers.len()),
+            1 => (self.bytes.as_ptr(), self.bytes.len()),
+            2 => (self.statuses.as_ptr(), self.statuses.len()),
+            _ => (self.offsets[which - 3].as_ptr().cast(), self.offsets[which - 3].len()),
+        }
+    }
+
     fn lay(&mut self, numbers: &[f64]) -> Result<(), Failure> {
         self.numbers.try_reserve(numbers.len()).map_err(|_| Failure::Memory)?;
         self.numbers.extend_from_slice(numbers);
@@ -173,7 +182,7 @@ fn parts_before(bytes: &[u8], refused: &Refused) -> Result<Vec<Part>, Failure> {
         match check(&bytes[at..]) {
             Ok(whole) if found.len() + whole.parts <= refused.part => {
                 let shifted = |it: Part| Part { begin: it.begin + at, offset: it.offset + at, end: it.end + at, ..it };
-                found.extend(parts(&bytes[at..]).map_err(|why| failure(bytes, why))?.into_iter().map(shifted));
+                found.extend(parts(&bytes[at..])?.into_iter().map(shifted));
                 at += whole.bytes;
             }
             _ => {
@@ -223,26 +232,16 @@ pub extern "C" fn wkb_input(desk: &mut Desk, which: usize, length: usize) -> *mu
     input.as_mut_ptr()
 }
 
-/// Where a result is: the numbers, the bytes, the statuses, or one of the levels' offsets.
+/// Where a result is.
 #[no_mangle]
 pub extern "C" fn wkb_place(desk: &Desk, which: usize) -> *const u8 {
-    let it = &desk.results;
-    match which {
-        0 => it.numbers.as_ptr().cast(),
-        1 => it.bytes.as_ptr(),
-        2 => it.statuses.as_ptr(),
-        _ => it.offsets[which - 3].as_ptr().cast(),
-    }
+    desk.results.at(which).0
 }
 
 /// How many items a result has.
 #[no_mangle]
 pub extern "C" fn wkb_size(desk: &Desk, which: usize) -> usize {
-    let it = &desk.results;
-    [it.numbers.len(), it.bytes.len(), it.statuses.len()]
-        .get(which)
-        .copied()
-        .unwrap_or_else(|| it.offsets[which - 3].len())
+    desk.results.at(which).1
 }
 
 calls! {
@@ -256,10 +255,9 @@ calls! {
         out.lay_bounds(&bounds(&inputs[0])?)
     }
 
-    /// Lists the parts.
     wkb_parts(inputs, out) {
-        let bytes = &inputs[0];
-        parts(bytes).map_err(|why| failure(bytes, why))?.iter().try_for_each(|it| out.lay_part(it))
+        check(&inputs[0])?;
+        parts(&inputs[0])?.iter().try_for_each(|it| out.lay_part(it))
     }
 
     /// Lists the parts before the rejected one of rejected bytes.
@@ -271,15 +269,15 @@ calls! {
     }
 
     wkb_write(inputs, out, order: u32, form: u32, srid: u32) {
-        let own = if form == OWN_SRID { check(&inputs[0])?.srid } else { None };
-        canonical_into(&inputs[0], &options(order, form, srid, own), &mut out.bytes).map_err(|why| failure(&inputs[0], why))
+        let own = check(&inputs[0])?.srid;
+        Ok(canonical_into(&inputs[0], &options(order, form, srid, own), &mut out.bytes)?)
     }
 
     /// Whether two inputs have one value.
     wkb_equal(inputs, out) {
         check(&inputs[0])?;
         check(&inputs[1])?;
-        out.lay(&[f64::from(u8::from(same(&inputs[0], &inputs[1]).map_err(|why| failure(&inputs[0], why))?))])
+        out.lay(&[u8::from(same(&inputs[0], &inputs[1])?).into()])
     }
 
     wkb_geopackage(inputs, out) {
