@@ -294,9 +294,11 @@ calls! {
     wkb_column_bounds(inputs, out, size: u32, first: f64) {
         let (all, statuses) = column(inputs, size, first)?.bounds()?;
         out.keep_statuses(statuses);
-        let ranges = all.iter().flat_map(|it| [it.x, it.y, it.z, it.m]);
         out.numbers.try_reserve(8 * all.len()).map_err(|_| Failure::Memory)?;
-        Ok(out.numbers.extend(ranges.flat_map(|it| [it.min(), it.max()])))
+        for it in all.iter().flat_map(|it| [it.x, it.y, it.z, it.m]) {
+            out.numbers.extend_from_slice(&[it.min(), it.max()]);
+        }
+        Ok(())
     }
 
     wkb_column_facts(inputs, out, size: u32, first: f64) {

@@ -13,7 +13,7 @@ after(() => rmSync(WORK, { recursive: true, force: true }));
 cpSync(here('../out/package'), WORK, { recursive: true });
 for (const it of ['explain.js', 'input.js']) cpSync(here(`../${it}`), join(WORK, it));
 const { bytesOf } = await import(pathToFileURL(join(WORK, 'wkb.js')));
-const { compared, readParts, rowsOf } = await import(pathToFileURL(join(WORK, 'explain.js')));
+const { compared, readFront, readParts, rowsOf } = await import(pathToFileURL(join(WORK, 'explain.js')));
 const { columnsOf, inputsOf, textOf } = await import(pathToFileURL(join(WORK, 'input.js')));
 
 test('each byte of each row', () => {
@@ -71,4 +71,24 @@ test('two inputs', () => {
   assert.equal(compared(point, other), 'The same geometry. 9 bytes of 21 and 21 differ, the first at 0.');
   assert.equal(compared(point, bytesOf('0101000000000000000000f03f0000000000000840')), 'Another geometry. 1 byte of 21 and 21 differs, the first at 19.');
   assert.equal(compared(point, point.subarray(0, 20)), 'One is rejected. 1 byte of 21 and 20 differs, the first at 20.');
+});
+
+test('what there is of parts that are cut off', () => {
+  const [little, big] = ['0101000000000000000000f03f0000000000000040', '00000000013ff00000000000004000000000000000'];
+  for (const front of ['010400000003000000', '000000000400000003']) {
+    const { parts, error } = readParts(bytesOf(front + little + big + '01010000000000'), 0);
+    assert.deepEqual(parts.map((it) => [it.kind, it.depth, it.begin, it.byteOrder]), [['MultiPoint', 0, 0, undefined],
+      ['Point', 1, 9, 'little'], ['Point', 1, 30, 'big'], ['Point', 1, 51, 'little']]);
+    assert.deepEqual([parts[0].claims, parts[3].error, parts[3].count], [error, error, 0]);
+  }
+  const { parts: [line] } = readParts(bytesOf('000000000200000003' + '3ff0000000000000'.repeat(3)), 0);
+  assert.deepEqual([line.kind, line.dimension, line.byteOrder, line.offset, line.count], ['LineString', 'xy', 'big', 9, 1]);
+});
+
+test('the header of a blob of a GeoPackage', () => {
+  const { size, rows, header } = readFront(bytesOf(`47500003e6100000${'000000000000f03f0000000000000040'.repeat(2)}`));
+  assert.deepEqual([size, header.srsId], [40, 4326]);
+  assert.deepEqual(rows.map((it) => [it.at, it.spans.reduce((sum, { length }) => sum + length, 0), it.text]), [
+    [0, 2, 'the header of a GeoPackage'], [2, 1, 'version 1'], [3, 1, 'flags: little endian, xy envelope'], [4, 4, 'SRID 4326'],
+    [8, 16, 'x from 1 to 2'], [24, 16, 'y from 1 to 2']]);
 });
