@@ -85,8 +85,7 @@ const NO_ENTRY: Entry = Entry {
 ///
 /// # Errors
 ///
-/// As [`read_wkb`](crate::reader::read_wkb) rejects the bytes; or memory is refused. Where the fault is says
-/// [`check`](crate::check::check).
+/// As [`read_wkb`](crate::reader::read_wkb) rejects the bytes; or memory is refused. [`check`] says where the fault is.
 pub fn parts(bytes: &[u8]) -> WkbResult<Vec<Part>> {
     let found = check(bytes)?;
     let mut entries = try_filled(NO_ENTRY, found.parts)?;
