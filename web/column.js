@@ -1,7 +1,7 @@
 // SPDX-License-Identifier: MIT OR Apache-2.0
 // Columns of geometries, as Arrow has them: each call answers for all rows, and no row stops the others.
-import { DIMENSIONS, KINDS, asBytes, bytes, numbered, numbers, numbersAt, numbersSize, numbersThere, offsets, put, rangesAt,
-  run, statuses } from './desk.js';
+import { DIMENSIONS, KINDS, asBytes, bytes, numbered, numbers, numbersAt, numbersSize, numbersThere, offsets, put,
+  rangesAt, run, statuses } from './desk.js';
 
 /** The bits of rows, least significant first: 1 for those that a function says. */
 function bitsOf(rows, isSet) {
@@ -42,14 +42,13 @@ export class Column {
   #first;
 
   constructor(data, offsets, { validity = null, first = 0 } = {}) {
-    if (!/^(Int|Uint|BigInt|BigUint)(32|64)Array$/.test(offsets?.[Symbol.toStringTag])) {
-      throw new TypeError('offsets have to be an Int32Array or a BigInt64Array');
-    }
+    const [, bits] = /^(?:Big)?(?:Int|Uint)(32|64)Array$/.exec(offsets?.[Symbol.toStringTag]) ?? [];
+    if (!bits) throw new TypeError('offsets have to be an Int32Array or a BigInt64Array');
     if (!Number.isInteger(first) || first < 0) throw new RangeError(`no first bit: ${first}`);
-    this.#buffers = [data, offsets, validity ?? new Uint8Array()];
-    this.#offsetSize = offsets.BYTES_PER_ELEMENT;
+    this.#buffers = [data, offsets, validity ?? new Uint8Array()].map(asBytes);
+    this.#offsetSize = bits / 8;
     this.#first = validity === null ? -1 : first;
-    this.length = Math.max(0, offsets.length - 1);
+    this.length = Math.max(0, this.#buffers[1].length / this.#offsetSize - 1);
   }
 
   /** A copy of rows, of which null or undefined is a null row. */

@@ -36,8 +36,8 @@ export async function start() {
   if (!calls) settle(await WebAssembly.instantiate(module));
 }
 
-/** Makes a call, and looks at the memory, which is another one when it has grown. A call that doesn't come back, as of a
- * full stack or a number that didn't fit, may leave the desk in disorder; so the next one gets another. */
+/** Makes a call, and looks at the memory, which is another one when it has grown. A call that doesn't come back, as of
+ * a full stack or a number that didn't fit, may leave the desk in disorder; so the next one gets another. */
 function ask(name, ...values) {
   let answer;
   try {
@@ -63,11 +63,11 @@ export class WkbError extends Error {
   }
 }
 
-/** The bytes of an input in a view of our own: a subclass may say another length, or have another `slice`, as Buffer has. */
+/** The bytes of an input in a view of our own: a subclass may say another length, or have another `slice`, as Buffer. */
 export function asBytes(input) {
   if (ArrayBuffer.isView(input)) return new Uint8Array(input.buffer, input.byteOffset, input.byteLength);
   if (/^.object (Shared)?ArrayBuffer.$/.test(Object.prototype.toString.call(input))) return new Uint8Array(input);
-  throw new TypeError('the input has to be a Uint8Array, another view or an ArrayBuffer; bytesOf(text) makes one of hex');
+  throw new TypeError('the input has to be a Uint8Array, another view or an ArrayBuffer; of hex bytesOf makes one');
 }
 
 /** Copies an input, and returns where it is. */
@@ -89,7 +89,8 @@ export const numbersSize = () => sizeOf(NUMBERS);
 export const numbers = () => numbersThere.slice(numbersAt(), numbersAt() + numbersSize());
 export const bytes = (which = BYTES) => bytesThere.slice(placeOf(which), placeOf(which) + sizeOf(which));
 export const statuses = () => bytes(ROWS);
-export const offsets = (level) => new Int32Array(bytesThere.buffer, placeOf(OFFSETS + level), sizeOf(OFFSETS + level)).slice();
+export const offsets = (level, which = OFFSETS + level) =>
+  new Int32Array(bytesThere.buffer, placeOf(which), sizeOf(which)).slice();
 
 function failure(status) {
   if (status === NO_MEMORY) return new RangeError('out of memory');

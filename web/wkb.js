@@ -1,8 +1,8 @@
 // SPDX-License-Identifier: MIT OR Apache-2.0
 // Reads and writes WKB and EWKB in browsers, workers and Node.js. What is checked, measured, compared and written is so
 // by the proved sources, as WebAssembly (desk.js). This file makes objects of the numbers.
-import { DIMENSIONS, KINDS, ORDERS, PART_SIZE, WkbError, asBytes, bytes, numbered, numbersAt, numbersSize, numbersThere, over, put,
-  rangesAt, run } from './desk.js';
+import { DIMENSIONS, KINDS, ORDERS, PART_SIZE, WkbError, asBytes, bytes, numbered, numbersAt, numbersSize, numbersThere,
+  over, put, rangesAt, run } from './desk.js';
 
 export { DIMENSIONS, KINDS, STATUSES, WkbError, start } from './desk.js';
 export { Column } from './column.js';
@@ -102,8 +102,10 @@ export const canonical = (geometry) => write(geometry);
 
 /** Whether two geometries are equal, whatever their byte orders and SRIDs are. */
 export function equal(a, b) {
-  put(b, 1);
-  over(a, 'wkb_equal');
+  // A getter of an input may call this again: so both are looked at before one is put.
+  const [one, other] = [asBytes(a), asBytes(b)];
+  put(other, 1);
+  over(one, 'wkb_equal');
   return numbersThere[numbersAt()] === 1;
 }
 

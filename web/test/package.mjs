@@ -319,6 +319,10 @@ test('arguments, and inputs that are long or claim much', () => {
   assert.equal(wkb.check(new DataView(Uint8Array.of(7, ...point).buffer, 1)).kind, 'Point');
   class Liar extends Uint8Array { get length() { return 1; } }
   assert.equal(wkb.check(Liar.from(point)).size, 21);
+  class Busy extends Uint8Array { get buffer() { return wkb.equal(POINT, POINT) && super.buffer; } }
+  const other = bytesOf('010200000000000000');
+  assert.deepEqual([wkb.equal(Busy.from(point), other), wkb.equal(other, Busy.from(point))], [false, false]);
+  assert.deepEqual([...new wkb.Column(Busy.from(point), Int32Array.of(0, 21), { validity: Busy.of(1) }).check()], [0]);
   const big = Buffer.from(wkb.write(point, { byteOrder: 'big' }));
   assert.deepEqual([...wkb.words(big, wkb.parts(big)[0])], [1, 2]);
   assert.equal(big.readDoubleBE(5), 1);
