@@ -159,12 +159,35 @@ fn count_at(bytes: &[u8], at: usize, order: Endianness) -> usize {
     (if order == Endianness::BigEndian { u32::from_be_bytes(count) } else { u32::from_le_bytes(count) }) as usize
 }
 
-/// The geometry that begins there, up to its rings or members: its header with a count of 0 is a geometry, too.
-fn open_part(bytes: &[u8], begin: usize) -> Option<Part> {
-    let empty = |size| [&bytes[begin..begin + size], &[0; 4]].concat();
-    let (size, part) = [5, 9].iter().find_map(|size| Some((size, parts(&empty(*size)).ok()?[0])))?;
-    let offset = begin + size + 4;
-    Some(Part { begin, offset, count: count_at(bytes, begin + size, part.order), end: offset, ..part })
+/// The geometry that begins there, up to its rings or members. Its header with zeros behind it is a geometry, too, which
+/// the check takes.
+fn geometry_at(bytes: &[u8], begin: usize) -> Option<Part> {
+    let found = |size| {
+        let mut header = [0; 9 + 32];
+        header[..size].copy_from_slice(bytes.get(begin..begin + size)?);
+        check(&header).ok()
+    };
+    let mut it = found(5)?;
+    if it.srid.is_some() {
+        it = found(9)?;
+    }
+    let (kind, dimension) = (it.wkb_type.kind(), it.wkb_type.dimension());
+    let (count, offset) = match it.wkb_type {
+        WkbType::Point(_) => (1, begin + it.bytes - dimension.coordinate_size()),
+        _ => (count_at(bytes, begin + it.bytes - 4, it.order), begin + it.bytes),
+    };
+    let end = if kind < 3 { offset + dimension.coordinate_size() * count } else { offset };
+    Some(Part {
+        wkb_type: Some(it.wkb_type),
+        dimension,
+        order: it.order,
+        srid: it.srid,
+        begin,
+        offset,
+        count,
+        end,
+        next: 0,
+    })
 }
 
 fn ring_at(bytes: &[u8], begin: usize, polygon: &Part) -> Part {
@@ -173,32 +196,22 @@ fn ring_at(bytes: &[u8], begin: usize, polygon: &Part) -> Part {
     Part { wkb_type: None, srid: None, begin, offset, count, end, ..*polygon }
 }
 
-/// The parts before the rejected one, each up to its rings and members: those of whole geometries, and geometries that
-/// the rejected part is inside of, of which the check has seen header and count.
+/// The parts before the rejected one, each up to its rings and members: the check has seen header and count of each.
 fn parts_before(bytes: &[u8], refused: &Refused) -> Result<Vec<Part>, Failure> {
-    let (mut found, mut at) = (Vec::<Part>::new(), 0);
+    let mut found = Vec::<Part>::new();
     found.try_reserve(refused.part).map_err(|_| Failure::Memory)?;
+    let (mut at, mut polygon, mut rings) = (0, None, 0);
     while found.len() < refused.part {
-        match check(&bytes[at..]) {
-            Ok(whole) if found.len() + whole.parts <= refused.part => {
-                let shifted = |it: Part| Part { begin: it.begin + at, offset: it.offset + at, end: it.end + at, ..it };
-                found.extend(parts(&bytes[at..])?.into_iter().map(shifted));
-                at += whole.bytes;
-            }
-            _ => {
-                let open = open_part(bytes, at).expect("the header of a geometry that the check has begun");
-                found.push(open);
-                at = open.end;
-                while matches!(open.wkb_type, Some(WkbType::Polygon(_))) && found.len() < refused.part {
-                    found.push(ring_at(bytes, at, &open));
-                    at = found[found.len() - 1].end;
-                }
-            }
+        let part = match polygon {
+            Some(polygon) if rings > 0 => ring_at(bytes, at, &polygon),
+            _ => geometry_at(bytes, at).expect("a header that the check has passed"),
+        };
+        rings -= rings.min(1);
+        if let Some(WkbType::Polygon(_)) = part.wkb_type {
+            (polygon, rings) = (Some(part), part.count);
         }
-    }
-    for (index, it) in found.iter_mut().enumerate() {
-        it.end = if it.wkb_type.map_or(0, WkbType::kind) < 3 { it.end } else { it.offset };
-        it.next = index + 1;
+        at = part.end;
+        found.push(Part { next: found.len() + 1, ..part });
     }
     Ok(found)
 }

@@ -60,8 +60,8 @@ export function bounds(bytes) {
 function table() {
   const parts = [];
   for (let at = numbersAt(), end = at + numbersSize(); at < end; at += PART_SIZE) {
-    const [begin, finish, offset, count, next] = [4, 5, 6, 7, 8].map((i) => numbersThere[at + i]);
-    parts.push(withHeader({ begin, end: finish, offset, count, next }, at));
+    const it = numbersThere;
+    parts.push(withHeader({ begin: it[at + 4], end: it[at + 5], offset: it[at + 6], count: it[at + 7], next: it[at + 8] }, at));
   }
   return parts;
 }
