@@ -37,10 +37,11 @@ impl From<Refused> for Failure {
     }
 }
 
-/// The error of a call over bytes that the check has accepted.
-impl From<WkbError> for Failure {
-    fn from(_: WkbError) -> Failure {
-        Failure::Memory
+/// The error of a call over these bytes.
+fn failure(bytes: &[u8], why: WkbError) -> Failure {
+    match (why, check(bytes)) {
+        (WkbError::Memory(_), _) | (_, Ok(_)) => Failure::Memory,
+        (_, Err(why)) => Failure::Refused(why),
     }
 }
 
@@ -269,8 +270,8 @@ calls! {
     }
 
     wkb_parts(inputs, out) {
-        check(&inputs[0])?;
-        parts(&inputs[0])?.iter().try_for_each(|it| out.lay_part(it))
+        let table = parts(&inputs[0]).map_err(|why| failure(&inputs[0], why))?;
+        table.iter().try_for_each(|it| out.lay_part(it))
     }
 
     /// Lists the parts before the rejected one of rejected bytes.
@@ -282,15 +283,17 @@ calls! {
     }
 
     wkb_write(inputs, out, order: u32, form: u32, srid: u32) {
-        let own = check(&inputs[0])?.srid;
-        Ok(canonical_into(&inputs[0], &options(order, form, srid, own), &mut out.bytes)?)
+        let own = if form == OWN_SRID { check(&inputs[0])?.srid } else { None };
+        let asked = options(order, form, srid, own);
+        canonical_into(&inputs[0], &asked, &mut out.bytes).map_err(|why| failure(&inputs[0], why))
     }
 
     /// Whether two inputs have one value.
     wkb_equal(inputs, out) {
         check(&inputs[0])?;
         check(&inputs[1])?;
-        out.lay(&[u8::from(same(&inputs[0], &inputs[1])?).into()])
+        let is_same = same(&inputs[0], &inputs[1]).map_err(|why| failure(&inputs[0], why))?;
+        out.lay(&[u8::from(is_same).into()])
     }
 
     wkb_geopackage(inputs, out) {
