@@ -12,7 +12,7 @@ use porchsorrel_wkb::check::{bounds, check, Bounds, Cause, Refused, WkbType};
 use porchsorrel_wkb::columns::{Column, Status};
 use porchsorrel_wkb::error::{General, WkbError};
 use porchsorrel_wkb::geopackage::{read_header, NoHeader};
-use porchsorrel_wkb::parts::{parts, Part};
+use porchsorrel_wkb::parts::{parts, parts_before, Part};
 use porchsorrel_wkb::reader::Dimension;
 use porchsorrel_wkb::writer::{Form, WriteOptions};
 use porchsorrel_wkb::{AllocError, Endianness};
@@ -48,7 +48,7 @@ fn failure(bytes: &[u8], why: WkbError) -> Failure {
 /// The numbers of kind (0 of a ring), dimension and order, and the SRID, where -1 is none.
 fn header(of: Option<WkbType>, dimension: Dimension, order: Endianness, srid: Option<u32>) -> [f64; 4] {
     let kind = of.map_or(0, WkbType::kind);
-    [kind.into(), dimension.thousands().into(), order.byte().into(), srid.map_or(-1.0, f64::from)]
+    [kind.into(), (dimension as u32).into(), order.byte().into(), srid.map_or(-1.0, f64::from)]
 }
 
 /// What the last call found.
@@ -155,68 +155,6 @@ fn options(order: u32, form: u32, srid: u32, own: Option<u32>) -> WriteOptions {
 
 const OWN_SRID: u32 = 1;
 
-fn count_at(bytes: &[u8], at: usize, order: Endianness) -> usize {
-    let count = [0, 1, 2, 3].map(|i| bytes[at + i]);
-    (if order == Endianness::BigEndian { u32::from_be_bytes(count) } else { u32::from_le_bytes(count) }) as usize
-}
-
-/// The geometry that begins there, up to its rings or members. Its header with zeros behind it is a geometry, too, which
-/// the check takes.
-fn geometry_at(bytes: &[u8], begin: usize) -> Option<Part> {
-    let found = |size| {
-        let mut header = [0; 9 + 32];
-        header[..size].copy_from_slice(bytes.get(begin..begin + size)?);
-        check(&header).ok()
-    };
-    let mut it = found(5)?;
-    if it.srid.is_some() {
-        it = found(9)?;
-    }
-    let (kind, dimension) = (it.wkb_type.kind(), it.wkb_type.dimension());
-    let (count, offset) = match it.wkb_type {
-        WkbType::Point(_) => (1, begin + it.bytes - dimension.coordinate_size()),
-        _ => (count_at(bytes, begin + it.bytes - 4, it.order), begin + it.bytes),
-    };
-    let end = if kind < 3 { offset + dimension.coordinate_size() * count } else { offset };
-    Some(Part {
-        wkb_type: Some(it.wkb_type),
-        dimension,
-        order: it.order,
-        srid: it.srid,
-        begin,
-        offset,
-        count,
-        end,
-        next: 0,
-    })
-}
-
-fn ring_at(bytes: &[u8], begin: usize, polygon: &Part) -> Part {
-    let (count, offset) = (count_at(bytes, begin, polygon.order), begin + 4);
-    let end = offset + polygon.dimension.coordinate_size() * count;
-    Part { wkb_type: None, srid: None, begin, offset, count, end, ..*polygon }
-}
-
-/// The parts before the rejected one, each up to its rings and members: the check has seen header and count of each.
-fn parts_before(bytes: &[u8], refused: &Refused) -> Result<Vec<Part>, Failure> {
-    let mut found = Vec::<Part>::new();
-    found.try_reserve(refused.part).map_err(|_| Failure::Memory)?;
-    let (mut at, mut polygon, mut rings) = (0, None, 0);
-    while found.len() < refused.part {
-        let part = match polygon {
-            Some(polygon) if rings > 0 => ring_at(bytes, at, &polygon),
-            _ => geometry_at(bytes, at).expect("a header that the check has passed"),
-        };
-        rings -= rings.min(1);
-        if let Some(WkbType::Polygon(_)) = part.wkb_type {
-            (polygon, rings) = (Some(part), part.count);
-        }
-        at = part.end;
-        found.push(Part { next: found.len() + 1, ..part });
-    }
-    Ok(found)
-}
-
 macro_rules! calls {
     ($($(#[$doc:meta])* $name:ident($inputs:ident, $out:ident $(, $argument:ident: $type:ty)*) $code:block)*) => {$(
         $(#[$doc])*
@@ -322,14 +260,14 @@ calls! {
         out.lay(&[it.rows, it.accepted, it.null_rows, it.refused, it.without_srid, it.types.len()].map(|it| it as f64))?;
         out.lay_bounds(&it.bounds)?;
         for (of, rows) in &it.types {
-            out.lay(&[of.kind().into(), of.dimension().thousands().into(), *rows as f64])?;
+            out.lay(&[of.kind().into(), (of.dimension() as u32).into(), *rows as f64])?;
         }
         it.srids.iter().try_for_each(|it| out.lay(&[f64::from(*it)]))
     }
 
     wkb_column_coordinates(inputs, out, size: u32, first: f64, dimension: u32) {
-        let dimension = Dimension::of_thousands(dimension).unwrap_or(Dimension::Xy);
-        let it = column(inputs, size, first)?.coordinates(dimension)?;
+        let dimensions = [Dimension::Xy, Dimension::Xyz, Dimension::Xym, Dimension::Xyzm];
+        let it = column(inputs, size, first)?.coordinates(dimensions[dimension as usize])?;
         out.numbers = it.words;
         out.keep_statuses(it.statuses);
         [it.row_ends, it.single_ends, it.ring_ends].iter().enumerate().try_for_each(|(i, ends)| out.keep_offsets(i, ends))

@@ -32,6 +32,7 @@ mod wkb_abi {
     pub mod column;
     pub mod fault;
     pub mod level_slices;
+    pub mod parts;
     pub mod status;
     pub mod totals;
 }

@@ -14,15 +14,14 @@
 //! assert_eq!((table[1].wkb_type, table[1].offset, table[1].count), (None, 13, 2));
 //! # Ok::<(), porchsorrel_wkb::error::WkbError>(())
 //! ```
-use crate::check::{check, WkbType};
+use crate::check::{check, Refused, WkbType};
 use crate::error::WkbResult;
 use crate::reader::Dimension;
 use crate::rt::{try_filled, TryVec};
-use crate::wkb_abi::{fault::NO_FAULT, parts::Part as Entry};
-use crate::wkb_c::wkb_raw_parts;
-use crate::wkb_check::RING;
+use crate::wkb_abi::parts::{lay_geometries, Part as Entry, PartPlace};
+use crate::wkb_check::{NextPiece, RING};
 use crate::wkb_geom::code::of_kind;
-use crate::Endianness;
+use crate::{AllocError, Endianness};
 use alloc::vec::Vec;
 
 /// A geometry, or a ring of a polygon. Places count bytes from the start of the input.
@@ -89,8 +88,37 @@ const NO_ENTRY: Entry = Entry {
 pub fn parts(bytes: &[u8]) -> WkbResult<Vec<Part>> {
     let found = check(bytes)?;
     let mut entries = try_filled(NO_ENTRY, found.parts)?;
-    wkb_raw_parts(bytes, &mut entries, &mut 0, &mut { NO_FAULT });
+    lay_geometries(bytes, 1, &mut entries, PartPlace { index: 0, byte: 0 });
     let mut table = Vec::try_with_room(found.parts)?;
     table.extend(entries.iter().map(Part::of));
     Ok(table)
+}
+
+/// The parts before the rejected one, in the same order. What such a part has inside isn't known, so that it ends where its
+/// rings or members begin, and the next part is the one behind it.
+///
+/// ```
+/// use porchsorrel_wkb::{check::check, parts::parts_before};
+///
+/// // A collection of two members, of which the first is a collection of none; the second one's order byte is 2.
+/// let bytes = b"\x01\x07\0\0\0\x02\0\0\0\x01\x07\0\0\0\0\0\0\0\x02";
+/// let refused = check(bytes).unwrap_err();
+/// let before = parts_before(bytes, &refused)?;
+/// assert_eq!((before.len(), before[1].begin, before[1].end, refused.offset), (2, 9, 18, 18));
+/// # Ok::<(), porchsorrel_wkb::AllocError>(())
+/// ```
+///
+/// # Errors
+///
+/// Memory is refused.
+pub fn parts_before(bytes: &[u8], refused: &Refused) -> Result<Vec<Part>, AllocError> {
+    let mut found = Vec::try_with_room(refused.part)?;
+    let mut next = NextPiece { at: 0, rings: 0, order: Endianness::BigEndian, dimension: Dimension::Xy };
+    while found.len() < refused.part {
+        match next.take(bytes) {
+            Some(piece) => found.push(Part::of(&Entry::of(&piece, piece.end(), found.len() + 1))),
+            None => break,
+        }
+    }
+    Ok(found)
 }

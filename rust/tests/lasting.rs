@@ -6,7 +6,7 @@ use porchsorrel_wkb::check::{bounds, check, Bounds, Cause, Refused, Summary, Wkb
 use porchsorrel_wkb::columns::*;
 use porchsorrel_wkb::error::General;
 use porchsorrel_wkb::geom::{CoordTrait, GeometryTrait, GeometryType, PointTrait, PolygonTrait};
-use porchsorrel_wkb::parts::parts;
+use porchsorrel_wkb::parts::{parts, parts_before};
 use porchsorrel_wkb::reader::{read_wkb, Dimension, LineString, LinearRing, Point, Polygon, Wkb};
 use porchsorrel_wkb::writer::{to_vec, write_geometry, write_to_slice, Form, Out, SliceSink, VecSink, WriteOptions};
 use porchsorrel_wkb::Endianness;
@@ -104,7 +104,7 @@ fn sum_of_parts(input: &[u8]) -> u32 {
         let places = [it.begin, it.end, it.offset, it.count, it.next].map(|it| (it as u64).to_le_bytes());
         let (kind, dimension) = (it.wkb_type.map_or(0, WkbType::kind), it.dimension);
         assert!(it.wkb_type.map_or(true, |it| it.dimension() == dimension));
-        let header = [it.srid.unwrap_or(0), it.srid.is_some().into(), kind, dimension.thousands()];
+        let header = [it.srid.unwrap_or(0), it.srid.is_some().into(), kind, dimension as u32];
         let rest = [dimension.width() as u32, u8::from(it.order).into()];
         [places.concat(), header.map(u32::to_le_bytes).concat(), rest.map(u32::to_le_bytes).concat()].concat()
     });
@@ -212,6 +212,10 @@ fn refused(it: &Row) {
     assert_eq!(text, canonical(&it.input, &WriteOptions::default()).unwrap_err().to_string());
     assert_eq!(text, same(&it.input, &[]).unwrap_err().to_string());
     assert_eq!(text, parts(&it.input).unwrap_err().to_string());
+    let (why, mut at) = (check(&it.input).unwrap_err(), 0);
+    let before = parts_before(&it.input, &why).unwrap();
+    assert!(before.iter().all(|it| it.begin == std::mem::replace(&mut at, it.end)));
+    assert_eq!((before.len(), at), (why.part, why.offset), "{:x?}", it.input);
     let mut out = vec![7];
     assert_eq!(text, canonical_into(&it.input, &WriteOptions::default(), &mut out).unwrap_err().to_string());
     assert!(out.is_empty());
