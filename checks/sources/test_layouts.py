@@ -1,9 +1,9 @@
 """Compares the interface between c/wkb.c and the proved calls: structs, and the parameters of each call.
 
-In wkb.c a struct has its size, its alignment, and the offset of each member, which C asserts. In
-crates/wkb_abi/specs/Layouts a struct has its fields, its size, its alignment and the offsets, which are proved.
-Both use the same names for the fields. A slice is one field there, and here a pointer and, eight bytes after it, a
-length.
+In wkb.c a struct has its size, its alignment, and the offset of each member, which C asserts, by P, the size of a
+pointer, and LONG, the alignment of 64 bits; the proofs are for 8. In crates/wkb_abi/specs/Layouts a struct has its
+fields, its size, its alignment and the offsets, which are proved. Both use the same names for the fields. A slice is
+one field there, and here a pointer and, eight bytes after it, a length.
 
 c/wkb_raw.h declares each call that crates/wkb_c exports, with the same parameters in the same order: a slice is a
 pointer and a length, a reference a pointer, and an input is const.
@@ -44,12 +44,17 @@ LENGTH = re.compile(r"\w+_(?:len|room|count)$")
 POINTER = 8
 
 
+def number(it):
+    """What a sum or product of C is where pointers have 64 bits."""
+    return eval(it.replace("/", "//"), {"P": POINTER, "LONG": POINTER})
+
+
 def asserted():
     """(size and alignment, offsets by name) of each struct, as C asserts them."""
     found = {}
-    for struct, size, alignment, places in re.findall(r"IS_LAID\((\w+), (\d+), (\d+), ((?s:.*?))\);", text_of(C)):
-        offsets = {name: int(at) for at, name in re.findall(rf"AT\({struct}, (\d+), (\w+)\)", places)}
-        found[struct] = (int(size), int(alignment)), offsets
+    for struct, size, alignment, places in re.findall(r"IS_LAID\((\w+), ([^,]+), (\w+), (AT(?s:.*?))\);", text_of(C)):
+        offsets = {name: number(at) for at, name in re.findall(rf"AT\({struct}, ([^,]+), (\w+)\)", places)}
+        found[struct] = (number(size), number(alignment)), offsets
     return found
 
 
