@@ -1,6 +1,6 @@
 // SPDX-License-Identifier: MIT OR Apache-2.0
 // Columns of geometries, as Arrow has them: each call answers for all rows, and no row stops the others.
-import { DIMENSIONS, KINDS, asBytes, bytes, numbered, numbers, numbersAt, numbersSize, numbersThere, offsets, put,
+import { DIMENSIONS, KINDS, asBytes, bytes, numbered, numbers, numbersAt, numbersEnd, numbersThere, offsets, put,
   rangesAt, run, statuses } from './desk.js';
 
 /** The bits of rows, least significant first: 1 for those that a function says. */
@@ -83,13 +83,13 @@ export class Column {
   /** What occurs in the rows. */
   facts() {
     this.#run('wkb_column_facts');
-    const [at, end] = [numbersAt(), numbersAt() + numbersSize()];
+    const at = numbersAt();
     const [rows, accepted, nullRows, refused, withoutSrid, count] = numbersThere.subarray(at, at + 6);
     const types = Array.from({ length: count }, (_, i) => {
       const [kind, dimension, of] = numbersThere.subarray(at + 18 + 3 * i);
       return { kind: KINDS[kind], dimension: DIMENSIONS[dimension], rows: of };
     });
-    const srids = Array.from(numbersThere.subarray(at + 18 + 3 * count, end));
+    const srids = Array.from(numbersThere.subarray(at + 18 + 3 * count, numbersEnd()));
     return { rows, accepted, nullRows, refused, types, bounds: rangesAt(at + 6), srids, withoutSrid };
   }
 

@@ -82,15 +82,14 @@ export function put(input, which = 0) {
 const placeOf = (which) => calls.wkb_place(desk, which) >>> 0;
 const sizeOf = (which) => calls.wkb_size(desk, which) >>> 0;
 
-/** Where the numbers of the last call are among the doubles of the memory, and how many they are. */
+/** Where the numbers of the last call are among the doubles of the memory, and where they end. */
 export const numbersAt = () => placeOf(NUMBERS) / 8;
-export const numbersSize = () => sizeOf(NUMBERS);
+export const numbersEnd = () => numbersAt() + sizeOf(NUMBERS);
 /** Copies of what the last call made. */
-export const numbers = () => numbersThere.slice(numbersAt(), numbersAt() + numbersSize());
+export const numbers = () => numbersThere.slice(numbersAt(), numbersEnd());
 export const bytes = (which = BYTES) => bytesThere.slice(placeOf(which), placeOf(which) + sizeOf(which));
 export const statuses = () => bytes(ROWS);
-export const offsets = (level, which = OFFSETS + level) =>
-  new Int32Array(bytesThere.buffer, placeOf(which), sizeOf(which)).slice();
+export const offsets = (level) => new Int32Array(calls.memory.buffer, placeOf(OFFSETS + level), sizeOf(OFFSETS + level)).slice();
 
 function failure(status) {
   if (status === NO_MEMORY) return new RangeError('out of memory');

@@ -5,11 +5,14 @@ import { DIMENSIONS, KINDS, equal, geopackageHeader, inspect } from './wkb.js';
 const SRID_FLAG = 0x20000000;
 const NOUNS = { Point: 'coordinate', LineString: 'coordinate', Ring: 'coordinate', Polygon: 'ring' };
 export const nounOf = (kind) => NOUNS[kind] ?? 'member';
-export const counted = (count, noun) => `${count.toLocaleString('en')} ${noun}${count === 1 ? '' : 's'}`;
+export const said = (number) => number.toLocaleString('en');
+export const counted = (count, noun) => `${said(count)} ${noun}${count === 1 ? '' : 's'}`;
 const hex = (number) => `0x${number.toString(16).padStart(8, '0')}`;
 
 /** A number in the fewest digits, as JavaScript has it, but with the sign of zero. */
 export const spelled = (it) => Object.is(it, -0) ? '-0' : String(it).replace('Infinity', 'infinity');
+/** Bytes from a place on, in spans, and what they mean; maybe of a part. */
+export const row = (at, spans, text, part = null, more = {}) => ({ at, spans, text, part, ...more });
 
 /** The parts with their depth, and the one that they are inside of; the rejected one is the last. */
 export function readParts(bytes, front) {
@@ -53,8 +56,8 @@ function describe(part, own) {
 }
 
 function place(part, open) {
-  while (open.length > 0 && open[open.length - 1].left === 0) open.pop();
-  const around = open[open.length - 1];
+  while (open.at(-1)?.left === 0) open.pop();
+  const around = open.at(-1);
   if (around) around.left--;
   part.depth = open.length;
   part.inside = around?.part ?? null;
@@ -78,14 +81,13 @@ class Fields {
     this.isWhole = there === length;
     const value = this.isWhole ? say(this.at) : null;
     const text = value?.text ?? (there === 0 ? 'the input ends here' : `cut off: ${there} of ${length} bytes`);
-    const isBad = !this.isWhole || value.isBad;
-    this.rows.push({ at: this.at, spans: [{ length: there, name }], text, part: this.part, isBad });
+    this.add([{ length: there, name }], text, { isBad: !this.isWhole || value.isBad });
     this.at += there;
     return value;
   }
 
-  number(isLittle) {
-    return (at) => this.view.getUint32(at, isLittle);
+  add(spans, text, more) {
+    this.rows.push(row(this.at, spans, text, this.part, more));
   }
 
   /** The header, which a ring has of its polygon, and the count; null if the header isn't whole. */
@@ -105,9 +107,9 @@ class Fields {
     const isLittle = order.byte === 1;
     const { reason, offset } = this.part.error ?? {};
     const isCode = offset !== undefined && !reason.startsWith('SHORT');
-    const code = this.take(4, 'code', (at) => this.code(this.number(isLittle)(at), isCode));
+    const code = this.take(4, 'code', (at) => this.code(this.view.getUint32(at, isLittle), isCode));
     if (!code?.kind) return null;
-    if (code.hasSrid) this.take(4, 'srid', (at) => ({ text: `SRID ${this.number(isLittle)(at)}` }));
+    if (code.hasSrid) this.take(4, 'srid', (at) => ({ text: `SRID ${this.view.getUint32(at, isLittle)}` }));
     return this.isWhole ? { ...code, isLittle } : null;
   }
 
@@ -125,8 +127,8 @@ class Fields {
   count(kind, isLittle) {
     const { needed, has } = this.part.claims ?? (this.part.inside?.claims ? {} : this.part.error ?? {});
     return this.take(4, 'count', (at) => {
-      const count = this.number(isLittle)(at);
-      const claim = needed ? `: the part would have ${counted(needed, 'byte')}, and there are ${has.toLocaleString('en')}` : '';
+      const count = this.view.getUint32(at, isLittle);
+      const claim = needed ? `: the part would have ${counted(needed, 'byte')}, and there are ${said(has)}` : '';
       return { count, text: counted(count, nounOf(kind)) + claim, isBad: Boolean(needed) };
     })?.count ?? 0;
   }
@@ -138,7 +140,7 @@ class Fields {
     for (let i = 0; i < whole && this.isWhole; i++) {
       if (whole > most && i === most - 1) {
         const more = whole - most;
-        this.rows.push({ at: this.at, spans: [], text: `.. ${counted(more, 'more coordinate')}`, part: this.part, isGap: true });
+        this.add([], `.. ${counted(more, 'more coordinate')}`, { isGap: true });
         this.at += size * more;
         i += more;
       }
@@ -154,11 +156,12 @@ class Fields {
 
   coordinate(axes, isLittle) {
     const texts = [...axes].map((axis, i) => this.word(this.at + 8 * i, axis, isLittle).text);
-    const spans = [...axes].map((name) => ({ length: 8, name }));
-    this.rows.push({ at: this.at, spans, text: texts.join('  '), part: this.part });
+    this.add(wordsOf(axes), texts.join('  '));
     this.at += 8 * axes.length;
   }
 }
+
+const wordsOf = (axes) => [...axes].map((name) => ({ length: 8, name }));
 
 /** The rows of one part: its fields, of long lists the first coordinates and the last. */
 export function rowsOf(bytes, front, part, most) {
@@ -172,23 +175,22 @@ export function rowsOf(bytes, front, part, most) {
 export function readFront(bytes) {
   if (bytes[0] !== 0x47 || bytes[1] !== 0x50) return { size: 0, rows: [] };
   const header = geopackageHeader(bytes);
-  const row = (at, length, name, text) => ({ at, spans: [{ length, name }], text, part: null });
-  const rows = [row(0, 2, 'order', 'the header of a GeoPackage'), row(2, 1, 'code', `version ${bytes[2] + 1}`),
-    row(3, 1, 'code', `flags: ${bytes[3] & 1 ? 'little' : 'big'} endian, ${header.axes || 'no'} envelope${header.isEmpty ? ', empty' : ''}`),
-    row(4, 4, 'srid', `SRID ${header.srsId}`)];
-  header.envelope.forEach(([least, greatest], i) => rows.push({ at: 8 + 16 * i, part: null,
-    spans: [{ length: 8, name: header.axes[i] }, { length: 8, name: header.axes[i] }],
-    text: `${header.axes[i]} from ${spelled(least)} to ${spelled(greatest)}` }));
+  const field = (at, length, name, text) => row(at, [{ length, name }], text);
+  const rows = [field(0, 2, 'order', 'the header of a GeoPackage'), field(2, 1, 'code', `version ${bytes[2] + 1}`),
+    field(3, 1, 'code', `flags: ${bytes[3] & 1 ? 'little' : 'big'} endian, ${header.axes || 'no'} envelope${header.isEmpty ? ', empty' : ''}`),
+    field(4, 4, 'srid', `SRID ${header.srsId}`),
+    ...header.envelope.map(([least, greatest], i) => row(8 + 16 * i, wordsOf(header.axes[i].repeat(2)),
+      `${header.axes[i]} from ${spelled(least)} to ${spelled(greatest)}`))];
   return { size: header.size, rows, header };
 }
 
 /** How many bytes from a place up to another differ, and the first of them. What one input lacks differs. */
 export function differing(mine, other, from, to) {
   let [count, first] = [0, -1];
-  for (let i = from; i < to; i++) {
+  for (let i = to - 1; i >= from; i--) {
     if (mine[i] === other[i]) continue;
     count++;
-    if (first < 0) first = i;
+    first = i;
   }
   return { count, first };
 }
@@ -196,8 +198,8 @@ export function differing(mine, other, from, to) {
 /** Whether two inputs are one geometry, and how many of their bytes differ. */
 export function compared(mine, other) {
   const { count, first } = differing(mine, other, 0, Math.max(mine.length, other.length));
-  const bytes = count === 0 ? 'All bytes are the same' : `${counted(count, 'byte')} of ${mine.length.toLocaleString('en')} and `
-    + `${other.length.toLocaleString('en')} ${count === 1 ? 'differs' : 'differ'}, the first at ${first.toLocaleString('en')}`;
+  const bytes = count === 0 ? 'All bytes are the same' : `${counted(count, 'byte')} of ${said(mine.length)} and `
+    + `${said(other.length)} ${count === 1 ? 'differs' : 'differ'}, the first at ${said(first)}`;
   let verdict = 'One is rejected.';
   try {
     verdict = equal(...[mine, other].map((it) => it.subarray(readFront(it).size))) ? 'The same geometry.' : 'Another geometry.';

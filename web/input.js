@@ -3,16 +3,20 @@
 import { bytesOf, check } from './wkb.js';
 import { readFront } from './explain.js';
 
-/** Whether a text is one geometry, and nothing behind it. */
-function isWhole(text) {
+/** How many bytes are behind the geometry that a text begins with; NaN if it begins with none. */
+function restOf(text) {
   try {
     const bytes = bytesOf(text);
     const { size } = readFront(bytes);
-    return size + check(bytes.subarray(size)).size === bytes.length;
+    return bytes.length - size - check(bytes.subarray(size)).size;
   } catch {
-    return false;
+    return NaN;
   }
 }
+
+const isWhole = (text) => restOf(text) === 0;
+/** Whether a text begins with a geometry. */
+export const isGeometry = (text) => restOf(text) >= 0;
 
 /** The inputs in a text: one in each line, unless they are lines of one geometry. */
 export function inputsOf(text) {
@@ -29,16 +33,6 @@ export function columnsOf(text) {
   const rows = lines.map((line) => [...line.matchAll(cell)].map((it) => it[1]?.replaceAll('""', '"') ?? it[2]).slice(0, -1));
   const names = rows[0].some(isGeometry) ? rows[0].map((_, i) => `column ${i + 1}`) : rows.shift().map((it) => it.trim());
   return names.map((name, i) => ({ name, cells: rows.map((it) => it[i] ?? '') }));
-}
-
-/** Whether a text begins with a geometry. */
-export function isGeometry(text) {
-  try {
-    const bytes = bytesOf(text);
-    return check(bytes.subarray(readFront(bytes).size)).size > 0;
-  } catch {
-    return false;
-  }
 }
 
 /** The text of a file, in UTF-8 or with the mark of UTF-16; null if it has other bytes. */

@@ -2,7 +2,7 @@
 // The inspector: what is put into the page is put as text, never as HTML.
 import { bounds, bytesOf, check, toGeoJSON, write } from './wkb.js';
 import { columnsOf, inputsOf, isGeometry, textOf } from './input.js';
-import { compared, counted, differing, nounOf, readFront, readParts, rowsOf, spelled } from './explain.js';
+import { compared, counted, differing, nounOf, readFront, readParts, row, rowsOf, said, spelled } from './explain.js';
 import { draw } from './drawing.js';
 
 const MOST = { typed: 200000, parts: 300, rows: 400, hex: 4000, checked: 100000, link: 20000 };
@@ -21,10 +21,11 @@ const $ = (id) => document.getElementById(id);
 /** The inputs, as texts or bytes; the one that is shown; and how many of its rows are. */
 const state = { inputs: [], index: 0, rows: MOST.rows, bytes: null, parts: [], front: null, statuses: [], columns: [] };
 
-/** An element with a class, and texts or elements in it. */
+/** An element with a class, and texts or elements in it; a button has its type. */
 function make(name, className, ...children) {
   const it = document.createElement(name);
   if (className) it.className = className;
+  if (name === 'button') it.type = name;
   it.append(...children);
   return it;
 }
@@ -35,8 +36,6 @@ function hexOf(bytes) {
   return text;
 }
 
-const bytesAt = (index) => typeof state.inputs[index] === 'string' ? bytesOf(state.inputs[index]) : state.inputs[index];
-
 function take(inputs, source) {
   Object.assign(state, { inputs, statuses: [] });
   $('source').textContent = source;
@@ -45,9 +44,9 @@ function take(inputs, source) {
     state.statuses = inputs.slice(0, MOST.checked).map(isGeometry);
     const bad = state.statuses.filter((it) => !it).length;
     const all = state.statuses.length < inputs.length ? `the first ${counted(MOST.checked, 'line')}: ` : '';
-    $('summary').textContent = all + (bad ? `${bad.toLocaleString('en')} rejected` : 'none is rejected');
+    $('summary').textContent = all + (bad ? `${said(bad)} rejected` : 'none is rejected');
     $('next-bad').disabled = bad === 0;
-    $('count').textContent = inputs.length.toLocaleString('en');
+    $('count').textContent = said(inputs.length);
     $('row').max = inputs.length;
   }
   show(0);
@@ -79,7 +78,8 @@ function show(index) {
   say('', false);
   if (state.inputs.length === 0) return;
   try {
-    state.bytes = bytesAt(state.index);
+    const input = state.inputs[state.index];
+    state.bytes = typeof input === 'string' ? bytesOf(input) : input;
     state.front = readFront(state.bytes);
     showBytes();
   } catch (error) {
@@ -98,13 +98,8 @@ function showBytes() {
   state.parts = parts;
   const own = bytes.subarray(front.size);
   const found = error ? null : check(own);
-  if (error) {
-    const ends = error.needed ? `; it needs ${counted(error.needed, 'byte')} from there on, and has ${error.has.toLocaleString('en')}` : '';
-    const text = error.message.replace(/, at byte .*/, '');
-    say(`Rejected: ${text}, in the part at byte ${(error.offset + front.size).toLocaleString('en')}${ends}.`, true);
-  } else {
-    say(`${found.kind}, ${found.dimension}${found.srid === null ? '' : `, SRID ${found.srid}`}, ${found.byteOrder} endian, ${counted(found.size, 'byte')}.`, false);
-  }
+  say(error ? faultOf(error) : `${found.kind}, ${found.dimension}${found.srid === null ? '' : `, SRID ${found.srid}`}, `
+    + `${found.byteOrder} endian, ${counted(found.size, 'byte')}.`, Boolean(error));
   $('found').hidden = false;
   $('link').hidden = bytes.length > MOST.link;
   $('forms').hidden = Boolean(error);
@@ -113,6 +108,11 @@ function showBytes() {
   showParts();
   showRows();
   if (found) showForms(own, found);
+}
+
+function faultOf({ message, offset, needed, has }) {
+  const ends = needed ? `; it needs ${counted(needed, 'byte')} from there on, and has ${said(has)}` : '';
+  return `Rejected: ${message.replace(/, at byte .*/, '')}, in the part at byte ${said(offset + state.front.size)}${ends}.`;
 }
 
 /** Says how the other input compares, and marks the fields whose bytes differ. */
@@ -164,14 +164,13 @@ function showFacts(own, found, error) {
     facts.push(['Kind', found.kind], ['Dimension', found.dimension], ['SRID', found.srid ?? 'none'],
       ['Byte order', `${found.byteOrder} endian`], ['Size', counted(found.size, 'byte')]);
     if (more > 0) facts.push(['Behind it', counted(more, 'more byte')]);
-    facts.push(['Parts', found.parts.toLocaleString('en')], ['Coordinates', found.coordinates.toLocaleString('en')]);
+    facts.push(['Parts', said(found.parts)], ['Coordinates', said(found.coordinates)]);
     for (const [axis, { min, max, count }] of Object.entries(bounds(own))) {
       if (count > 0) facts.push([`Least ${axis}`, spelled(min)], [`Greatest ${axis}`, spelled(max)]);
       else if (found.dimension.includes(axis)) facts.push([axis, 'no number']);
     }
   } else {
-    const begin = error.offset + state.front.size;
-    facts.push(['Reason', error.reason], ['Part', error.part.toLocaleString('en')], ['Begins at byte', begin.toLocaleString('en')]);
+    facts.push(['Reason', error.reason], ['Part', said(error.part)], ['Begins at byte', said(error.offset + state.front.size)]);
     if (error.needed) facts.push(['It needs', counted(error.needed, 'byte')], ['It has', counted(error.has, 'byte')]);
     facts.push(['Input', counted(own.length, 'byte')]);
   }
@@ -182,15 +181,13 @@ function showFacts(own, found, error) {
 function showDrawing(own, error) {
   const drawn = draw(own, state.parts, Math.max(280, $('drawing').clientWidth));
   $('drawing').replaceChildren(...(drawn ? [drawn.picture] : []));
-  if (!drawn) {
-    $('drawn').textContent = 'There is no coordinate to draw.';
-    return;
-  }
-  const all = counted(drawn.all, 'coordinate');
-  const of = drawn.drawn < drawn.all ? `${drawn.drawn.toLocaleString('en')} of ${all}` : all;
-  drawn.picture.setAttribute('aria-label', `A drawing of ${of}`);
-  $('drawn').textContent = (drawn.isSample ? `A sample: ${of}` : drawn.drawn < drawn.all ? `${of}: the others aren't finite`
-    : `x to the right, y upwards: ${all}`) + (error ? ', before the fault.' : '.');
+  $('drawn').textContent = drawn ? captionOf(drawn) + (error ? ', before the fault.' : '.') : 'There is no coordinate to draw.';
+}
+
+function captionOf({ picture, drawn, all, isSample }) {
+  const of = (drawn < all ? `${said(drawn)} of ` : '') + counted(all, 'coordinate');
+  picture.setAttribute('aria-label', `A drawing of ${of}`);
+  return isSample ? `A sample: ${of}` : drawn < all ? `${of}: the others aren't finite` : `x to the right, y upwards: ${of}`;
 }
 
 /** What a part is called. */
@@ -206,7 +203,6 @@ function showParts() {
   const items = shown.map((part) => {
     const button = make('button', part.error ? 'bad' : '', nameOf(part));
     if (!part.error) button.append(' ', make('small', '', part.kind === 'Point' ? '' : counted(part.count, nounOf(part.kind))));
-    button.type = 'button';
     button.dataset.part = part.index;
     button.style.paddingLeft = `${0.4 + Math.min(part.depth, 12)}rem`;
     button.setAttribute('aria-pressed', 'false');
@@ -227,48 +223,47 @@ function choose(index, isToScroll) {
   if (isToScroll) rows[0]?.scrollIntoView({ block: 'nearest' });
 }
 
-function rowOf(row) {
-  const hex = make('td', row.isBad ? 'bad' : '');
-  let at = row.at;
-  for (const { length, name } of row.spans) {
+function lineOf({ at: begin, spans, text, part, isBad, isGap }) {
+  const className = isBad ? 'bad' : '';
+  const hex = make('td', className);
+  let at = begin;
+  for (const { length, name } of spans) {
     const digits = hexOf(state.bytes.subarray(at, at + Math.min(length, 32))).replace(/..(?!$)/g, '$& ');
     const span = make('span', `span ${name}`, digits + (length > 32 ? ' ..' : ''));
     Object.assign(span.dataset, { at, length });
     if (length > 0) hex.append(span, ' ');
     at += length;
   }
-  const it = make('tr', '', make('td', '', row.isGap ? '' : row.at.toLocaleString('en')), hex, make('td', row.isBad ? 'bad' : '', row.text));
-  if (row.part) it.dataset.part = row.part.index;
+  const it = make('tr', '', make('td', '', isGap ? '' : said(begin)), hex, make('td', className, text));
+  if (part) it.dataset.part = part.index;
   return it;
 }
 
 function headingOf(part) {
-  const place = part.inside && part.kind !== 'Ring' ? `member ${part.number}: ${nameOf(part)}` : nameOf(part);
-  const heading = make('th', '', place);
+  const heading = make('th', '', part.inside && part.kind !== 'Ring' ? `member ${part.number}: ` : '', nameOf(part));
   heading.colSpan = 3;
   const it = make('tr', '', heading);
   it.dataset.part = part.index;
   return it;
 }
 
-const moreRow = (count) => rowOf({ at: 0, spans: [], text: `.. ${counted(count, 'more part')}`, isGap: true });
+const moreLine = (count) => lineOf(row(0, [], `.. ${counted(count, 'more part')}`, null, { isGap: true }));
 
 function showRows() {
   const { bytes, front, parts } = state;
-  const out = front.rows.map(rowOf);
+  const out = front.rows.map(lineOf);
   let [count, last] = [0, -1];
   for (const part of parts) {
-    const isLast = part === parts[parts.length - 1];
-    if (count > state.rows && !(isLast && part.error)) continue;
-    if (part.index > last + 1) out.push(moreRow(part.index - last - 1));
+    if (count > state.rows && !part.error) continue;
+    if (part.index > last + 1) out.push(moreLine(part.index - last - 1));
     const rows = rowsOf(bytes, front.size, part, Math.max(6, state.rows / 50));
-    out.push(...(parts.length > 1 ? [headingOf(part)] : []), ...rows.map(rowOf));
+    out.push(...(parts.length > 1 ? [headingOf(part)] : []), ...rows.map(lineOf));
     count += rows.length + 1;
     last = part.index;
   }
   const left = parts.length - 1 - last;
-  if (left > 0) out.push(moreRow(left));
-  out.push(...endRows());
+  if (left > 0) out.push(moreLine(left));
+  out.push(...endLines());
   $('bytes').replaceChildren(...out);
   $('more').hidden = left === 0 && !$('bytes').textContent.includes('.. ');
   const names = [...new Set([...$('bytes').querySelectorAll('.span')].map((it) => it.classList[1]))];
@@ -278,13 +273,12 @@ function showRows() {
 }
 
 /** The end of a geometry, and the bytes behind it. */
-function endRows() {
+function endLines() {
   const { bytes, front, parts } = state;
-  if (parts[parts.length - 1].error) return [];
+  if (parts.at(-1).error) return [];
   const at = front.size + parts[0].end;
-  const more = bytes.length - at;
-  const spans = more > 0 ? [{ length: more, name: 'rest' }] : [];
-  return [rowOf({ at, spans, text: more > 0 ? `${counted(more, 'byte')} behind the geometry` : 'the end', part: null })];
+  const length = bytes.length - at;
+  return [lineOf(length > 0 ? row(at, [{ length, name: 'rest' }], `${counted(length, 'byte')} behind the geometry`) : row(at, [], 'the end'))];
 }
 
 function showForms(own, found) {
@@ -301,7 +295,6 @@ function formOf(name, isLong, textOf) {
   const text = isLong ? null : textOf();
   const code = make('code', '', text === null ? 'too long to show' : text.length > MOST.hex ? `${text.slice(0, MOST.hex)} ..` : text);
   const button = make('button', '', 'Copy');
-  button.type = 'button';
   button.setAttribute('aria-label', `Copy: ${name}`);
   button.addEventListener('click', () => copied(button, () => text ?? textOf()));
   return make('div', 'form', make('span', '', name), code, button);
@@ -322,45 +315,46 @@ async function takeFile(file) {
 }
 
 function listen() {
+  const on = (id, type, act) => $(id).addEventListener(type, act);
   EXAMPLES.forEach(([name], i) => $('example').append(new Option(name, i)));
-  $('example').addEventListener('change', ({ target }) => {
+  on('example', 'change', ({ target }) => {
     $('text').value = target.value === '' ? '' : EXAMPLES[target.value][1];
     takeText($('text').value);
   });
-  $('text').addEventListener('input', () => {
+  on('text', 'input', () => {
     $('example').value = '';
     takeText($('text').value);
   });
-  $('text').addEventListener('paste', (event) => {
+  on('text', 'paste', (event) => {
     const text = event.clipboardData.getData('text');
     if (text.length <= MOST.typed) return;
     event.preventDefault();
     $('text').value = '';
     takeText(text, `pasted: ${counted(text.length, 'character')}`);
   });
-  $('file').addEventListener('change', ({ target }) => target.files[0] && takeFile(target.files[0]));
-  $('column').addEventListener('change', () => takeColumn($('source').textContent));
-  $('other').addEventListener('input', compare);
-  $('link').addEventListener('click', link);
+  on('file', 'change', ({ target }) => target.files[0] && takeFile(target.files[0]));
+  on('column', 'change', () => takeColumn($('source').textContent));
+  on('other', 'input', compare);
+  on('link', 'click', link);
   window.addEventListener('hashchange', takeLink);
-  $('row').addEventListener('change', ({ target }) => show(target.value - 1));
-  $('before').addEventListener('click', () => show(state.index - 1));
-  $('after').addEventListener('click', () => show(state.index + 1));
-  $('next-bad').addEventListener('click', () => {
+  on('row', 'change', ({ target }) => show(target.value - 1));
+  on('before', 'click', () => show(state.index - 1));
+  on('after', 'click', () => show(state.index + 1));
+  on('next-bad', 'click', () => {
     const bad = [...state.statuses.keys()].filter((i) => !state.statuses[i]);
     show(bad.find((i) => i > state.index) ?? bad[0]);
   });
-  $('more').addEventListener('click', () => {
+  on('more', 'click', () => {
     state.rows *= 4;
     showRows();
   });
   for (const id of ['parts', 'bytes', 'drawing']) {
-    $(id).addEventListener('click', ({ target }) => {
+    on(id, 'click', ({ target }) => {
       const index = target.closest('[data-part]')?.dataset.part;
       if (index !== undefined) choose(index, id !== 'bytes');
     });
   }
-  $('parts').addEventListener('keydown', (event) => {
+  on('parts', 'keydown', (event) => {
     const to = { ArrowDown: 'nextElementSibling', ArrowUp: 'previousElementSibling' }[event.key];
     const next = to && event.target.closest('li')[to]?.querySelector('button');
     if (!next) return;

@@ -56,7 +56,7 @@ fn header(of: Option<WkbType>, dimension: Dimension, order: Endianness, srid: Op
 struct Results {
     numbers: Vec<f64>,
     bytes: Vec<u8>,
-    statuses: Vec<u8>,
+    statuses: Vec<Status>,
     offsets: [Vec<i32>; 3],
 }
 
@@ -66,7 +66,7 @@ impl Results {
         match which {
             0 => (self.numbers.as_ptr().cast(), self.numbers.len()),
             1 => (self.bytes.as_ptr(), self.bytes.len()),
-            2 => (self.statuses.as_ptr(), self.statuses.len()),
+            2 => (self.statuses.as_ptr().cast(), self.statuses.len()),
             _ => (self.offsets[which - 3].as_ptr().cast(), self.offsets[which - 3].len()),
         }
     }
@@ -78,8 +78,9 @@ impl Results {
     }
 
     fn lay_part(&mut self, it: &Part) -> Result<(), Failure> {
-        self.lay(&header(it.wkb_type, it.dimension, it.order, it.srid))?;
-        self.lay(&[it.begin, it.end, it.offset, it.count, it.next].map(|it| it as f64))
+        let [kind, dimension, order, srid] = header(it.wkb_type, it.dimension, it.order, it.srid);
+        let [begin, end, offset, count, next] = [it.begin, it.end, it.offset, it.count, it.next].map(|it| it as f64);
+        self.lay(&[kind, dimension, order, srid, begin, end, offset, count, next])
     }
 
     fn lay_bounds(&mut self, it: &Bounds) -> Result<(), Failure> {
@@ -95,33 +96,22 @@ impl Results {
         ends.iter().try_for_each(|end| Ok(offsets.push(i32::try_from(*end).map_err(|_| Failure::Memory)?)))
     }
 
-    fn keep_statuses(&mut self, statuses: Vec<Status>) {
-        self.statuses = statuses.into_iter().map(Status::number).collect();
-    }
-
-    fn say(&mut self, text: &str) {
-        self.bytes.clear();
-        self.bytes.extend_from_slice(text.as_bytes());
-    }
-
     /// The number of a failure, beside its text and the numbers of a fault.
     fn told(&mut self, why: Failure) -> u32 {
         self.numbers.clear();
-        match why {
-            Failure::Memory => 1,
-            Failure::NoHeader(why) => {
-                self.say(&why.to_string());
-                2
-            }
-            Failure::TooFewBits => 3,
+        let (text, number) = match why {
+            Failure::Memory => (String::new(), 1),
+            Failure::NoHeader(why) => (why.to_string(), 2),
+            Failure::TooFewBits => (String::new(), 3),
             Failure::Refused(why) => {
-                self.say(&why.to_string());
                 let code = if let Cause::General(General::CodeOutOfRange(code)) = why.cause { code } else { 0 };
                 let (end, len) = why.ends().unwrap_or_default();
                 self.numbers.extend([why.part as f64, why.offset as f64, end as f64, len as f64, code.into()]);
-                why.status().number().into()
+                (why.to_string(), why.status().number().into())
             }
-        }
+        };
+        self.bytes = text.into_bytes();
+        number
     }
 }
 
@@ -142,15 +132,11 @@ fn column(inputs: &[Vec<u8>; 3], offset_size: u32, first: f64) -> Result<Column<
     column.with_validity(validity, first as usize).ok_or(Failure::TooFewBits)
 }
 
+/// The form by its number: in OWN_SRID a geometry has its own SRID.
 fn options(order: u32, form: u32, srid: u32, own: Option<u32>) -> WriteOptions {
     let endianness = if order == 0 { Endianness::BigEndian } else { Endianness::LittleEndian };
-    let form = match form {
-        0 => Form::Iso,
-        OWN_SRID => Form::Ewkb { srid: own },
-        2 => Form::Ewkb { srid: Some(srid) },
-        _ => Form::Ewkb { srid: None },
-    };
-    WriteOptions { endianness, form }
+    let srid = [None, own, Some(srid), None][form as usize];
+    WriteOptions { endianness, form: if form == 0 { Form::Iso } else { Form::Ewkb { srid } } }
 }
 
 const OWN_SRID: u32 = 1;
@@ -242,15 +228,16 @@ calls! {
     }
 
     wkb_column_check(inputs, out, size: u32, first: f64) {
-        Ok(out.keep_statuses(column(inputs, size, first)?.check()?))
+        out.statuses = column(inputs, size, first)?.check()?;
+        Ok(())
     }
 
     wkb_column_bounds(inputs, out, size: u32, first: f64) {
         let (all, statuses) = column(inputs, size, first)?.bounds()?;
-        out.keep_statuses(statuses);
+        out.statuses = statuses;
         out.numbers.try_reserve(8 * all.len()).map_err(|_| Failure::Memory)?;
-        for it in all.iter().flat_map(|it| [it.x, it.y, it.z, it.m]) {
-            out.numbers.extend_from_slice(&[it.min(), it.max()]);
+        for Bounds { x, y, z, m } in &all {
+            out.numbers.extend([x.min(), x.max(), y.min(), y.max(), z.min(), z.max(), m.min(), m.max()]);
         }
         Ok(())
     }
@@ -269,7 +256,7 @@ calls! {
         let dimensions = [Dimension::Xy, Dimension::Xyz, Dimension::Xym, Dimension::Xyzm];
         let it = column(inputs, size, first)?.coordinates(dimensions[dimension as usize])?;
         out.numbers = it.words;
-        out.keep_statuses(it.statuses);
+        out.statuses = it.statuses;
         [it.row_ends, it.single_ends, it.ring_ends].iter().enumerate().try_for_each(|(i, ends)| out.keep_offsets(i, ends))
     }
 
@@ -277,7 +264,7 @@ calls! {
         let (column, asked) = (column(inputs, size, first)?, options(order, form, srid, None));
         let it = if form == OWN_SRID { column.write_with_srids(asked.endianness)? } else { column.write(&asked)? };
         out.bytes = it.data;
-        out.keep_statuses(it.statuses);
+        out.statuses = it.statuses;
         out.keep_offsets(0, &it.ends)
     }
 }

@@ -45,15 +45,13 @@ export interface Header {
 export interface Found extends Header {
   /** Its length in bytes; bytes after it aren't looked at. */
   size: number;
-  /** How many parts it has: itself, and its rings and members at every level. */
   parts: number;
-  /** How many coordinates these have; a point has one, an empty point too. */
+  /** A point has one, an empty point too. */
   coordinates: number;
 }
 
 export interface Part extends Omit<Header, 'kind'> {
   kind: Kind | 'Ring';
-  /** Where it begins and ends. */
   begin: number;
   end: number;
   /** Where its own coordinates, rings or members begin, and how many there are. */
@@ -63,12 +61,13 @@ export interface Part extends Omit<Header, 'kind'> {
   next: number;
 }
 
-/** Without a number it is from Infinity to -Infinity. */
+/** Without NaNs. Where there is no number it is from Infinity to -Infinity. */
 export interface Range {
   min: number;
   max: number;
   count: number;
 }
+export type Bounds = { x: Range; y: Range; z: Range; m: Range };
 
 export interface WriteOptions {
   /** By default 'little'. */
@@ -90,32 +89,29 @@ export interface GeopackageHeader {
   envelope: [number, number][];
 }
 
-/** Compiles the code ahead, and not on this thread. Without it the first call compiles it, and waits. */
+/** Compiles the code ahead, and not on this thread. */
 export function start(): Promise<void>;
-/** The bytes of a text: hex, also behind \x or 0x or as X'..', or base64. Throws a SyntaxError for another. */
+/** The bytes of hex, also behind \x or 0x or as X'..', or of base64. Throws a SyntaxError for another text. */
 export function bytesOf(text: string): Uint8Array;
 /** Each call throws a WkbError for rejected bytes, a TypeError or RangeError for wrong arguments or want of memory. */
 export function check(bytes: Bytes): Found;
-/** The bounds of all coordinates; NaNs are left out. */
-export function bounds(bytes: Bytes): { x: Range; y: Range; z: Range; m: Range };
-/** The geometry, its rings and members at every level, each before what is inside it. */
+export function bounds(bytes: Bytes): Bounds;
+/** The geometry, its rings and members at every level, in preorder. */
 export function parts(bytes: Bytes): Part[];
 /** As `parts`; of rejected bytes the error, and the parts before the rejected one. In these `end` and `next` are those
  * without rings and members. */
 export function inspect(bytes: Bytes): { parts: Part[]; error: WkbError | null };
-/** The numbers of the coordinates of a ring, a point or a line string of these bytes. */
+/** The coordinates of a ring, a point or a line string of these bytes, bit for bit. */
 export function words(bytes: Bytes, part: Part): Float64Array;
-/** The geometry as GeoJSON has it: without M, and without SRIDs. An empty point has no coordinates. */
+/** Without M, and without SRIDs. An empty point has no coordinates. */
 export function toGeoJSON(bytes: Bytes): Geometry;
-/** The encoding of a geometry whose positions all have two numbers, or all three. */
+/** All positions have to have two numbers, or all three. */
 export function fromGeoJSON(geometry: Geometry, options?: WriteOptions): Uint8Array;
 /** The one encoding that a geometry has under the options. */
 export function write(bytes: Bytes, options?: WriteOptions): Uint8Array;
-/** The key of a geometry: two have the same bytes exactly if they are equal. */
 export function canonical(bytes: Bytes): Uint8Array;
-/** Whether two geometries are equal, coordinates bit for bit; byte orders and SRIDs don't count. */
+/** Coordinates are compared bit for bit; byte orders and SRIDs don't count. */
 export function equal(a: Bytes, b: Bytes): boolean;
-/** The header before the geometry in a GeoPackage's blob. */
 export function geopackageHeader(blob: Bytes): GeopackageHeader;
 
 export interface Facts {
@@ -125,7 +121,7 @@ export interface Facts {
   /** How many are rejected for their bytes. The rest has bad offsets. */
   refused: number;
   types: { kind: Kind; dimension: Dimension; rows: number }[];
-  bounds: { x: Range; y: Range; z: Range; m: Range };
+  bounds: Bounds;
   /** The SRIDs that occur, in order, and how many geometries have none. */
   srids: number[];
   withoutSrid: number;
@@ -155,12 +151,9 @@ export interface GeoArrow {
 export class Column {
   /** With a validity bitmap, least significant bit first, 0 for a null row; the first row's bit is `first`. */
   constructor(data: Bytes, offsets: Int32Array | BigInt64Array, nulls?: { validity?: Bytes | null; first?: number });
-  /** A copy of rows, of which null or undefined is a null row. */
   static of(rows: Iterable<Bytes | null | undefined>): Column;
   readonly length: number;
-  /** The status of each row: 0 for a geometry. */
   check(): Uint8Array;
-  /** What occurs in the rows. */
   facts(): Facts;
   /** Eight numbers a row: the least and the greatest x, y, z and m, or Infinity and -Infinity. */
   bounds(): { bounds: Float64Array; statuses: Uint8Array };
@@ -169,6 +162,6 @@ export class Column {
   /** The rows as GeoArrow has those of one kind, or of its multi kind if both occur; else a TypeError. A null point is
    * NaNs. The dimension is one that has all ordinates which occur, unless it is given. */
   geoArrow(dimension?: Dimension): GeoArrow;
-  /** The encoding of each row one after another, as `write` makes it, and its offsets. */
+  /** The encodings one after another, as `write` makes each. */
   write(options?: WriteOptions): { data: Uint8Array; offsets: Int32Array; statuses: Uint8Array };
 }

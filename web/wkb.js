@@ -1,7 +1,7 @@
 // SPDX-License-Identifier: MIT OR Apache-2.0
 // Reads and writes WKB and EWKB in browsers, workers and Node.js. What is checked, measured, compared and written is so
 // by the proved sources, as WebAssembly (desk.js). This file makes objects of the numbers.
-import { DIMENSIONS, KINDS, ORDERS, PART_SIZE, WkbError, asBytes, bytes, numbered, numbersAt, numbersSize, numbersThere,
+import { DIMENSIONS, KINDS, ORDERS, PART_SIZE, WkbError, asBytes, bytes, numbered, numbersAt, numbersEnd, numbersThere,
   over, put, rangesAt, run } from './desk.js';
 
 export { DIMENSIONS, KINDS, STATUSES, WkbError, start } from './desk.js';
@@ -59,8 +59,8 @@ export function bounds(bytes) {
 /** The parts whose numbers the last call has laid. */
 function table() {
   const parts = [];
-  for (let at = numbersAt(), end = at + numbersSize(); at < end; at += PART_SIZE) {
-    const it = numbersThere;
+  const it = numbersThere;
+  for (let at = numbersAt(), end = numbersEnd(); at < end; at += PART_SIZE) {
     parts.push(withHeader({ begin: it[at + 4], end: it[at + 5], offset: it[at + 6], count: it[at + 7], next: it[at + 8] }, at));
   }
   return parts;

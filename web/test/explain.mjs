@@ -25,7 +25,7 @@ test('each byte of each row', () => {
     const { parts, error } = readParts(bytes, 0);
     for (const it of status === '0' ? parts : []) {
       const around = parts.filter((other) => other.index < it.index && it.index < other.next);
-      assert.deepEqual([it.depth, it.inside], [around.length, around[around.length - 1] ?? null], hex);
+      assert.deepEqual([it.depth, it.inside], [around.length, around.at(-1) ?? null], hex);
     }
     const rows = parts.flatMap((it) => rowsOf(bytes, 0, it, Infinity));
     let at = 0;

@@ -2,6 +2,7 @@
 // The package over c/test/lasting.rows, and what the types say besides.
 import assert from 'node:assert/strict';
 import { execFileSync, spawnSync } from 'node:child_process';
+import { once } from 'node:events';
 import { mkdtempSync, readFileSync, rmSync, writeFileSync } from 'node:fs';
 import { createRequire } from 'node:module';
 import { tmpdir } from 'node:os';
@@ -51,13 +52,11 @@ test('rejected rows', () => {
     const ends = status >= 48;
     const why = { name: 'WkbError', reason: REASONS[status], part, offset, needed: ends ? end : null,
       has: ends ? has : null, code: status === 34 ? code : null };
-    for (const call of [wkb.check, wkb.bounds, wkb.parts, wkb.toGeoJSON, wkb.write, wkb.canonical]) {
-      assert.throws(() => call(input), why);
-    }
-    assert.throws(() => wkb.equal(input, POINT), why);
-    assert.throws(() => wkb.equal(POINT, input), why);
+    const calls = [wkb.check, wkb.bounds, wkb.parts, wkb.toGeoJSON, wkb.write, wkb.canonical, (it) => wkb.equal(it, POINT),
+      (it) => wkb.equal(POINT, it)];
+    for (const call of calls) assert.throws(() => call(input), why);
     const { parts, error } = wkb.inspect(input);
-    assert.equal(error.message, (() => { try { wkb.check(input); } catch (it) { return it.message; } })());
+    assert.throws(() => wkb.check(input), { message: error.message });
     assert.equal(parts.length, part);
     parts.forEach((it, i) => assert.deepEqual([it.next, it.end], [i + 1, parts[i + 1]?.begin ?? offset]));
   }
@@ -67,9 +66,8 @@ test('accepted rows', () => {
   const accepted = ROWS.filter((it) => it.status === 0);
   assert.equal(accepted.length, 672);
   for (const { input, fields, sums } of accepted) {
-    const found = wkb.check(input);
     const [size, count, coordinates, , , srid, hasSrid, kind, dimension, , order] = fields;
-    assert.deepEqual(found, { kind: wkb.KINDS[kind], dimension: DIMENSIONS[dimension], byteOrder: ORDERS[order],
+    assert.deepEqual(wkb.check(input), { kind: wkb.KINDS[kind], dimension: DIMENSIONS[dimension], byteOrder: ORDERS[order],
       srid: hasSrid ? srid : null, size, parts: count, coordinates });
     for (let i = 0; i < 8; i++) {
       const written = wkb.write(input, options(i));
@@ -116,20 +114,15 @@ test('GeoJSON there and back', () => {
     assert.equal(wkb.check(again).srid, 3857);
     assert.deepEqual(wkb.toGeoJSON(again), geometry);
   }
-  const polygon = { type: 'Polygon', coordinates: [[[0, 0], [4, 0], [2, 3], [0, 0]], []] };
+  const of = (type, ...all) => all.map((coordinates) => ({ type, coordinates }));
+  const [polygon] = of('Polygon', [[[0, 0], [4, 0], [2, 3], [0, 0]], []]);
   assert.deepEqual(wkb.toGeoJSON(wkb.fromGeoJSON(polygon, { byteOrder: 'big' })), polygon);
-  const collection = { type: 'GeometryCollection', geometries: [{ type: 'Point', coordinates: [1, 2, 3] }] };
+  const collection = { type: 'GeometryCollection', geometries: of('Point', [1, 2, 3]) };
   assert.equal(wkb.check(wkb.fromGeoJSON(collection)).dimension, 'xyz');
   assert.throws(() => wkb.fromGeoJSON({ type: 'Feature', geometry: polygon }), /give the geometry/);
-  for (const it of [null, {}, { type: 'FeatureCollection' }, { type: 'Ring', coordinates: [] }]) {
-    assert.throws(() => wkb.fromGeoJSON(it), TypeError);
-  }
-  for (const it of [[1], [1, '2'], ['1', '2'], [null, null], [[1, 2]], [1, , 3]]) {
-    assert.throws(() => wkb.fromGeoJSON({ type: 'Point', coordinates: it }), TypeError);
-  }
-  for (const it of [[[1, 2], [1, 2, 3]], ['ab'], [1, 2], [null]]) {
-    assert.throws(() => wkb.fromGeoJSON({ type: 'LineString', coordinates: it }), TypeError);
-  }
+  for (const it of [null, {}, { type: 'FeatureCollection' }, ...of('Ring', []),
+    ...of('Point', [1], [1, '2'], ['1', '2'], [null, null], [[1, 2]], [1, , 3]),
+    ...of('LineString', [[1, 2], [1, 2, 3]], ['ab'], [1, 2], [null])]) assert.throws(() => wkb.fromGeoJSON(it), TypeError);
 });
 
 const MODULE = 'porchsorrel-wkb';
@@ -137,9 +130,17 @@ const PAGE = readFileSync(new URL('../README.md', import.meta.url), 'utf8');
 const EXAMPLE = [...PAGE.matchAll(/```js\n([^]*?)```/g)].map((it) => it[1]).join('');
 test('the examples of the page', () => import(`data:text/javascript,${encodeURIComponent(EXAMPLE.replaceAll(MODULE, PACKAGE))}`));
 
+const EMPTY = bytesOf('010700000000000000');
 test('by require, where Node.js has that', { skip: !process.features.require_module }, () => {
-  const { check } = createRequire(import.meta.url)('../out/package/wkb.js');
-  assert.equal(check(Uint8Array.of(1, 7, 0, 0, 0, 0, 0, 0, 0)).size, 9);
+  assert.equal(createRequire(import.meta.url)('../out/package/wkb.js').check(EMPTY).size, 9);
+});
+
+test('in a worker', async () => {
+  const code = `import { check } from '${PACKAGE}';
+    import { parentPort, workerData } from 'node:worker_threads';
+    parentPort.postMessage(check(workerData).kind);`;
+  const worker = new Worker(new URL(`data:text/javascript,${encodeURIComponent(code)}`), { workerData: EMPTY });
+  assert.deepEqual(await once(worker, 'message'), ['GeometryCollection']);
 });
 
 test('a call that traps: a length that overflows', async (it) => {
@@ -169,10 +170,8 @@ test('a call that traps: a length that overflows', async (it) => {
 
 test('memory that is refused', () => {
   const code = `import * as wkb from '${PACKAGE}';
-    const point = wkb.bytesOf('${Buffer.from(POINT).toString('hex')}');
-    const long = new Uint8Array(9 + 21 * 2e4);
-    long.set([1, 4, 0, 0, 0, 32, 78, 0, 0]);
-    for (let i = 0; i < 2e4; i++) long.set(point, 9 + 21 * i);
+    const point = Uint8Array.of(${POINT});
+    const long = Uint8Array.from([1, 4, 0, 0, 0, 32, 78, 0, 0, ...Array(2e4).fill([...point]).flat()]);
     const rows = wkb.Column.of(Array(2e5).fill(wkb.bytesOf('010200000000000000')));
     for (const call of [() => wkb.check(new Uint8Array(8e6)), () => wkb.parts(long), () => wkb.toGeoJSON(long),
       () => rows.bounds(), () => rows.write()]) {
@@ -238,10 +237,13 @@ test('a column as GeoArrow, and columns of no meaning', () => {
   assert.deepEqual([found.kind, found.offsets.map((it) => [...it]), [...found.validity], found.values.length],
     ['MultiPolygon', [[0, 1, 1, 3], [0, 2, 3, 4], [0, 4, 7, 10, 14]], [5], 28]);
   assert.deepEqual([...found.values.subarray(8, 14)], hole.flat());
-  assert.deepEqual(geo(of('Polygon', [square, hole]), of('Polygon', [hole])).offsets.map((it) => [...it]), [[0, 2, 3], [0, 4, 7, 10]]);
-  assert.deepEqual(geo(of('LineString', square), null, of('LineString', hole)).offsets.map((it) => [...it]), [[0, 4, 4, 7]]);
-  assert.deepEqual(geo(of('MultiLineString', [square, hole]), of('LineString', hole)).offsets.map((it) => [...it]), [[0, 2, 3], [0, 4, 7, 10]]);
-  assert.deepEqual(geo(of('MultiPoint', hole), of('Point', [7, 8])).offsets.map((it) => [...it]), [[0, 3, 4]]);
+  const lists = [
+    [[of('Polygon', [square, hole]), of('Polygon', [hole])], [0, 2, 3], [0, 4, 7, 10]],
+    [[of('LineString', square), null, of('LineString', hole)], [0, 4, 4, 7]],
+    [[of('MultiLineString', [square, hole]), of('LineString', hole)], [0, 2, 3], [0, 4, 7, 10]],
+    [[of('MultiPoint', hole), of('Point', [7, 8])], [0, 3, 4]],
+  ];
+  for (const [rows, ...offsets] of lists) assert.deepEqual(geo(...rows).offsets.map((it) => [...it]), offsets);
   const points = geo(of('Point', [1, 2, 3]), null, of('Point', [4, 5]));
   assert.deepEqual([points.dimension, points.offsets, ...points.values], ['xyz', [], 1, 2, 3, NaN, NaN, NaN, 4, 5, NaN]);
   for (const it of [[], [of('Point', [1, 2]), of('LineString', [])], [{ type: 'GeometryCollection', geometries: [] }]]) {
@@ -267,20 +269,12 @@ function declared(name) {
 }
 
 test('the types name what there is', () => {
-  const is = (it, name) => assert.deepEqual(Object.keys(it).sort(), [...new Set(declared(name))].sort(), name);
-  is({ ...wkb }, '');
-  const [column, { error }] = [wkb.Column.of([POINT]), wkb.inspect(POINT.subarray(1))];
-  const { name, ...fields } = error;
-  is(fields, 'WkbError');
-  is(wkb.check(POINT), 'Found');
-  is(wkb.parts(POINT)[0], 'Part');
-  is(wkb.bounds(POINT).x, 'Range');
-  is(wkb.geopackageHeader(bytesOf('47500000ffffffff')), 'GeopackageHeader');
-  is(column.facts(), 'Facts');
-  is(column.coordinates(), 'Coordinates');
-  is(column.geoArrow(), 'GeoArrow');
+  const [column, { error: { name, ...fields } }] = [wkb.Column.of([POINT]), wkb.inspect(POINT.subarray(1))];
   const methods = Object.fromEntries(Object.getOwnPropertyNames(wkb.Column.prototype).map((it) => [it, 1]));
-  is({ ...methods, of: wkb.Column.of, length: 1 }, 'Column');
+  const all = { '': wkb, WkbError: fields, Found: wkb.check(POINT), Part: wkb.parts(POINT)[0], Range: wkb.bounds(POINT).x,
+    GeopackageHeader: wkb.geopackageHeader(bytesOf('47500000ffffffff')), Facts: column.facts(),
+    Coordinates: column.coordinates(), GeoArrow: column.geoArrow(), Column: { ...methods, of: 1, length: 1 } };
+  for (const [it, found] of Object.entries(all)) assert.deepEqual(Object.keys(found).sort(), [...new Set(declared(it))].sort(), it);
 });
 
 const hasTsc = spawnSync('tsc', ['--version']).status === 0;
@@ -292,15 +286,6 @@ test('the example of the page has the types', { skip: !hasTsc && 'there is no ts
   const { status, stdout } = spawnSync('tsc', words, { encoding: 'utf8' });
   rmSync(folder, { recursive: true });
   assert.equal(status, 0, stdout);
-});
-
-test('in a worker', async () => {
-  const code = `const { check } = await import('${new URL('../out/package/wkb.js', import.meta.url)}');
-    const { parentPort } = await import('node:worker_threads');
-    parentPort.postMessage(check(Uint8Array.of(1, 7, 0, 0, 0, 0, 0, 0, 0)).kind);`;
-  const worker = new Worker(new URL(`data:text/javascript,${encodeURIComponent(code)}`));
-  const kind = await new Promise((resolve) => { worker.on('message', resolve); });
-  assert.equal(kind, 'GeometryCollection');
 });
 
 test('the header of a GeoPackage', () => {
@@ -315,8 +300,7 @@ test('the header of a GeoPackage', () => {
 test('arguments, and inputs that are long or claim much', () => {
   for (const it of [null, 'ab', [1, 2]]) assert.throws(() => wkb.check(it), TypeError);
   const point = POINT;
-  assert.equal(wkb.check(point.buffer).kind, 'Point');
-  assert.equal(wkb.check(new DataView(Uint8Array.of(7, ...point).buffer, 1)).kind, 'Point');
+  for (const it of [point.buffer, new DataView(Uint8Array.of(7, ...point).buffer, 1)]) assert.equal(wkb.check(it).kind, 'Point');
   class Liar extends Uint8Array { get length() { return 1; } }
   assert.equal(wkb.check(Liar.from(point)).size, 21);
   class Busy extends Uint8Array { get buffer() { return wkb.equal(POINT, POINT) && super.buffer; } }
@@ -328,20 +312,17 @@ test('arguments, and inputs that are long or claim much', () => {
   assert.equal(big.readDoubleBE(5), 1);
   const { buffer } = runInNewContext('Uint8Array.of(1, 7, 0, 0, 0, 0, 0, 0, 0)');
   assert.equal(wkb.check(buffer).kind, 'GeometryCollection');
-  for (const it of [{ byteOrder: 'middle' }, { form: 'wkt' }]) assert.throws(() => wkb.write(point, it), TypeError);
-  for (const it of [{ srid: 4326 }, { form: 'iso', srid: 0 }]) assert.throws(() => wkb.write(point, it), TypeError);
+  for (const it of [{ byteOrder: 'middle' }, { form: 'wkt' }, { srid: 4326 }, { form: 'iso', srid: 0 }]) {
+    assert.throws(() => wkb.write(point, it), TypeError);
+  }
   assert.deepEqual(wkb.write(point, { srid: null }), point);
   for (const srid of [-1, 1.5, 2 ** 32]) assert.throws(() => wkb.write(point, { form: 'ewkb', srid }), RangeError);
-  const claims = { 2: 9 + 16 * 0xffffffff, 4: 9 + 21 * 0xffffffff };
-  for (const [kind, needed] of Object.entries(claims)) {
-    assert.throws(() => wkb.inspect(bytesOf(`010${kind}000000ffffffff`)).error instanceof Error
-      && wkb.check(bytesOf(`010${kind}000000ffffffff`)), { needed, has: 9 });
+  for (const [kind, needed] of [[2, 9 + 16 * 0xffffffff], [4, 9 + 21 * 0xffffffff]]) {
+    assert.throws(() => wkb.check(bytesOf(`010${kind}000000ffffffff`)), { needed, has: 9 });
   }
   const claiming = wkb.inspect(bytesOf('0107000000ffffffff'.repeat(128) + '0103000000ffffffff'));
   assert.deepEqual([claiming.parts.length, claiming.error.reason], [129, 'SHORT_HEADER']);
-  const long = new Uint8Array(9 + 21 * 1e6);
-  long.set(bytesOf('010400000040420f00'));
-  for (let i = 0; i < 1e6; i++) long.set(point, 9 + 21 * i);
+  const long = Buffer.concat([bytesOf('010400000040420f00'), ...Array(1e6).fill(POINT)]);
   assert.equal(wkb.check(long).parts, 1e6 + 1);
   assert.equal(wkb.toGeoJSON(long).coordinates.length, 1e6);
   assert.equal(wkb.check(point).size, 21);

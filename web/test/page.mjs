@@ -12,16 +12,16 @@ const WORK = mkdtempSync(join(tmpdir(), 'inspector-'));
 // Of a machine that does much else; a quiet one takes a tenth of it.
 const MOST_TIME = 10000;
 const POINT = '0101000000000000000000f03f0000000000000040';
-let driver, base, session;
+let driver, session;
 
 async function call(method, path, body) {
-  const answer = await fetch(base + path, { method, body: body && JSON.stringify(body) });
-  const { value } = await answer.json();
+  const { value } = await (await fetch(session + path, { method, body: body && JSON.stringify(body) })).json();
   if (value?.error) throw new Error(`${value.error}: ${value.message}`);
   return value;
 }
 
-const run = (script, ...args) => call('POST', `/session/${session}/execute/sync`, { script, args });
+const run = (script) => call('POST', '/execute/sync', { script, args: [] });
+const pause = (time) => new Promise((resolve) => { setTimeout(resolve, time); });
 
 /** Puts a text, or what a function makes in the page, into the page, and returns what it shows. A file is read later. */
 const shown = (text) => run(`
@@ -54,29 +54,25 @@ const READ = `() => {
 before(async () => {
   driver = spawn('chromedriver', ['--port=0'], { stdio: ['ignore', 'pipe', 'ignore'] });
   for await (const line of driver.stdout) {
-    const port = /on port (\d+)\./.exec(String(line))?.[1];
-    if (!port) continue;
-    base = `http://127.0.0.1:${port}`;
-    break;
+    session = /on port (\d+)\./.exec(line)?.[1];
+    if (session) break;
   }
+  session = `http://127.0.0.1:${session}/session`;
   const args = ['--headless=new', '--no-sandbox', '--disable-gpu', '--disable-dev-shm-usage', `--user-data-dir=${WORK}`];
   const capabilities = { alwaysMatch: { 'goog:chromeOptions': { args }, 'goog:loggingPrefs': { browser: 'ALL' } } };
-  ({ sessionId: session } = await call('POST', '/session', { capabilities }));
-  await call('POST', `/session/${session}/url`, { url: PAGE });
+  session += `/${(await call('POST', '', { capabilities })).sessionId}`;
+  await call('POST', '/url', { url: PAGE });
 });
 
 after(async () => {
-  if (session) await call('DELETE', `/session/${session}`);
-  driver?.kill();
+  await call('DELETE', '').finally(() => driver.kill());
   rmSync(WORK, { recursive: true, force: true });
 });
 
 // An input, what the verdict begins with, and for rejected ones the byte of the row that is marked, and its text.
 const CASES = [
   [POINT, 'Point, xy, little endian, 21 bytes.'],
-  [`\\x${POINT}`, 'Point, xy'],
-  [`0x${POINT.toUpperCase()}`, 'Point, xy'],
-  [`X'${POINT}'`, 'Point, xy'],
+  [`\\x${POINT.toUpperCase()}`, 'Point, xy'],
   ['AQEAAAAAAAAAAADwPwAAAAAAAABA', 'Point, xy'],
   [POINT.replace(/(.{10})/g, '$1\n'), 'Point, xy, little endian, 21 bytes.'],
   [`47500001e6100000${POINT}`, 'Point, xy'],
@@ -153,17 +149,8 @@ test('a column of CSV, another input, and a link', async () => {
   await run('document.getElementById("link").click()');
   assert.equal(await run('return location.hash'), `#hex=${POINT}`);
   await run(`location.hash = '#hex=${POINT.slice(0, 20)}'`);
-  await new Promise((resolve) => { setTimeout(resolve, 300); });
+  await pause(300);
   assert.match((await run(`return (${READ})()`)).verdict, /^Rejected: the input ends inside a point/);
-});
-
-test('many lines', async () => {
-  const found = await shown(() => Array(50000).fill('0101000000000000000000f03f0000000000000040').join('\n') + '\n02');
-  assert.ok(found.time < MOST_TIME, `${found.time} ms`);
-  await run('document.getElementById("next-bad").click()');
-  const last = await run(`return (${READ})()`);
-  assert.match(last.verdict, /neither 0 nor 1/);
-  assert.match(await run('return document.getElementById("summary").textContent'), /^1 rejected/);
 });
 
 const LONG = {
@@ -171,6 +158,7 @@ const LONG = {
   'a multi point of 5 MB': [() => '010400000000d00300' + '0101000000000000000000f03f0000000000000040'.repeat(249856), /^MultiPoint/],
   'a collection of 1 MB of empty members': [() => '010700000000c80100' + '010700000000000000'.repeat(116736), /^Geometry/],
   'members that each claim the rest': [() => '0107000000ffffffff'.repeat(128) + '010400000000000000'.repeat(60000), /^Rejected/],
+  'many lines': [() => Array(50000).fill('0101000000000000000000f03f0000000000000040').join('\n') + '\n02', /^Point/],
 };
 for (const [name, [text, verdict]] of Object.entries(LONG)) {
   test(name, async (it) => {
@@ -182,6 +170,13 @@ for (const [name, [text, verdict]] of Object.entries(LONG)) {
   });
 }
 
+test('the next rejected of many lines', async () => {
+  const [verdict, summary] = await run(`document.getElementById("next-bad").click();
+    return ['verdict', 'summary'].map((it) => document.getElementById(it).textContent);`);
+  assert.match(verdict, /neither 0 nor 1/);
+  assert.match(summary, /^1 rejected/);
+});
+
 test('a file of 5 MB', async () => {
   await shown(() => {
     const bytes = new Uint8Array(9 + 16 * 327680);
@@ -190,7 +185,7 @@ test('a file of 5 MB', async () => {
     for (let i = 0; i < 327680; i++) view.setFloat64(9 + 16 * i, i, true);
     return bytes;
   });
-  await new Promise((resolve) => { setTimeout(resolve, 1500); });
+  await pause(1500);
   const found = await run(`return (${READ})()`);
   assert.match(found.verdict, /5,242,889 bytes/);
   assert.match(found.drawn, /^A sample: .* of 327,680 coordinates/);
@@ -198,7 +193,7 @@ test('a file of 5 MB', async () => {
 });
 
 test('nothing is loaded, logged or made HTML', async () => {
-  const errors = (await call('POST', `/session/${session}/se/log`, { type: 'browser' })).map((it) => it.message);
+  const errors = (await call('POST', '/se/log', { type: 'browser' })).map((it) => it.message);
   assert.deepEqual(errors, []);
   const [loaded, tags] = await run('return [performance.getEntriesByType("resource").length, document.querySelectorAll("img, i").length]');
   assert.deepEqual([loaded, tags], [0, 0]);
