@@ -2,18 +2,21 @@
 //! A column of encodings, as Arrow has it.
 use super::{Coordinates, Encodings, Status};
 use crate::canon::lay;
-use crate::check::{bounds, Bounds, Summary};
+use crate::check::{Bounds, Summary};
 use crate::reader::Dimension;
 use crate::rt::{try_filled, TryVec};
 use crate::wkb_abi::column::{found_in, Column as Raw};
 use crate::wkb_abi::level_slices::{lay_levels, LevelSlices};
 use crate::wkb_abi::totals::Totals;
+use crate::wkb_bounds::{any_bounds_into, plain_bounds_into};
 use crate::wkb_check::Piece;
 use crate::wkb_geom::header::SRID_SIZE;
 use crate::writer::{Form, WriteOptions};
 use crate::{AllocError, Endianness};
 use alloc::vec::Vec;
 use core::ops::Range;
+
+type Row<'a> = Result<&'a [u8], Status>;
 
 /// A column as Arrow has it: row i has the bytes of the data from offset i up to offset i + 1. Offsets and validity may
 /// be anything: a row with bad offsets is [`Status::BAD_OFFSETS`].
@@ -101,17 +104,17 @@ impl<'a> Column<'a> {
         (0..columns).map(move |column| whole.slice(begin(column)..begin(column + 1)))
     }
 
-    /// The bytes of each row, or the status of a row without bytes: it is null, or has bad offsets.
-    pub fn rows(&self) -> impl ExactSizeIterator<Item = Result<&'a [u8], Status>> {
+    /// The column as the proved calls take it.
+    fn raw(&self) -> Raw<'a> {
         let (validity, validity_offset) = self.validity.unwrap_or_default();
         let Column { data: bytes, offsets, offset_size, .. } = *self;
-        let (raw, mut reach) = (Raw { bytes, offsets, offset_size, validity, validity_offset }, 0);
-        (0..self.len()).map(move |i| raw.row(i, &mut reach).map_err(Status::of))
+        Raw { bytes, offsets, offset_size, validity, validity_offset }
     }
 
-    /// The bytes of each row that begins with a geometry, and what the check finds there; or the row's status.
-    pub(super) fn geometries(&self) -> impl ExactSizeIterator<Item = Result<(&'a [u8], Summary), Status>> {
-        self.rows().map(|row| row.and_then(|bytes| Ok((bytes, found_in(bytes).map_err(Status::of)?))))
+    /// The bytes of each row, or the status of a row without bytes: it is null, or has bad offsets.
+    pub fn rows(&self) -> impl ExactSizeIterator<Item = Result<&'a [u8], Status>> {
+        let (column, mut reach) = (self.raw(), 0);
+        (0..self.len()).map(move |i| column.row(i, &mut reach).map_err(Status::of))
     }
 
     /// What [`check`](crate::check::check) finds of each row, or its status.
@@ -127,7 +130,7 @@ impl<'a> Column<'a> {
     /// # Ok::<(), porchsorrel_wkb::AllocError>(())
     /// ```
     pub fn found(&self) -> impl ExactSizeIterator<Item = Result<Summary, Status>> + 'a {
-        self.geometries().map(|row| row.map(|(_, found)| found))
+        self.rows().map(|row| row.and_then(geometry).map(|(_, found)| found))
     }
 
     /// The status of each row: whether it is a geometry, as [`check`](crate::check::check) finds it.
@@ -136,7 +139,7 @@ impl<'a> Column<'a> {
     ///
     /// Memory is refused.
     pub fn check(&self) -> Result<Vec<Status>, AllocError> {
-        statuses(self.rows(), |row| row.and_then(|bytes| found_in(bytes).map(drop).map_err(Status::of)))
+        self.each(|_, row| found_in(row?).map(drop).map_err(Status::of))
     }
 
     /// What [`bounds`](crate::check::bounds) finds of each row: the bounds of no coordinate where it has none.
@@ -145,11 +148,13 @@ impl<'a> Column<'a> {
     ///
     /// Memory is refused.
     pub fn bounds(&self) -> Result<(Vec<Bounds>, Vec<Status>), AllocError> {
-        let mut boxes = Vec::try_with_room(self.len())?;
-        let statuses = statuses(self.rows(), |row| {
-            let found = row.and_then(|bytes| bounds(bytes).map_err(|why| why.status()));
-            boxes.push_reserved(found.unwrap_or(Bounds::empty()));
-            found.map(drop)
+        let mut boxes = try_filled(Bounds::empty(), self.len())?;
+        let statuses = self.each(|i, row| {
+            let (bytes, found) = (row?, &mut boxes[i]);
+            if plain_bounds_into(bytes, found) {
+                return Ok(());
+            }
+            any_bounds_into(bytes, found).map_err(|why| why.status())
         })?;
         Ok((boxes, statuses))
     }
@@ -176,17 +181,27 @@ impl<'a> Column<'a> {
         // An encoding is at most an SRID longer than its row, and rows with bytes don't overlap.
         let room = self.rows().filter_map(Result::ok).map(|it| it.len() + SRID_SIZE).sum();
         let (mut data, mut ends, mut at) = (try_filled(0, room)?, Vec::try_with_room(self.len())?, 0);
-        let statuses = statuses(self.rows(), |row| {
-            let written = row.and_then(|bytes| {
-                let found = found_in(bytes).map_err(Status::of)?;
-                at += lay(bytes, &found, options(&found), &mut data[at..]);
-                Ok(())
-            });
+        let statuses = self.each(|_, row| {
+            let written = row.and_then(geometry);
+            let written = written.map(|(bytes, found)| at += lay(bytes, &found, options(&found), &mut data[at..]));
             ends.push_reserved(at as u64);
             written
         })?;
         data.truncate(at);
         Ok(Encodings { data, ends, statuses })
+    }
+
+    /// What becomes of each row by a call with its number. The loop is compiled anew for each call, without one inside.
+    #[inline(always)]
+    fn each(&self, mut call: impl FnMut(usize, Row<'a>) -> Result<(), Status>) -> Result<Vec<Status>, AllocError> {
+        let (column, mut reach) = (self.raw(), 0);
+        let mut statuses = try_filled(Status::OK, self.len())?;
+        for (i, status) in statuses.iter_mut().enumerate() {
+            if let Err(why) = call(i, column.row(i, &mut reach).map_err(Status::of)) {
+                *status = why;
+            }
+        }
+        Ok(statuses)
     }
 
     /// The coordinates of each row. Words that the dimension doesn't name are left out, and a word that a geometry
@@ -198,11 +213,9 @@ impl<'a> Column<'a> {
     pub fn coordinates(&self, dimension: Dimension) -> Result<Coordinates, AllocError> {
         let mut row_ends = Vec::try_with_room(self.len())?;
         let mut totals = Totals { coordinates: 0, rings: 0, singles: 0 };
-        let statuses = statuses(self.rows(), |row| {
-            let passed = row.and_then(|bytes| {
-                let found = found_in(bytes).map_err(Status::of)?;
+        let statuses = self.each(|_, row| {
+            let passed = row.and_then(geometry).map(|(bytes, found)| {
                 totals = totals.after(bytes, &found, &Piece::outermost(bytes, &found));
-                Ok(())
             });
             row_ends.push_reserved(totals.singles);
             passed
@@ -212,8 +225,8 @@ impl<'a> Column<'a> {
         let mut single_ends = try_filled(0, totals.singles as usize)?;
         let mut levels = LevelSlices { words: &mut words, ring_ends: &mut ring_ends, single_ends: &mut single_ends };
         let mut at = Totals { coordinates: 0, rings: 0, singles: 0 };
-        for bytes in self.rows().flatten() {
-            if let Ok(found) = found_in(bytes) {
+        for row in self.rows() {
+            if let Ok((bytes, found)) = row.and_then(geometry) {
                 let first = Piece::outermost(bytes, &found);
                 lay_levels(bytes, &first, at, dimension, &mut levels);
                 at = at.after(bytes, &found, &first);
@@ -225,14 +238,10 @@ impl<'a> Column<'a> {
     }
 }
 
-/// What becomes of each row by a call.
-fn statuses<'a>(
-    rows: impl ExactSizeIterator<Item = Result<&'a [u8], Status>>,
-    mut call: impl FnMut(Result<&'a [u8], Status>) -> Result<(), Status>,
-) -> Result<Vec<Status>, AllocError> {
-    let mut statuses = Vec::try_with_room(rows.len())?;
-    statuses.extend(rows.map(|row| call(row).err().unwrap_or(Status::OK)));
-    Ok(statuses)
+/// A row with what the check finds at its start.
+#[inline(always)]
+pub(super) fn geometry(bytes: &[u8]) -> Result<(&[u8], Summary), Status> {
+    Ok((bytes, found_in(bytes).map_err(Status::of)?))
 }
 
 /// Rows of one's own, as a column takes them.

@@ -1,6 +1,7 @@
 // SPDX-License-Identifier: MIT OR Apache-2.0
 //! What occurs in the rows of a column.
-use super::{Column, Status};
+use super::column::{geometry, Column};
+use super::Status;
 use crate::check::{bounds, Bounds, Summary, WkbType};
 use crate::rt::TryVec;
 use crate::AllocError;
@@ -104,31 +105,16 @@ impl Facts {
         self.srids.dedup();
     }
 
-    fn add_found(&mut self, found: &Summary) -> Result<(), AllocError> {
+    fn add_row(&mut self, bytes: &[u8], found: &Summary) -> Result<(), AllocError> {
         self.accepted += 1;
-        self.add_type(found.wkb_type, 1)?;
+        if let Ok(bounds) = bounds(bytes) {
+            self.bounds = self.bounds.union(bounds);
+        }
         match found.srid {
             Some(srid) => self.add_srid(srid)?,
             None => self.without_srid += 1,
         }
-        Ok(())
-    }
-
-    fn add_row(&mut self, row: Result<(&[u8], Summary), Status>) -> Result<(), AllocError> {
-        self.rows += 1;
-        match row {
-            Ok((bytes, found)) => {
-                if let Ok(bounds) = bounds(bytes) {
-                    self.bounds = self.bounds.union(bounds);
-                }
-                self.add_found(&found)?;
-            }
-            Err(status) => {
-                self.refused += usize::from(status.is_refusal());
-                self.null_rows += usize::from(status == Status::NULL_ROW);
-            }
-        }
-        Ok(())
+        self.add_type(found.wkb_type, 1)
     }
 }
 
@@ -139,8 +125,14 @@ impl Column<'_> {
     ///
     /// Memory is refused.
     pub fn facts(&self) -> Result<Facts, AllocError> {
-        let mut facts = Facts::default();
-        self.geometries().try_for_each(|row| facts.add_row(row))?;
+        let mut facts = Facts { rows: self.len(), ..Facts::default() };
+        for row in self.rows() {
+            match row.and_then(geometry) {
+                Ok((bytes, found)) => facts.add_row(bytes, &found)?,
+                Err(Status::NULL_ROW) => facts.null_rows += 1,
+                Err(status) => facts.refused += usize::from(status.is_refusal()),
+            }
+        }
         facts.settle_srids();
         Ok(facts)
     }
