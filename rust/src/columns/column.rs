@@ -225,12 +225,10 @@ impl<'a> Column<'a> {
         let mut single_ends = try_filled(0, totals.singles as usize)?;
         let mut levels = LevelSlices { words: &mut words, ring_ends: &mut ring_ends, single_ends: &mut single_ends };
         let mut at = Totals { coordinates: 0, rings: 0, singles: 0 };
-        for row in self.rows() {
-            if let Ok((bytes, found)) = row.and_then(geometry) {
-                let first = Piece::outermost(bytes, &found);
-                lay_levels(bytes, &first, at, dimension, &mut levels);
-                at = at.after(bytes, &found, &first);
-            }
+        for (bytes, found) in self.rows().filter_map(|row| row.and_then(geometry).ok()) {
+            let first = Piece::outermost(bytes, &found);
+            lay_levels(bytes, &first, at, dimension, &mut levels);
+            at = at.after(bytes, &found, &first);
         }
         // The same memory, since a word has the size of a number.
         let words = words.into_iter().map(f64::from_bits).collect();
