@@ -10,6 +10,8 @@ import re
 from checks import judge
 from pages import texts
 
+# The proved sources, and what goes over the erased ones.
+SOURCES = ["crates/*/src/**/*.rt", "rust/src/*.rs", "rust/src/columns/*.rs", "web/wasm.rs"]
 # Why it fits, and the lines; * is any text.
 CASTS = {
     "it was compared with a length, or is an index below one": """
@@ -22,20 +24,29 @@ CASTS = {
         let start = asked.width() * at.coordinates as usize;
         *_ends[at.* as usize] = at.*;
         let start = self.*_offset(i as u64) as usize;
-        let i = i as usize;""",
+        let i = i as usize;
+        self.statuses[row].is_ok().then(|| &self.data[begin as usize..self.ends[row] as usize])""",
     "the bytes of so many items were found": """
         walk.coordinates += * as usize;
         self.offset + self.dimension.coordinate_size() * self.count as usize
         self.geometries += piece.count as usize;
         let words = piece.dimension.width() * piece.count as usize;
         self.count as usize
-        if i >= self.count as usize {""",
+        if i >= self.count as usize {
+        let mut * = try_filled(0, *totals.* as usize)?;
+        *: entry.* as usize,""",
     "it is a u32, and in no sum or product": """
         for i in 0..count as usize {
         let count = count as usize;
-        (count as usize).min(remaining / least)""",
-    "any width is right": """
-        for _ in 0..usize::BITS {""",
+        (count as usize).min(remaining / least)
+        NAMES.get(kind as usize).copied()
+        let it = column(inputs, size, first)?.coordinates(dimensions[dimension as usize])?;
+        let srid = [None, own, Some(srid), None][form as usize];""",
+    "any width or order is right": """
+        for _ in 0..usize::BITS {
+        column.with_validity(validity, first as usize).ok_or(Failure::TooFewBits)
+        made.offsets.try_extend_from_slice(&(made.data.len() as u64).to_ne_bytes())?;
+        pub(crate) const MACHINE: Self = if cfg!(target_endian = "big") *""",
 }
 LESSER = re.compile(r"\.min\([\w:.]+(\(\))? as u\d+\) as usize\b")
 # What has other bytes, or another value, for another processor.
@@ -46,7 +57,7 @@ class Casts(judge.Judge):
     """Each line that depends on the width of a usize or the order of bytes is listed, and each listed one is there."""
 
     def wrong(self):
-        left = {line.strip(): path for path, text in texts("crates/*/src/**/*.rt").items() for line in text.splitlines()
+        left = {line.strip(): path for path, text in texts(*SOURCES).items() for line in text.splitlines()
                 if OF_A_PROCESSOR.search(LESSER.sub("", line.split("//")[0]))}
         for it in " ".join(CASTS.values()).strip().splitlines():
             listed = re.compile(re.escape(it.strip()).replace(r"\*", ".*"))
