@@ -200,7 +200,9 @@ class part {
     return entry_->has_srid == 0 ? std::nullopt : std::optional<std::uint32_t>(entry_->srid);
   }
   // Returns its own bytes, which for a geometry are a well-formed input.
-  bytes encoding() const noexcept { return {input_ + entry_->begin, entry_->end - entry_->begin}; }
+  bytes encoding() const noexcept {
+    return {input_ + entry_->begin, static_cast<std::size_t>(entry_->end - entry_->begin)};
+  }
   // Returns its entry in the table.
   const wkb_part &entry() const noexcept { return *entry_; }
 

@@ -308,8 +308,10 @@ fn indices_that_are_none() {
     let (coord, own_coord) = (line.coord(0).unwrap(), own.coord(0).unwrap());
     for i in (1..usize::BITS).map(|shift| 1_usize << shift).flat_map(|it| [it, it + 1, usize::MAX - it + 1]) {
         assert!(line.coord(i).is_none() && ring.coord(i).is_none() && own.coord(i).is_none());
-        assert!(panics(|| line.coord_at(i)) && panics(|| ring.coord_at(i)) && panics(|| own.coord_at(i)));
-        assert!(panics(|| coord.word_at(i)) && panics(|| own_coord.word_at(i)) && panics(|| coord.nth_or_panic(i)));
         assert_eq!((coord.nth_word(i), own_coord.nth_word(i), coord.nth(i)), (None, None, None));
+        if cfg!(panic = "unwind") {
+            assert!(panics(|| line.coord_at(i)) && panics(|| ring.coord_at(i)) && panics(|| own.coord_at(i)));
+            assert!(panics(|| coord.word_at(i)) && panics(|| own_coord.word_at(i)) && panics(|| coord.nth_or_panic(i)));
+        }
     }
 }
