@@ -3,18 +3,17 @@ use Rattle.std.proofs.Common.{◌≡◌, ℕ, zero, suc, ◌+◌, ◌*◌, ◌�
 use Rattle.std.proofs.Common.{Bool, refl, sym, ap, ◌∙◌, subst, append_assoc, append-nil, arith, length-append}
 use Rattle.std.proofs.Common.{length-drop, take-append-drop, length-take-le, take_all, ◌<◌, ◌⊎◌, inl, inr, lit<, Option}
 use Rattle.std.proofs.lemmas.Bool.{cases_lt, cases_Bool, cases_eq}
-use Rattle.wkb_laws.specs.Prelude.{count_in, Endianness, Dimension, Layout, IsNumber, number, all_nan, width, IsEach}
-use Rattle.wkb_laws.specs.Prelude.{point, line_string, polygon, no_spellings, SpellsCoordinate, SpellsCoordinates}
-use Rattle.wkb_laws.specs.Prelude.{Wanted, IsPart, point_end, line_string_end, ring_end, slots_asked, IsAllowed}
-use Rattle.wkb_laws.specs.Prelude.{RefusesRings, no_ring_count, short_ring, later_ring, short_point, short_line_string}
-use Rattle.wkb_laws.specs.Prelude.{bad_ring, body_start, parts_start, coordinate, ring_in, consumed, Cause, Value}
-use Rattle.wkb_laws.specs.Prelude.{multi_point, multi_line_string, multi_polygon, collection, Values, no_members}
-use Rattle.wkb_laws.specs.Prelude.{member, kind, dimension, members, each, count, nest, nest_each, member_count}
-use Rattle.wkb_laws.specs.Prelude.{member_count_each, listed_count, listed_count_each, Spellings, spelling, SpellsBody}
-use Rattle.wkb_laws.specs.Prelude.{part, member_part, SpellsEach, multi_point_end, room_inside, Opens, OpensCounted}
-use Rattle.wkb_laws.specs.Prelude.{bad_member, short_multi_point, RefusesEach, this_member, later_member}
-use Rattle.wkb_laws.specs.Prelude.{line_string_of, point_of, polygon_of, length-items, Coordinate, Begins, laid, Then}
-use Rattle.wkb_laws.specs.Prelude.{Spells}
+use Rattle.wkb_laws.specs.Prelude.{count_in, SpellsCoordinates, short_line_string, multi_line_string, member_count_each}
+use Rattle.wkb_laws.specs.Prelude.{line_string, SpellsCoordinate, line_string_end, listed_count_each, short_multi_point}
+use Rattle.wkb_laws.specs.Prelude.{all_nan, no_spellings, no_ring_count, multi_polygon, multi_point_end, line_string_of}
+use Rattle.wkb_laws.specs.Prelude.{RefusesRings, member_count, listed_count, OpensCounted, later_member, length-items}
+use Rattle.wkb_laws.specs.Prelude.{Layout, slots_asked, short_point, parts_start, multi_point, member_part, room_inside}
+use Rattle.wkb_laws.specs.Prelude.{Endianness, short_ring, later_ring, body_start, coordinate, RefusesEach, this_member}
+use Rattle.wkb_laws.specs.Prelude.{collection, no_members, SpellsBody, SpellsEach, bad_member, polygon_of, Coordinate}
+use Rattle.wkb_laws.specs.Prelude.{Dimension, IsNumber, point_end, ring_end, IsAllowed, dimension, nest_each, Spellings}
+use Rattle.wkb_laws.specs.Prelude.{number, IsEach, polygon, bad_ring, ring_in, consumed, members, spelling, point_of}
+use Rattle.wkb_laws.specs.Prelude.{width, point, Wanted, IsPart, Cause, Value, Values, member, count, Begins, Spells}
+use Rattle.wkb_laws.specs.Prelude.{kind, each, nest, part, Opens, laid, Then}
 use Rattle.wkb_laws.specs.Laws.{listed_inside}
 use Rattle.wkb_laws.proofs.Parts.{items_are, field_taken, number_begins, drop_front, joined, taken_front}
 use Rattle.wkb_laws.proofs.Bounds.{member_count-members}

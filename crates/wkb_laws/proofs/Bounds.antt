@@ -2,14 +2,13 @@
 use Rattle.std.proofs.Common.{◌≡◌, ℕ, ◌+◌, ◌*◌, ◌<◌, ◌≤◌, List, [], ◌∷◌, length, Bool, refl, sym, ◌∙◌, arith}
 use Rattle.std.proofs.Common.{length-append, mul-le-mul_left}
 use Rattle.std.proofs.lemmas.Bool.Decides.{nat_tests}
-use Rattle.wkb_laws.specs.Prelude.{Endianness, Dimension, IsEach, Coordinate, Value, point, line_string, polygon}
-use Rattle.wkb_laws.specs.Prelude.{multi_point, multi_line_string, multi_polygon, collection, Values, no_members}
-use Rattle.wkb_laws.specs.Prelude.{member, kind, dimension, members, member_count, member_count_each, listed_count}
-use Rattle.wkb_laws.specs.Prelude.{listed_count_each, Spelling, node, Spellings, no_spellings, spelling}
-use Rattle.wkb_laws.specs.Prelude.{SpellsCoordinates, SpellsBody, Wanted, any, part, member_part, Spells, SpellsEach}
-use Rattle.wkb_laws.specs.Prelude.{FrontWithin, Cause, slots_asked, room_inside, IsAllowed, OpensCounted, RefusesRings}
-use Rattle.wkb_laws.specs.Prelude.{no_ring_count, short_ring, later_ring, Refuses, bad_ring, bad_member, RefusesEach}
-use Rattle.wkb_laws.specs.Prelude.{this_member, later_member}
+use Rattle.wkb_laws.specs.Prelude.{multi_line_string, member_count_each, listed_count_each, Spelling, SpellsCoordinates}
+use Rattle.wkb_laws.specs.Prelude.{multi_polygon, member_count, listed_count, no_spellings, OpensCounted, no_ring_count}
+use Rattle.wkb_laws.specs.Prelude.{line_string, multi_point, kind, member_part, FrontWithin, RefusesRings, later_member}
+use Rattle.wkb_laws.specs.Prelude.{Endianness, Coordinate, spelling, slots_asked, room_inside, RefusesEach, this_member}
+use Rattle.wkb_laws.specs.Prelude.{collection, no_members, SpellsBody, SpellsEach, short_ring, later_ring, bad_member}
+use Rattle.wkb_laws.specs.Prelude.{Dimension, polygon, dimension, members, Spellings, any, IsAllowed, Refuses, bad_ring}
+use Rattle.wkb_laws.specs.Prelude.{IsEach, Value, point, Values, member, node, Wanted, part, Spells, Cause}
 use Rattle.wkb_laws.specs.Laws.{FrontIsBounded, RefusalIsBounded}
 use Rattle.wkb_laws.proofs.Parts.{then_length, length-opens, header_length}
 use Rattle.wkb_laws.proofs.Lists.{each_sum, each_same, IsWanted}

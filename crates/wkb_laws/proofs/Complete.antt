@@ -1,26 +1,25 @@
 -- Every front and every refusal is what reading from left to right gives.
 use Rattle.std.proofs.Common.{◌≡◌, ℕ, zero, suc, ◌<◌, ◌≤◌, List, [], ◌∷◌, length, Some, None, Ok, Err, Result, Bool}
-use Rattle.std.proofs.Common.{nat_lt, refl, sym, ap, ◌∙◌, arith, lt-ltb, le-ltb, ◌≢◌, ◌+◌, ◌*◌, ◌++◌, drop, map}
-use Rattle.std.proofs.Common.{Option, true, false, is_some, ◌==◌, if◌then◌else◌, subst, append_assoc, append-nil, rules}
+use Rattle.std.proofs.Common.{nat_lt, refl, sym, ap, ◌∙◌, arith, lt-ltb, le-ltb, ◌≢◌, ◌+◌, ◌*◌, ◌++◌, drop, map, Option}
+use Rattle.std.proofs.Common.{true, false, is_some, ◌==◌, if◌then◌else◌, subst, append_assoc, append-nil, rules}
 use Rattle.std.proofs.Common.{length-append, drop-drop, lit<, lit≤}
 use Rattle.std.proofs.lemmas.Bool.{false_from_ne_true}
-use Rattle.wkb_laws.specs.Prelude.{count_in, Endianness, Dimension, Head, Layout}
-use Rattle.wkb_laws.specs.Prelude.{Cause, end_of_input, general, incorrect_type, InvalidByteOrder, IsNumber, order_byte}
-use Rattle.wkb_laws.specs.Prelude.{Code, Begins, Wanted, any, part, IsPart, Opens, Item, type_kind, type_dimension}
-use Rattle.wkb_laws.specs.Prelude.{type_of, layout_of, laid, head_at, head_by_order, head_by_code, meaning, meaning_of}
-use Rattle.wkb_laws.specs.Prelude.{layout_wanted, refused, number, all_nan, width, IsEach, Coordinate, Value, point}
-use Rattle.wkb_laws.specs.Prelude.{line_string, polygon, multi_point, multi_line_string, multi_polygon, collection}
-use Rattle.wkb_laws.specs.Prelude.{Values, no_members, member, each, count, nest, nest_each, members, kind, dimension}
-use Rattle.wkb_laws.specs.Prelude.{member_count, member_count_each, listed_count, Header, Spelling, node, Spellings}
-use Rattle.wkb_laws.specs.Prelude.{no_spellings, spelling, IsSrid, SpellsCoordinate, SpellsCoordinates, Spells}
-use Rattle.wkb_laws.specs.Prelude.{SpellsEach, member_part, has_srid, FrontWithin, srid_size, point_end}
-use Rattle.wkb_laws.specs.Prelude.{line_string_end, multi_point_end, ring_end, room_inside, IsAllowed, OpensCounted}
-use Rattle.wkb_laws.specs.Prelude.{free, body_start, parts_start, parts_body, coordinate, ring_in, spellings, values}
-use Rattle.wkb_laws.specs.Prelude.{at_no_cost, done, line_string_of, list_item, point_item_of, point_of, polygon_item}
-use Rattle.wkb_laws.specs.Prelude.{polygon_of, repeated, spelled_in, srid_in, RefusesRings, no_ring_count, short_ring}
-use Rattle.wkb_laws.specs.Prelude.{later_ring, Refuses, no_order_byte, bad_order_byte, no_code, bad_code, wrong_part}
-use Rattle.wkb_laws.specs.Prelude.{too_deep, short_point, no_count, short_line_string, short_multi_point, bad_ring}
-use Rattle.wkb_laws.specs.Prelude.{bad_member, RefusesEach, this_member, later_member}
+use Rattle.wkb_laws.specs.Prelude.{count_in, multi_line_string, member_count_each, SpellsCoordinates, short_line_string}
+use Rattle.wkb_laws.specs.Prelude.{end_of_input, InvalidByteOrder, SpellsCoordinate, line_string_end, short_multi_point}
+use Rattle.wkb_laws.specs.Prelude.{incorrect_type, any, type_dimension, multi_point_end, line_string_of, bad_order_byte}
+use Rattle.wkb_laws.specs.Prelude.{Dimension, head_by_order, layout_wanted, multi_polygon, point_item_of, no_ring_count}
+use Rattle.wkb_laws.specs.Prelude.{head_by_code, member_count, listed_count, no_spellings, OpensCounted, no_order_byte}
+use Rattle.wkb_laws.specs.Prelude.{line_string, multi_point, member_part, polygon_item, RefusesRings, later_member}
+use Rattle.wkb_laws.specs.Prelude.{Layout, FrontWithin, room_inside, parts_start, short_point, RefusesEach, this_member}
+use Rattle.wkb_laws.specs.Prelude.{Endianness, order_byte, meaning_of, Coordinate, collection, no_members, SpellsEach}
+use Rattle.wkb_laws.specs.Prelude.{body_start, parts_body, coordinate, at_no_cost, polygon_of, spelled_in, short_ring}
+use Rattle.wkb_laws.specs.Prelude.{Head, type_kind, layout_of, nest_each, dimension, later_ring, wrong_part, bad_member}
+use Rattle.wkb_laws.specs.Prelude.{IsNumber, Spelling, Spellings, srid_size, point_end, IsAllowed, spellings, list_item}
+use Rattle.wkb_laws.specs.Prelude.{Code, spelling, has_srid, ring_end, point_of, repeated, bad_code, too_deep, no_count}
+use Rattle.wkb_laws.specs.Prelude.{general, type_of, head_at, meaning, refused, all_nan, polygon, members, bad_ring}
+use Rattle.wkb_laws.specs.Prelude.{Begins, Wanted, IsPart, number, IsEach, Values, ring_in, srid_in, Refuses, no_code}
+use Rattle.wkb_laws.specs.Prelude.{Cause, Opens, width, Value, point, member, count, Header, IsSrid, Spells, values}
+use Rattle.wkb_laws.specs.Prelude.{part, Item, laid, each, nest, kind, node, free, done}
 use Rattle.wkb_geom.specs.Refusals.{left_in, left_in_rings, left_in_each}
 use Rattle.wkb_geom.proofs.Codes.{one_meaning}
 use Rattle.wkb_geom.proofs.Meanings.{meaning_holds, type_kind-type_of}

@@ -1,15 +1,11 @@
 -- Bytes spell no more coordinates and parts than there are bytes.
 use Rattle.std.proofs.Common.{◌≡◌, refl, ℕ, ◌+◌, ◌*◌, ◌≤◌, List, [], ◌∷◌, length, sum_by, arith, mul-le-mul_right}
 use Rattle.std.proofs.lemmas.List.Sums.{sum_by-cons}
-use Rattle.wkb_geom.specs.declared.common.Dimension.{Dimension}
-use Rattle.wkb_geom.specs.Dimensions.{size, as_dimensions}
+use Rattle.wkb_laws.specs.Prelude.{Dimension, size, as_dimensions, geometry_of, geometries_of, Spelling, Spells}
 use Rattle.wkb_geom.specs.Counted.{coordinate_count, coordinate_count_each}
-use Rattle.wkb_geom.specs.Geometries.{geometry_of, geometries_of}
 use Rattle.wkb_geom.specs.Sizes.{byte_size, byte_sizes, ring_size, line_string_size, polygon_size}
-use Rattle.wkb_geom.specs.Spellings.{Spelling, Spells}
-use Rattle.wkb_geom.specs.Values.{Coordinate, Value, Values, point, line_string, polygon, multi_point}
-use Rattle.wkb_geom.specs.Values.{multi_line_string, multi_polygon, collection, no_members, member, member_count}
-use Rattle.wkb_geom.specs.Values.{member_count_each}
+use Rattle.wkb_geom.specs.Values.{Value, line_string, multi_line_string, multi_polygon, member_count, member_count_each}
+use Rattle.wkb_geom.specs.Values.{Coordinate, Values, point, polygon, multi_point, collection, no_members, member}
 use Rattle.wkb_laws.proofs.Spelled.{size_of_spelled_lem}
 use Rattle.wkb_laws.proofs.Lengths.{named_width, width-least}
 

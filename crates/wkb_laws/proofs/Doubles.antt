@@ -1,12 +1,10 @@
 -- Doubles are in the order of the ranks of their words.
 use Rattle.std.proofs.Common.{◌≡◌, ℕ, zero, suc, ◌+◌, ◌-◌, ◌*◌, ◌/◌, ◌%◌, ◌^◌, ◌≤◌, ◌<◌, Bool, true, false, inl, inr}
-use Rattle.std.proofs.Common.{refl, ◌∙◌, subst, arith}
-use Rattle.std.proofs.lemmas.Bool.{ltb-false}
+use Rattle.std.proofs.Common.{refl, ◌∙◌, subst, arith, ltb-false, bit_and, from_bits, not}
 use Rattle.std.proofs.lemmas.Float.{le_of_not-lt, not_nan_f64_bits}
 use Rattle.std.proofs.lemmas.Nat.{and_mask}
 use Rattle.std.specs.Float.{NotNan}
 use Rattle.std.specs.Float.Ieee.{nan_bits}
-use Rattle.std.specs.Prelude.{bit_and, from_bits, not}
 use borrow.Author.Tests.{le-ltb, le-leb, lt-leb, ne_eqb}
 use lib.Dec.{T, leb}
 use lib.Ieee.{Float, nan, inf, fin, binary64, lt, below, of_bits, of_fields, up, down}

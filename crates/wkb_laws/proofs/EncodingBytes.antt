@@ -2,11 +2,10 @@
 use Rattle.std.proofs.Common.{◌≡◌, ℕ, zero, suc, List, [], ◌∷◌, ◌++◌, Option, lit<, arith}
 use Rattle.std.specs.Int.{bytes_high_first, bytes_low_first}
 use Rattle.std.specs.List.{flat_map}
-use Rattle.wkb_laws.specs.Prelude.{Endianness, Dimension, Form, AreBytes}
-use Rattle.wkb_laws.specs.Prelude.{number_bytes, Coordinate, Value, Spelling, Spells, Geometry, Geometries}
-use Rattle.wkb_laws.specs.Prelude.{no_geometries, geometry, geometry_of, encoding, encodings, inner, IsForm}
-use Rattle.wkb_laws.specs.Prelude.{srid_encoding, header_encoding, words_encoding, coordinates_encoding, point_words}
-use Rattle.wkb_laws.specs.Prelude.{point_encoding, line_string_encoding, polygon_encoding, members_encoding}
+use Rattle.wkb_laws.specs.Prelude.{Form, coordinates_encoding, line_string_encoding, polygon_encoding, members_encoding}
+use Rattle.wkb_laws.specs.Prelude.{Value, no_geometries, srid_encoding, header_encoding, words_encoding, point_encoding}
+use Rattle.wkb_laws.specs.Prelude.{Endianness, AreBytes, number_bytes, Coordinate, Geometries, geometry_of, point_words}
+use Rattle.wkb_laws.specs.Prelude.{Dimension, Spelling, Spells, Geometry, geometry, encoding, encodings, inner, IsForm}
 use Rattle.wkb_geom.specs.Geometries.{collection}
 use Rattle.wkb_laws.specs.Written.{written}
 use Rattle.wkb_laws.proofs.OneEncoding.{one_encoding_lem}

@@ -1,26 +1,24 @@
 -- The encoding that is written spells the normal value.
 use Rattle.std.proofs.lemmas.Grind.{common_steps}
-use Rattle.std.proofs.Common.{rules, ◌≡◌, ℕ, ◌<◌, ◌≤◌, ◌^◌, [], true, false, refl, sym, ap, ◌∙◌, arith, is_some}
-use Rattle.std.proofs.Common.{append-nil, ◌+◌, List, ◌∷◌, ◌++◌, length, map, replicate, Option, Some, None}
-use Rattle.std.proofs.Common.{lit≤, flat_map}
+use Rattle.std.proofs.Common.{rules, true, false, refl, arith, is_some, append-nil, length, replicate, Option, flat_map}
+use Rattle.std.proofs.Common.{◌≡◌, ℕ, ◌<◌, ◌≤◌, ◌^◌, [], sym, ap, ◌∙◌, ◌+◌, List, ◌∷◌, ◌++◌, map, Some, None, lit≤}
 use Rattle.std.proofs.lemmas.List.{length-map}
 use Rattle.std.specs.List.{AllByRecursion}
 use Rattle.std.proofs.lemmas.Bool.Decides.{nat_tests}
 use Rattle.byteorder.specs.Numbers.{big_number-reads_back, little_number-reads_back, length-bytes_high_first}
 use Rattle.byteorder.specs.Numbers.{length-bytes_low_first}
 use Rattle.byteorder.specs.Endian.{big_number, little_number}
-use Rattle.wkb_laws.specs.Prelude.{Endianness, BigEndian, LittleEndian, Dimension, Xy, Form, Iso, Ewkb, number}
-use Rattle.wkb_laws.specs.Prelude.{IsNumber, number_bytes, form_srid, code_of, Dimensions}
-use Rattle.wkb_laws.specs.Prelude.{IsWord, all_nan, empty_word, width, written_dimension, IsEach, IsCounted, Coordinate}
-use Rattle.wkb_laws.specs.Prelude.{Value, each, kind, dimension, members, count, Spelling, node, Spellings}
-use Rattle.wkb_laws.specs.Prelude.{no_spellings, IsHeader, IsSrid, SpellsCoordinate, SpellsCoordinates, SpellsBody}
-use Rattle.wkb_laws.specs.Prelude.{Wanted, any, part, member_part, IsPart, has_srid, Spells, SpellsEach, Geometry, line}
-use Rattle.wkb_laws.specs.Prelude.{rectangle, triangle, Geometries, no_geometries, geometry, IsGeometry, AreGeometries}
-use Rattle.wkb_laws.specs.Prelude.{rectangle_ring, triangle_ring, normal_point, normal, normal_each, point_words, inner}
-use Rattle.wkb_laws.specs.Prelude.{srid_encoding, header_encoding, words_encoding, coordinates_encoding, point_encoding}
-use Rattle.wkb_laws.specs.Prelude.{line_string_encoding, polygon_encoding, members_encoding, count_geometries, encoding}
-use Rattle.wkb_laws.specs.Prelude.{encodings, or_else, dimensions_fault, count_fault, first_fault, coordinates_fault}
-use Rattle.wkb_laws.specs.Prelude.{rings_fault, fault, fault_each, IsForm, Fault}
+use Rattle.wkb_laws.specs.Prelude.{Xy, written_dimension, SpellsCoordinates, coordinates_encoding, line_string_encoding}
+use Rattle.wkb_laws.specs.Prelude.{SpellsCoordinate, member_part, polygon_encoding, members_encoding, coordinates_fault}
+use Rattle.wkb_laws.specs.Prelude.{rectangle_ring, header_encoding, words_encoding, count_geometries, dimensions_fault}
+use Rattle.wkb_laws.specs.Prelude.{IsNumber, no_geometries, AreGeometries, triangle_ring, srid_encoding, point_encoding}
+use Rattle.wkb_laws.specs.Prelude.{LittleEndian, number_bytes, no_spellings, normal_point, normal_each, point_words}
+use Rattle.wkb_laws.specs.Prelude.{Endianness, BigEndian, Dimensions, empty_word, count_fault, first_fault, rings_fault}
+use Rattle.wkb_laws.specs.Prelude.{Dimension, Coordinate, SpellsBody, SpellsEach, Geometries, IsGeometry, fault_each}
+use Rattle.wkb_laws.specs.Prelude.{form_srid, IsCounted, dimension, Spelling, Spellings, IsHeader, rectangle, encodings}
+use Rattle.wkb_laws.specs.Prelude.{code_of, all_nan, members, has_srid, Geometry, triangle, geometry, encoding, or_else}
+use Rattle.wkb_laws.specs.Prelude.{number, IsWord, width, IsEach, Value, IsSrid, Wanted, IsPart, Spells, normal, IsForm}
+use Rattle.wkb_laws.specs.Prelude.{Form, Iso, Ewkb, each, kind, count, node, any, part, line, inner, fault, Fault}
 use Rattle.wkb_geom.specs.Values as value
 use Rattle.wkb_geom.specs.Geometries.{point, line_string, polygon, multi_point, multi_line_string, multi_polygon}
 use Rattle.wkb_geom.specs.Geometries.{collection, IsCoordinate, IsPoint}

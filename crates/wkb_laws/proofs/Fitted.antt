@@ -1,7 +1,6 @@
 -- Every geometry with its coordinates fitted is lawful, and a lawful one stays as it is.
-use Rattle.std.proofs.Common.{◌≡◌, ℕ, zero, suc, ◌^◌, List, [], ◌∷◌, map, true, refl, ap, arith}
+use Rattle.std.proofs.Common.{◌≡◌, ℕ, zero, suc, ◌^◌, List, [], ◌∷◌, map, true, refl, ap, arith, nat_lt}
 use Rattle.std.specs.List.{AllByRecursion, list_all}
-use Rattle.std.specs.Prelude.{nat_lt}
 use Rattle.std.proofs.Math.ListN.{replicate}
 use Rattle.std.proofs.lemmas.List.{length-replicate}
 use Rattle.std.proofs.lemmas.Bool.Decides.{nat_tests}
@@ -10,8 +9,8 @@ use Rattle.wkb_geom.specs.Geometries.{multi_point, multi_line_string, multi_poly
 use Rattle.wkb_geom.specs.Geometries.{triangle, no_geometries, geometry, IsGeometry, AreGeometries}
 use Rattle.wkb_laws.specs.Prelude.{Dimensions, IsWord}
 unfoldable use Rattle.wkb_laws.specs.Fits.{fitted}
-use Rattle.wkb_laws.specs.Fits.{fitted_line_string, fitted_line_strings, fitted_polygons, fitted_point}
-use Rattle.wkb_laws.specs.Fits.{fitted_geometry, fitted_geometries, IsFitted, Fits}
+use Rattle.wkb_laws.specs.Fits.{fitted_line_string, fitted_line_strings, fitted_polygons, fitted_point, fitted_geometry}
+use Rattle.wkb_laws.specs.Fits.{fitted_geometries, IsFitted, Fits}
 
 zeros_are_words : (n : ℕ) → AllByRecursion IsWord (replicate n 0)
 zeros_are_words zero = tt

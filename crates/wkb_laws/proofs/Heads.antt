@@ -1,19 +1,17 @@
 -- Reading from left to right, up to the body: what a reading says of its input, and its opening and its count.
 use Rattle.std.proofs.Common.{◌≡◌, ◌≢◌, ℕ, zero, suc, ◌+◌, ◌≤◌, List, [], ◌∷◌, ◌++◌, length, take, drop, Some, Ok, Err}
-use Rattle.std.proofs.Common.{Result, Bool, true, is_some, nat_lt, refl, sym, ap, ◌∙◌, append_assoc}
-use Rattle.std.proofs.Common.{arith, length-drop, take-append-drop, length-take-le, drop-drop, ltb-true, ltb-false, ◌⊎◌}
-use Rattle.std.proofs.Common.{inl, inr}
+use Rattle.std.proofs.Common.{Result, Bool, true, is_some, nat_lt, refl, sym, ap, ◌∙◌, append_assoc, arith, length-drop}
+use Rattle.std.proofs.Common.{take-append-drop, length-take-le, drop-drop, ltb-true, ltb-false, ◌⊎◌, inl, inr}
 use Rattle.std.proofs.lemmas.Bool.Decides.{nat_tests}
 use Rattle.std.proofs.lemmas.Bool.{cond_both, cases_lt}
 use Rattle.std.proofs.lemmas.List.{drop-append-le}
-use Rattle.wkb_laws.specs.Prelude.{Endianness, BigEndian, LittleEndian, Dimension, Head, Layout, Cause, number}
-use Rattle.wkb_laws.specs.Prelude.{order_byte, Begins, Value, kind, dimension, members, nest, member_count}
-use Rattle.wkb_laws.specs.Prelude.{listed_count, Header, IsHeader, IsSrid, Spellings, SpellsBody, Spells, SpellsEach}
-use Rattle.wkb_laws.specs.Prelude.{Wanted, member_part, IsPart, has_srid, srid_size, Opens, IsAllowed, OpensCounted}
-use Rattle.wkb_laws.specs.Prelude.{Refuses, no_order_byte, bad_order_byte, no_code, bad_code, no_count, Cost, Reading}
-use Rattle.wkb_laws.specs.Prelude.{Item, type_kind, layout_of, body_start, parts_start, head_at, head_by_order}
-use Rattle.wkb_laws.specs.Prelude.{head_by_code, srid_in, spelled_in, count_in, part, type_dimension, is_member}
-use Rattle.wkb_laws.specs.Prelude.{FrontWithin}
+use Rattle.wkb_laws.specs.Prelude.{LittleEndian, IsHeader, no_order_byte, bad_order_byte, head_by_order, type_dimension}
+use Rattle.wkb_laws.specs.Prelude.{member_count, listed_count, member_part, OpensCounted, parts_start, head_by_code}
+use Rattle.wkb_laws.specs.Prelude.{Endianness, order_byte, SpellsBody, SpellsEach, body_start, spelled_in, FrontWithin}
+use Rattle.wkb_laws.specs.Prelude.{BigEndian, Dimension, dimension, members, Spellings, srid_size, IsAllowed, type_kind}
+use Rattle.wkb_laws.specs.Prelude.{Head, has_srid, Refuses, no_code, bad_code, no_count, layout_of, count_in, is_member}
+use Rattle.wkb_laws.specs.Prelude.{Layout, number, Begins, Header, IsSrid, Spells, Wanted, Reading, head_at, srid_in}
+use Rattle.wkb_laws.specs.Prelude.{Cause, Value, kind, nest, IsPart, Opens, Cost, Item, part}
 use Rattle.wkb_geom.proofs.Meanings.{meaning_holds}
 use Rattle.wkb_laws.proofs.Parts.{number-more, number_begins, begins_number, field_taken, length-opens}
 

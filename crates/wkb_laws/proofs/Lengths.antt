@@ -1,20 +1,18 @@
 -- How long an encoding is.
-use Rattle.std.proofs.Common.{◌≡◌, ℕ, ◌+◌, ◌*◌, ◌<◌, ◌≤◌, ◌^◌, List, [], ◌∷◌, ◌++◌, length, Some, None, Bool}
-use Rattle.std.proofs.Common.{rules, false, refl, ap, ◌∙◌, arith, length-append, sum_by, is_some, if◌then◌else◌, lt-ltb}
+use Rattle.std.proofs.Common.{◌≡◌, ℕ, ◌+◌, ◌*◌, ◌<◌, ◌≤◌, ◌^◌, List, [], ◌∷◌, ◌++◌, length, Some, None, Bool, rules}
+use Rattle.std.proofs.Common.{false, refl, ap, ◌∙◌, arith, length-append, sum_by, is_some, if◌then◌else◌, lt-ltb}
 use Rattle.std.proofs.lemmas.List.Sums.{sum_by-cons}
-use Rattle.wkb_geom.specs.Sizes.{byte_size, byte_sizes, point_size, ring_size, line_string_size, rings_size}
-use Rattle.wkb_geom.specs.Sizes.{polygon_size}
+use Rattle.wkb_geom.specs.Sizes.{point_size, ring_size, line_string_size, rings_size, polygon_size}
 use Rattle.wkb_geom.specs.Encodings.{point_encoding, line_string_encoding, polygon_encoding, members_encoding}
 use Rattle.wkb_geom.specs.Geometries as geometries
-use Rattle.wkb_laws.specs.Prelude.{Endianness, Dimension, Form, Iso, Ewkb, AreBytes, IsNumber, width, IsEach}
-use Rattle.wkb_laws.specs.Prelude.{Coordinate, Value, point, line_string, polygon, multi_point, multi_line_string}
-use Rattle.wkb_laws.specs.Prelude.{multi_polygon, Values, no_members, member, kind, dimension, members, header}
-use Rattle.wkb_laws.specs.Prelude.{Spelling, node, Spellings, no_spellings, spelling, SpellsCoordinate}
-use Rattle.wkb_laws.specs.Prelude.{SpellsCoordinates, SpellsBody, Wanted, part, member_part, Spells, SpellsEach}
-use Rattle.wkb_laws.specs.Prelude.{srid_count, srid_count_each, Front, srid_size, Geometry, IsGeometry, normal}
-use Rattle.wkb_laws.specs.Prelude.{geometry_of, or_else, size_fault, number_bytes, srid_encoding, header_encoding}
-use Rattle.wkb_laws.specs.Prelude.{form_srid, inner, encoding, fault, fault_under, IsForm, IsWritable, size}
-use Rattle.wkb_laws.specs.Prelude.{as_dimensions, geometries_of}
+use Rattle.wkb_laws.specs.Prelude.{line_string, multi_line_string, SpellsCoordinate, SpellsCoordinates, srid_count_each}
+use Rattle.wkb_laws.specs.Prelude.{polygon, multi_polygon, srid_encoding, header_encoding, as_dimensions, geometries_of}
+use Rattle.wkb_laws.specs.Prelude.{Form, multi_point, no_spellings, member_part, geometry_of, number_bytes, fault_under}
+use Rattle.wkb_laws.specs.Prelude.{Endianness, Coordinate, no_members, SpellsBody, SpellsEach, srid_count, IsGeometry}
+use Rattle.wkb_laws.specs.Prelude.{Dimension, Ewkb, dimension, Spellings, srid_size, size_fault, IsWritable, byte_sizes}
+use Rattle.wkb_laws.specs.Prelude.{AreBytes, IsNumber, Spelling, spelling, Geometry, form_srid, encoding, byte_size}
+use Rattle.wkb_laws.specs.Prelude.{IsEach, Values, member, members, header, Wanted, Spells, normal, or_else, IsForm}
+use Rattle.wkb_laws.specs.Prelude.{Iso, width, Value, point, kind, node, part, Front, inner, fault, size}
 use Rattle.wkb_laws.specs.Written.{written, HasOptions, AllHaveOptions}
 use Rattle.wkb_laws.specs.Encodings.{IsRewritable, SpelledIsWritable}
 use Rattle.wkb_laws.specs.Laws.{LengthOfEncoding, LengthOfFront, FrontIsWritable, EwkbIsWritable, SizeIsRefused}

@@ -1,13 +1,11 @@
 -- Lists of values, what holds of all items, and the kinds that are lists of members.
-use Rattle.std.proofs.Common.{ℕ, sum_by, ◌+◌, ◌*◌, sym, ap, ◌∙◌, ◌≡◌, List, [], ◌∷◌, length, refl, arith}
-use Rattle.std.proofs.Common.{◌<◌, ◌≤◌, ◌==◌, ◌&&◌, nat_lt, if◌then◌else◌}
+use Rattle.std.proofs.Common.{ℕ, sum_by, ◌+◌, ◌*◌, sym, ap, ◌∙◌, ◌≡◌, List, [], ◌∷◌, length, refl, arith, ◌<◌, ◌≤◌}
+use Rattle.std.proofs.Common.{◌==◌, ◌&&◌, nat_lt, if◌then◌else◌}
 use Rattle.std.proofs.lemmas.List.Sums.{sum_by-cons}
 use Rattle.std.specs.List.{AllByRecursion}
-use Rattle.wkb_laws.specs.Prelude.{Values, no_members, member, Value, each, count, Dimension, Layout, general}
-use Rattle.wkb_laws.specs.Prelude.{ShortMultiPoint, Wanted, any, part, multi_point_end, Item, collection_with}
-use Rattle.wkb_laws.specs.Prelude.{list_item, multi_line_string_with, multi_point_with, multi_polygon_with, parts_body}
-use Rattle.wkb_laws.specs.Prelude.{refused}
-use Rattle.wkb_geom.specs.Reading.{Reading}
+use Rattle.wkb_laws.specs.Prelude.{Value, ShortMultiPoint, multi_line_string_with, multi_point_with, multi_polygon_with}
+use Rattle.wkb_laws.specs.Prelude.{no_members, each, Dimension, multi_point_end, collection_with, list_item, parts_body}
+use Rattle.wkb_laws.specs.Prelude.{Values, member, count, Layout, general, Wanted, any, part, Item, refused, Reading}
 
 -- what follows for one follows for all
 pub all_imply : {A : Type 0} (P Q : A → Type 0) → ((a : A) → P a → Q a) → (l : List A) → AllByRecursion P l

@@ -1,6 +1,5 @@
 -- What is read of bytes is lawful: each word is below 2^64, and there are as many of them as the dimension says.
-use Rattle.std.proofs.Common.{◌≡◌, ℕ, zero, suc, ◌<◌, ◌^◌, ◌*◌, List, [], ◌∷◌, take, drop, lit<, Ok, refl}
-use Rattle.std.proofs.Common.{arith}
+use Rattle.std.proofs.Common.{◌≡◌, ℕ, zero, suc, ◌<◌, ◌^◌, ◌*◌, List, [], ◌∷◌, take, drop, lit<, Ok, refl, arith}
 use Rattle.std.proofs.lemmas.List.{get_or-drop}
 use Rattle.std.specs.List.{AllByRecursion}
 use Rattle.byteorder.specs.Numbers.{big_from-lt, little_from-lt}

@@ -1,8 +1,7 @@
 -- Lemmas on bytes that spell a value, however deep its collections nest: they serve every view in hand.
 use Rattle.std.proofs.Common.{◌≡◌, ◌↔◌, ℕ, ◌+◌, ◌*◌, ◌<◌, ◌^◌, List, length, Option, None}
 use Rattle.wkb_laws.specs.Prelude.{Endianness, Form, Iso, Ewkb, AreBytes, Value, Spelling, header, srid_count, Spells}
-use Rattle.wkb_laws.specs.Prelude.{IsGeometry, normal, geometry_of, byte_size}
-use Rattle.wkb_laws.specs.Prelude.{encoding, IsForm, IsWritable}
+use Rattle.wkb_laws.specs.Prelude.{IsGeometry, normal, geometry_of, byte_size, encoding, IsForm, IsWritable}
 
 -- the bytes of a value by its spelling: its size in ISO codes, and four for each SRID
 abbrev pub spelled_size : Spelling → Value → ℕ

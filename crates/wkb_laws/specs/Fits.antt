@@ -1,17 +1,13 @@
 -- Coordinates that fit their dimensions: one that is lawful stays as it is, any other becomes the zero coordinate. So a
 -- geometry of any value, also one that no input spells, is lawful.
-use Rattle.std.proofs.Common.{◌≡◌, ℕ, ◌^◌, List, length, map, Bool, Option}
-use Rattle.std.specs.Prelude.{nat_lt, ◌==◌, ◌&&◌, if◌then◌else◌}
+use Rattle.std.proofs.Common.{◌≡◌, ℕ, ◌^◌, List, length, map, Bool, Option, nat_lt, ◌==◌, ◌&&◌, if◌then◌else◌}
 use Rattle.std.specs.List.{list_all}
 use Rattle.std.specs.Option.{option_map}
 use Rattle.std.proofs.Math.ListN.{replicate}
-use Rattle.wkb_geom.specs.declared.common.Dimensions.{Dimensions}
-use Rattle.wkb_geom.specs.Geometries.{Geometry, point, line_string, polygon, multi_point, multi_line_string}
-use Rattle.wkb_geom.specs.Geometries.{multi_polygon, collection, line, rectangle, triangle, Geometries, no_geometries}
-use Rattle.wkb_geom.specs.Geometries.{geometry}
+use Rattle.wkb_laws.specs.Prelude.{Dimensions, size, as_dimensions, Coordinate}
+use Rattle.wkb_geom.specs.Geometries.{point, line_string, multi_point, multi_line_string, multi_polygon, no_geometries}
+use Rattle.wkb_geom.specs.Geometries.{Geometry, polygon, collection, line, rectangle, triangle, Geometries, geometry}
 use Rattle.wkb_geom.specs.Sizes.{rings_size}
-use Rattle.wkb_geom.specs.Dimensions.{size, as_dimensions}
-use Rattle.wkb_geom.specs.Values.{Coordinate}
 use Rattle.wkb_geom.specs.Stored.{Listed}
 
 -- whether there are as many words as the dimensions say, each in range

@@ -1,8 +1,7 @@
 -- The lemmas, as statements.
 use Rattle.std.proofs.Common.{Some, Ok, Err, ◌≡◌, ◌↔◌, ◌⊎◌, ℕ, suc, ◌+◌, ◌*◌, ◌-◌, ◌≤◌, ◌<◌, List, [], ◌++◌, length}
-use Rattle.std.proofs.Common.{None, Bool, false, ◌^◌, is_some, if◌then◌else◌, Option}
+use Rattle.std.proofs.Common.{None, Bool, false, ◌^◌, is_some, if◌then◌else◌, Option, from_bits}
 use Rattle.std.specs.Float.{binary64, ◌≤ᶠ◌}
-use Rattle.std.specs.Prelude.{from_bits}
 use Rattle.wkb_geom.specs.Numbers.{IsWord, is_nan}
 use Rattle.wkb_geom.specs.Ranks.{rank}
 use Rattle.wkb_laws.specs.Prelude.{Endianness, Dimension, Form, Iso, Ewkb, AreBytes, Value, Values, no_members, member}

@@ -1,10 +1,9 @@
 -- Where the parts of a geometry are in its bytes.
 use Rattle.std.proofs.Common.{◌≡◌, ℕ, zero, suc, ◌+◌, ◌*◌, ◌≤◌, List, ◌++◌, length, drop, take, Some, slice_get, sum_by}
 use Rattle.wkb_laws.specs.Prelude.{Endianness, Dimension, AreBytes, number, width, IsEach, Coordinate, Value, Values}
-use Rattle.wkb_laws.specs.Prelude.{line_string, polygon, no_members, member}
-use Rattle.wkb_laws.specs.Prelude.{members, Spelling, node, Spellings, no_spellings, spelling, header, has_srid, any}
-use Rattle.wkb_laws.specs.Prelude.{SpellsCoordinate, SpellsCoordinates, Spells}
-use Rattle.wkb_laws.specs.Prelude.{SpellsEach, srid_size, ring_end, Item}
+use Rattle.wkb_laws.specs.Prelude.{line_string, polygon, no_members, member, members, Spelling, node, Spellings}
+use Rattle.wkb_laws.specs.Prelude.{no_spellings, spelling, header, has_srid, any, SpellsCoordinate, SpellsCoordinates}
+use Rattle.wkb_laws.specs.Prelude.{Spells, SpellsEach, srid_size, ring_end, Item}
 use Rattle.wkb_laws.specs.Encodings.{spelled_size}
 
 -- A spelling and a value leave no byte open.
