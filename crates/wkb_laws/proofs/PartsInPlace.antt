@@ -145,8 +145,6 @@ next_ring_lem j s d rings ring is =
     let same = ap size (get_or_from_slice_get rings j ring ring is) in
     omega (arith, ap (λ n. sum_by size (take n rings)) more)
 
-pub ruleset start_laws = (first_start_lem, next_start_lem, first_ring_lem, next_ring_lem)
-
 -- one member's encoding among those of the others
 member_at : (w : Wanted) (k : ℕ) (ss : Spellings) (ts : Values) (s : Spelling) (t : Value) (bytes : List ℕ)
     → SpellsEach w ss ts bytes → IsOneOf k ss ts s t

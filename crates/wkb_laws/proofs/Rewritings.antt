@@ -12,7 +12,8 @@ use Rattle.wkb_laws.proofs.EncodingSpells.{encoding_spells, written_has_options}
 use Rattle.wkb_laws.proofs.Values.{Good, spelled_good, front_good, front_bytes, front_srid, normal-geometry_of}
 use Rattle.wkb_laws.proofs.Values.{lawful-geometry_of, or_else_parts}
 
-outer_srid : (order : Endianness) (form : Form) (s : Spelling) → HasOptions order form s
+-- What has the options has the SRID of their form.
+pub outer_srid : (order : Endianness) (form : Form) (s : Spelling) → HasOptions order form s
     → (header s).srid ≡ form_srid form
 outer_srid order form (node h words ss) k = k.1
 
@@ -56,8 +57,6 @@ equal_spelled_with_srid_lem order i j s u t v x y h k b b' a a' = (
   λ e. one_encoding order (Ewkb i) (Ewkb j) t v h k (spelled_good s t x b a) (spelled_good u v y b' a') e,
   λ e. ap (λ z. encoding order (Ewkb i) (geometry_of z)) e.0 ∙ ap (λ z. encoding order (Ewkb z) (geometry_of v)) e.1,
 )
-
-pub ruleset spelled_laws = (equal_spelled_lem, equal_spelled_with_srid_lem)
 
 pub equal_encodings_lem : EqualEncodings
 equal_encodings_lem order form a b s u t v rest more h ab bb f g =

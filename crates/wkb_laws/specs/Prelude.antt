@@ -1,8 +1,7 @@
 -- The names of the field, passed on from one place. Declares nothing.
-pub use Rattle.wkb_geom.specs.declared.common.{Endianness.Endianness, Endianness.TheVariants.BigEndian}
-pub use Rattle.wkb_geom.specs.declared.common.{Endianness.TheVariants.LittleEndian}
-pub use Rattle.wkb_geom.specs.declared.common.{Dimension.Dimension, Dimensions.Dimensions, Form.Form}
-pub use Rattle.wkb_geom.specs.declared.common.{Form.TheVariants.Iso, Form.TheVariants.Ewkb}
+pub use Rattle.wkb_geom.specs.declared.common.{Endianness.TheVariants.BigEndian, Endianness.TheVariants.LittleEndian}
+pub use Rattle.wkb_geom.specs.declared.common.{Endianness.Endianness, Dimensions.Dimensions, Form.TheVariants.Ewkb}
+pub use Rattle.wkb_geom.specs.declared.common.{Dimension.Dimension, Form.Form, Form.TheVariants.Iso}
 pub use Rattle.wkb_geom.specs.declared.common.Dimension.TheVariants.{Xy, Xyz, Xym, Xyzm}
 pub use Rattle.wkb_geom.specs.declared.{code.WkbType.WkbType, header.Head.Head, header.Layout.Layout, error.Cause.Cause}
 pub use Rattle.wkb_geom.specs.declared.error.Cause.TheVariants.{EndOfInput as end_of_input, General as general}
@@ -19,17 +18,15 @@ pub use Rattle.wkb_geom.specs.Values.{multi_polygon, collection, Values, no_memb
 pub use Rattle.wkb_geom.specs.Values.{each, count, nest, nest_each, member_count, member_count_each, listed_count}
 pub use Rattle.wkb_geom.specs.Values.{listed_count_each, IsValueCoordinate, IsValuePoint, AreValueCoordinates, IsValue}
 pub use Rattle.wkb_geom.specs.Values.{AreValues}
-pub use Rattle.wkb_geom.specs.Spellings.{Header, header, has_srid, Spelling, node, Spellings, no_spellings, spelling}
-pub use Rattle.wkb_geom.specs.Spellings.{srid_count, srid_count_each, IsHeader}
-pub use Rattle.wkb_geom.specs.Spellings.{IsSrid, SpellsCoordinate, SpellsCoordinates, SpellsBody, Spells, SpellsEach}
-pub use Rattle.wkb_geom.specs.Spellings.{Wanted, any, part, member_part, IsPart}
+pub use Rattle.wkb_geom.specs.Spellings.{no_spellings, srid_count, srid_count_each, SpellsCoordinate, SpellsCoordinates}
+pub use Rattle.wkb_geom.specs.Spellings.{has_srid, Spelling, Spellings, spelling, SpellsBody, SpellsEach, member_part}
+pub use Rattle.wkb_geom.specs.Spellings.{Header, header, node, IsHeader, IsSrid, Spells, Wanted, any, part, IsPart}
 pub use Rattle.wkb_geom.specs.Fronts.{Front, FrontWithin, max_nesting}
-pub use Rattle.wkb_geom.specs.Refusals.{srid_size, point_end, line_string_end, multi_point_end, ring_end, slots_asked}
-pub use Rattle.wkb_geom.specs.Refusals.{room_inside, Opens, IsAllowed, OpensCounted, left_in, RefusesRings}
-pub use Rattle.wkb_geom.specs.Refusals.{no_ring_count, short_ring, later_ring, Refuses, no_order_byte, bad_order_byte}
-pub use Rattle.wkb_geom.specs.Refusals.{no_code, bad_code, wrong_part, too_deep, short_point, no_count}
-pub use Rattle.wkb_geom.specs.Refusals.{short_line_string, short_multi_point, bad_ring, bad_member, RefusesEach}
-pub use Rattle.wkb_geom.specs.Refusals.{this_member, later_member}
+pub use Rattle.wkb_geom.specs.Refusals.{line_string_end, multi_point_end, left_in, short_line_string, short_multi_point}
+pub use Rattle.wkb_geom.specs.Refusals.{Opens, OpensCounted, RefusesRings, no_ring_count, no_order_byte, bad_order_byte}
+pub use Rattle.wkb_geom.specs.Refusals.{slots_asked, room_inside, short_point, RefusesEach, this_member, later_member}
+pub use Rattle.wkb_geom.specs.Refusals.{srid_size, point_end, IsAllowed, short_ring, later_ring, wrong_part, bad_member}
+pub use Rattle.wkb_geom.specs.Refusals.{ring_end, Refuses, no_code, bad_code, too_deep, no_count, bad_ring}
 pub use Rattle.wkb_geom.specs.Geometries.{Geometry, Geometries, no_geometries, geometry, IsGeometry, AreGeometries}
 pub use Rattle.wkb_geom.specs.Geometries.{normal, normal_each, normal_point, geometry_of, geometries_of, rectangle_ring}
 pub use Rattle.wkb_geom.specs.Geometries.{triangle_ring, line, rectangle, triangle}
@@ -38,9 +35,8 @@ pub use Rattle.wkb_geom.specs.Encodings.{IsRewriting, IsRewritingWithSrid, fault
 pub use Rattle.wkb_geom.specs.Encodings.{rings_fault, fault_under}
 unfoldable pub use Rattle.wkb_geom.specs.Encodings.{code_of, or_else, dimensions_fault, count_fault, first_fault}
 unfoldable pub use Rattle.wkb_geom.specs.Encodings.{size_fault, point_words, srid_encoding, header_encoding}
-unfoldable pub use
-    Rattle.wkb_geom.specs.Encodings.{words_encoding, coordinates_encoding, point_encoding, line_string_encoding}
-unfoldable pub use Rattle.wkb_geom.specs.Encodings.{polygon_encoding, members_encoding}
+unfoldable pub use Rattle.wkb_geom.specs.Encodings.{words_encoding, coordinates_encoding, point_encoding}
+unfoldable pub use Rattle.wkb_geom.specs.Encodings.{line_string_encoding, polygon_encoding, members_encoding}
 pub use Rattle.wkb_geom.specs.Reading.{Cost, Reading, rejection, Item, type_kind, type_dimension, type_of, layout_of}
 pub use Rattle.wkb_geom.specs.Reading.{laid, free, body_start, parts_start, count_in, head_by_code, ring_part}
 pub use Rattle.wkb_geom.specs.Reading.{at_no_cost, list_item, polygon_item, spellings, values, and_then, costs, done}
@@ -51,8 +47,8 @@ pub use Rattle.wkb_geom.specs.Reading.{srid_in, head_by_order, meaning, then_bod
 pub use Rattle.wkb_geom.specs.Reading.{is_member, member_at, refused, collection_with, multi_line_string_with}
 pub use Rattle.wkb_geom.specs.Reading.{multi_point_with, multi_polygon_with}
 unfoldable pub use Rattle.wkb_geom.specs.Reading.{repeated, geometry_at, point_at, ring_at, collection_at}
-unfoldable pub use Rattle.wkb_geom.specs.Reading.{line_string_at, multi_line_string_at, multi_point_at}
-unfoldable pub use Rattle.wkb_geom.specs.Reading.{head_at, meaning_of, multi_polygon_at, polygon_at, by_type}
+unfoldable pub use Rattle.wkb_geom.specs.Reading.{line_string_at, multi_line_string_at, multi_point_at, head_at}
+unfoldable pub use Rattle.wkb_geom.specs.Reading.{meaning_of, multi_polygon_at, polygon_at, by_type}
 pub use Rattle.wkb_geom.specs.Sizes.{byte_size, byte_sizes}
 pub use Rattle.wkb_geom.specs.Items.{length-items}
 pub use Rattle.wkb_geom.specs.declared.error.Fault.{Fault}
