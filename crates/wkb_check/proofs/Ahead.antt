@@ -1,25 +1,17 @@
 -- What the header and the count of a geometry say, and the pieces that follow one another.
 use Rattle.std.proofs.Common.{◌≡◌, ◌≢◌, ℕ, ◌+◌, ◌≤◌, List, [], ◌++◌, length, drop, is_some, None, Ok, refl, sym, ap}
-use Rattle.std.proofs.Common.{◌∙◌, subst, arith, length-drop, Option, Some, false, append_assoc, append-nil}
-use Rattle.std.proofs.lemmas.List.{drop-drop}
-use Rattle.wkb_laws.specs.Prelude.{Endianness, Dimension, Head, number, IsNumber, Begins, Value}
-use Rattle.wkb_laws.specs.Prelude.{point, line_string, polygon, kind, dimension, Spelling, node, SpellsBody, Spells}
-use Rattle.wkb_laws.specs.Prelude.{type_of, type_dimension, body_start}
+use Rattle.std.proofs.Common.{◌∙◌, subst, arith, length-drop, Option, Some, false, append_assoc, append-nil, drop-drop}
+use Rattle.wkb_laws.specs.Prelude.{Endianness, line_string, polygon, SpellsBody, type_dimension, body_start, meaning_of}
+use Rattle.wkb_laws.specs.Prelude.{Dimension, IsNumber, dimension, Spelling, type_of, type_kind, srid_in, srid_size, Xy}
+use Rattle.wkb_laws.specs.Prelude.{Head, number, Begins, Value, point, kind, node, Spells, meaning, header, Header}
 unfoldable use Rattle.wkb_laws.specs.Prelude.{head_at}
-use Rattle.wkb_geom.specs.Reading.{type_kind, srid_in, meaning, meaning_of}
-use Rattle.wkb_geom.specs.Refusals.{srid_size}
-use Rattle.wkb_geom.specs.declared.common.Dimension.TheVariants.{Xy}
 use Rattle.wkb_geom.proofs.Meanings.{type_kind-type_of}
 use Rattle.wkb_geom.proofs.Heads.{iso_meant}
-use Rattle.wkb_geom.specs.Spellings.{header, Header}
 use Rattle.wkb_laws.proofs.Parts.{then_append, begins_number, drop_front, header_length}
 use Rattle.wkb_laws.proofs.Complete.{head_of}
-use Rattle.wkb_check.specs.Known.{HasGeometry}
+use Rattle.wkb_check.specs.Prelude.{HasGeometry, Summary, DescribesFront, Piece}
 use Rattle.wkb_laws.proofs.OneFront.{one_spelling}
-use Rattle.wkb_check.specs.declared.answer.Summary.{Summary}
-use Rattle.wkb_check.specs.Public.{DescribesFront}
 use Rattle.wkb_check.specs.Pieces.{count_of, leading, piece_of, bare_head, HeaderIs, IsHeaderAt, IsPieceAt}
-use Rattle.wkb_check.specs.declared.pieces.Piece.{Piece}
 use Rattle.wkb_check.proofs.Public.{geometry_opens}
 use Rattle.wkb_check.proofs.Bodies.{rest_smaller}
 use Rattle.wkb_check.proofs.Joining.{geometry_of_front}

@@ -1,17 +1,13 @@
 -- A count, and the parts after it.
 use Rattle.std.proofs.Common.{◌≡◌, ℕ, ◌+◌, ◌≤◌, List, [], ◌∷◌, length, map, sum_by, Result, Ok, Err, refl, arith, Bor}
 use Rattle.std.proofs.lemmas.List.Sums.{sum_by-cons}
-use Rattle.wkb_geom.specs.declared.error.Cause.{Cause}
-use Rattle.wkb_geom.specs.declared.header.Layout.{Layout}
-use Rattle.wkb_geom.specs.Refusals.{slots_asked}
-use Rattle.wkb_geom.specs.Reading.{Reading, Item, and_then, costs, done, slots_of, consumed, body_start, parts_start}
-use Rattle.wkb_geom.specs.Reading.{count_in, HasNoCount, with_count, list_at, parts_body}
-use Rattle.wkb_geom.specs.Reading.{member_at, refused, points_counted}
+use Rattle.wkb_laws.specs.Prelude.{Cause, Layout, slots_asked}
+use Rattle.wkb_geom.specs.Reading.{costs, points_counted, multi_point_with, multi_line_string_with, multi_polygon_with}
+use Rattle.wkb_geom.specs.Reading.{body_start, parts_start, HasNoCount, with_count, parts_body, member_at, list_item}
+use Rattle.wkb_geom.specs.Reading.{Reading, Item, and_then, done, slots_of, consumed, count_in, list_at, refused}
 unfoldable use Rattle.wkb_geom.specs.Reading.{repeated, polygon_at, multi_point_at, multi_line_string_at}
 unfoldable use Rattle.wkb_geom.specs.Reading.{multi_polygon_at}
-use Rattle.wkb_geom.specs.Reading.{list_item, multi_point_with, multi_line_string_with, multi_polygon_with}
-use Rattle.wkb_check.specs.declared.walk.Walk.{Walk}
-use Rattle.wkb_check.specs.Passes.{Passes, tally}
+use Rattle.wkb_check.specs.Prelude.{Walk, Passes, tally}
 use Rattle.wkb_check.specs.Walked.{Tally, Walked, walked, coordinates_by, number_of_member, item_coordinates}
 use Rattle.wkb_check.specs.Walked.{rings_walked, polygon_walked, members_walked, multi_point_walked, multi_walked}
 unfoldable use Rattle.wkb_check.specs.Walked.{multi_at}

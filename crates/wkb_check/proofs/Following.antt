@@ -4,15 +4,13 @@ use Rattle.std.proofs.Common.{◌∙◌, subst, arith, append-nil, append_assoc,
 use Rattle.std.specs.Prelude.{Some, None, nat_lt}
 use Rattle.std.specs.Iterator.{MakesProgress, Yields, at_most}
 use Rattle.wkb_laws.specs.Prelude.{Endianness, Dimension, number, any}
-use Rattle.wkb_check.specs.Known.{HasGeometry, decoded_rings}
-use Rattle.wkb_check.specs.Subjects.{subjects, subjects_of_rings, subjects_of_each}
-use Rattle.wkb_check.specs.Pieces.{Ahead, own_end, ring_piece, last_end, subject_pieces, pieces_of, first_rings, IsPieceAt}
-use Rattle.wkb_check.specs.Pieces.{IsInside, IsAhead, HasAhead, Takes, Steps, bytes_left, AreRings, IsRing}
+use Rattle.wkb_check.specs.Prelude.{HasGeometry, decoded_rings, subjects, subjects_of_rings, subjects_of_each, Piece}
+use Rattle.wkb_check.specs.Pieces.{Ahead, own_end, ring_piece, last_end, subject_pieces, pieces_of, first_rings}
+use Rattle.wkb_check.specs.Pieces.{IsPieceAt, IsInside, IsAhead, HasAhead, Takes, Steps, bytes_left, AreRings, IsRing}
 use Rattle.wkb_check.specs.Pieces.{piece_of, OnlyMember}
-use Rattle.wkb_check.specs.declared.pieces.Piece.{Piece}
 use Rattle.wkb_check.specs.declared.pieces.Pieces.{Pieces}
-use Rattle.wkb_check.proofs.Placing.{First, alone, first_one, Inside, leaf_inside, rings_inside}
-use Rattle.wkb_check.proofs.Placing.{members_inside, inner, itself_first, own_inside, begun_at, none_of, kind_of}
+use Rattle.wkb_check.proofs.Placing.{First, alone, first_one, Inside, leaf_inside, rings_inside, members_inside, inner}
+use Rattle.wkb_check.proofs.Placing.{itself_first, own_inside, begun_at, none_of, kind_of}
 use Rattle.wkb_check.proofs.Rings.{NextRing, next_ring}
 use Rattle.wkb_check.proofs.Joining.{few_geometries, joined}
 

@@ -1,11 +1,10 @@
 -- Geometries one after another, and the first of them.
-use Rattle.std.proofs.Common.{◌≡◌, ℕ, ◌+◌, ◌≤◌, List, ◌++◌, length, sym, ap, arith}
-use Rattle.std.proofs.Common.{length-append, append_assoc, refl, ◌∙◌}
-use Rattle.wkb_laws.specs.Prelude.{Value, Values, no_members, member, count}
-use Rattle.wkb_laws.specs.Prelude.{Spelling, Spellings, no_spellings, spelling, SpellsEach, Wanted, any, Front}
+use Rattle.std.proofs.Common.{◌≡◌, ℕ, ◌+◌, ◌≤◌, List, ◌++◌, length, sym, ap, arith, length-append, append_assoc, refl}
+use Rattle.std.proofs.Common.{◌∙◌}
+use Rattle.wkb_laws.specs.Prelude.{Value, Values, no_members, member, count, Spelling, Spellings, no_spellings}
+use Rattle.wkb_laws.specs.Prelude.{spelling, SpellsEach, Wanted, any, Front}
 use Rattle.wkb_laws.proofs.Parts.{then_length, then_append}
-use Rattle.wkb_check.specs.Known.{HasGeometry, HasGeometries}
-use Rattle.wkb_check.specs.Subjects.{Subject, subjects, subjects_of_each}
+use Rattle.wkb_check.specs.Prelude.{HasGeometry, HasGeometries, Subject, subjects, subjects_of_each}
 use Rattle.wkb_check.proofs.Bodies.{spelled_long}
 
 -- n geometries at the start of the bytes, and their subjects

@@ -1,14 +1,7 @@
 -- Points, line strings and rings: how they are passed, and how many coordinates they have.
-use Rattle.std.proofs.Common.{rules, ◌≡◌, ℕ, ◌+◌, ◌*◌, ◌≤◌, List, length, drop, take, Ok, Err, sym, ◌∙◌, ◌-◌}
-use Rattle.std.proofs.Common.{arith, length-drop, length-take-le, take-append-drop, add-zero}
-use Rattle.std.proofs.lemmas.List.{take_all}
-use Rattle.wkb_geom.specs.declared.common.Dimension.{Dimension}
-use Rattle.wkb_geom.specs.declared.common.Endianness.{Endianness}
-use Rattle.wkb_geom.specs.declared.error.Cause.{Cause}
-use Rattle.wkb_geom.specs.declared.header.Layout.{Layout}
-use Rattle.wkb_geom.specs.Dimensions.{width}
-use Rattle.wkb_geom.specs.Items.{length-items}
-use Rattle.wkb_geom.specs.Numbers.{number}
+use Rattle.std.proofs.Common.{rules, ◌≡◌, ℕ, ◌+◌, ◌*◌, ◌≤◌, List, length, drop, take, Ok, Err, sym, ◌∙◌, ◌-◌, arith}
+use Rattle.std.proofs.Common.{length-drop, length-take-le, take-append-drop, add-zero, take_all}
+use Rattle.wkb_laws.specs.Prelude.{Dimension, Endianness, Cause, Layout, width, length-items, number}
 use Rattle.wkb_geom.specs.Refusals.{line_string_end, ring_end}
 use Rattle.wkb_geom.specs.Reading.{Outcome, at_no_cost, count_in, ring_in, coordinate, point_at, ring_at}
 use Rattle.wkb_geom.specs.Reading.{line_string_at, ring_part, line_string_item, point_item, refused}

@@ -1,26 +1,20 @@
 -- The loop over the open collections: what is looked at, and what is ahead of it.
-use Rattle.std.proofs.Common.{◌≡◌, ℕ, zero, suc, ◌+◌, ◌-◌, ◌<◌, ◌≤◌, List, [], ◌∷◌, length, slice_set, sum_by}
+use Rattle.std.proofs.Common.{◌≡◌, ℕ, zero, suc, ◌+◌, ◌-◌, ◌<◌, ◌≤◌, List, [], ◌∷◌, length, slice_set, sum_by, Bor}
+use Rattle.std.proofs.Common.{Result, Ok, Err, refl, sym, arith, length-take, slice_index_or, replicate, Bool}
 use Rattle.std.proofs.lemmas.List.{length-reverse}
 use Rattle.std.proofs.lemmas.List.Sums.{sum_by-cons}
-use Rattle.wkb_geom.specs.declared.code.WkbType.{WkbType}
+use Rattle.wkb_laws.specs.Prelude.{WkbType, Dimension, Cause, Head, Layout, max_nesting}
 use Rattle.wkb_geom.specs.declared.code.WkbType.TheVariants as kinds
-use Rattle.wkb_geom.specs.declared.common.Dimension.{Dimension}
-use Rattle.wkb_geom.specs.declared.error.Cause.{Cause}
-use Rattle.wkb_geom.specs.declared.header.Head.{Head}
-use Rattle.wkb_geom.specs.declared.header.Layout.{Layout}
-use Rattle.wkb_geom.specs.Fronts.{max_nesting}
 use Rattle.wkb_geom.specs.Reading.{Item, values, list_item, collection_with, layout_of, body_start, parts_start}
 use Rattle.wkb_geom.specs.Reading.{count_in, HasNoCount, list_at, type_kind, Reading, done, point_item_of, costs}
 use Rattle.wkb_geom.specs.Reading.{slots_of, and_then, polygon_item, consumed, body_at, geometry_inside}
 unfoldable use Rattle.wkb_geom.specs.Reading.{geometry_at, by_type, point_at, line_string_at, polygon_at, head_at}
-use Rattle.std.proofs.Common.{Bor, Result, Ok, Err, refl, sym, arith, length-take, slice_index_or, replicate, Bool}
 unfoldable use Rattle.wkb_geom.specs.Reading.{collection_at}
 use Rattle.wkb_geom.specs.Counted.{coordinate_count_each}
 use Rattle.wkb_check.specs.declared.nested.OpenCounts.{OpenCounts}
-use Rattle.wkb_check.specs.declared.walk.Walk.{Walk}
+use Rattle.wkb_check.specs.Prelude.{Walk, type_walked, body_walked, inside_walked, Tally, Walked, walked, onward}
+use Rattle.wkb_check.specs.Prelude.{item_coordinates, coordinates_by, ahead_of}
 use Rattle.wkb_check.specs.Passes.{open_counts, IsFollowed, Passes, PassesOrOpens}
-use Rattle.wkb_check.specs.Walked.{type_walked, body_walked, inside_walked, Tally, Walked, walked, onward}
-use Rattle.wkb_check.specs.Walked.{item_coordinates, coordinates_by, ahead_of}
 use Rattle.wkb_check.proofs.Counting.{no_count}
 use Rattle.wkb_check.proofs.Closing.{top_set, top_is, none_left}
 

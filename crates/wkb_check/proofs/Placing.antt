@@ -1,26 +1,19 @@
 -- Geometries one after another, and what is inside each, by their bytes.
-use Rattle.std.proofs.Common.{◌≡◌, ◌≢◌, ℕ, zero, suc, ◌+◌, ◌<◌, ◌≤◌, List, [], ◌∷◌, ◌++◌, length, drop, set}
-use Rattle.std.proofs.Common.{refl, sym, ap, ◌∙◌, subst, arith, length-append, append-nil, length-drop}
-use Rattle.std.proofs.Common.{None, Some, is_some, true, false, nat_lt, le-ltb, ltb-false}
+use Rattle.std.proofs.Common.{◌≡◌, ◌≢◌, ℕ, zero, suc, ◌+◌, ◌<◌, ◌≤◌, List, [], ◌∷◌, ◌++◌, length, drop, set, refl, sym}
+use Rattle.std.proofs.Common.{ap, ◌∙◌, subst, arith, length-append, append-nil, length-drop, None, Some, is_some, true}
+use Rattle.std.proofs.Common.{false, nat_lt, le-ltb, ltb-false, drop-drop}
 use Rattle.std.proofs.lemmas.Bool.{cond_both}
-use Rattle.std.proofs.lemmas.List.{drop-drop}
 use lib.Seq.{sets}
-use Rattle.wkb_laws.specs.Prelude.{Endianness, Dimension, Begins, Coordinate, Value, Values, point, line_string}
-use Rattle.wkb_laws.specs.Prelude.{polygon, no_members, member, members, count, kind, dimension, Spelling, node}
-use Rattle.wkb_laws.specs.Prelude.{Spellings, no_spellings, spelling, SpellsBody, Spells, SpellsEach, Wanted}
-use Rattle.wkb_laws.specs.Prelude.{SpellsCoordinates, IsEach, any, ring_end}
-use Rattle.wkb_geom.specs.Grammar.{Then}
-use Rattle.wkb_geom.specs.Numbers.{number}
-use Rattle.wkb_geom.specs.Refusals.{srid_size}
-use Rattle.wkb_geom.specs.Spellings.{Header, IsHeader, member_part}
+use Rattle.wkb_laws.specs.Prelude.{Endianness, Coordinate, line_string, no_spellings, SpellsCoordinates, member_part}
+use Rattle.wkb_laws.specs.Prelude.{Dimension, no_members, kind, dimension, Spellings, SpellsBody, SpellsEach, srid_size}
+use Rattle.wkb_laws.specs.Prelude.{Begins, Values, polygon, member, members, Spelling, spelling, ring_end, IsHeader}
+use Rattle.wkb_laws.specs.Prelude.{Value, point, count, node, Spells, Wanted, IsEach, any, Then, number, Header}
 use Rattle.wkb_laws.proofs.Parts.{then_length, then_append, drop_front, header_length}
 use Rattle.wkb_laws.proofs.Lengths.{coordinate_length, coordinates_length}
 use Rattle.wkb_laws.proofs.Lists.{count-each}
-use Rattle.wkb_check.specs.Known.{HasGeometry, HasGeometries, AreWhole}
+use Rattle.wkb_check.specs.Prelude.{HasGeometry, HasGeometries, AreWhole, count_of, leading, own_end, piece_of}
+use Rattle.wkb_check.specs.Prelude.{ring_piece, piece_at, last_end, pieces_of, first_rings, IsInside, Piece}
 use Rattle.wkb_check.specs.Subjects.{Subject, whole, rings_of, subjects, subjects_of_rings, subjects_of_each}
-use Rattle.wkb_check.specs.Pieces.{count_of, leading, own_end, piece_of, ring_piece, piece_at, last_end}
-use Rattle.wkb_check.specs.Pieces.{pieces_of, first_rings, IsInside}
-use Rattle.wkb_check.specs.declared.pieces.Piece.{Piece}
 use Rattle.wkb_check.proofs.Bodies.{RingsFirst, rings_first, rest_smaller}
 use Rattle.wkb_check.proofs.Joining.{joined}
 

@@ -1,16 +1,7 @@
 -- The next ring, and those after it.
-use Rattle.std.proofs.Common.{◌≡◌, ℕ, zero, suc, ◌*◌, ◌≤◌, List, ◌∷◌, length, drop, arith, length-drop}
-use Rattle.std.proofs.lemmas.List.{drop-drop}
-use Rattle.wkb_geom.specs.declared.common.Dimension.{Dimension}
-use Rattle.wkb_geom.specs.declared.common.Endianness.{Endianness}
-use Rattle.wkb_geom.specs.Dimensions.{width}
-use Rattle.wkb_geom.specs.Numbers.{number}
-use Rattle.wkb_geom.specs.Items.{length-items}
-use Rattle.wkb_geom.specs.Reading.{coordinate}
-use Rattle.wkb_geom.specs.Refusals.{ring_end}
-use Rattle.wkb_geom.specs.Values.{Coordinate}
-use Rattle.wkb_check.specs.Pieces.{own_end, ring_piece}
-use Rattle.wkb_check.specs.Known.{decoded_rings, AreWhole}
+use Rattle.std.proofs.Common.{◌≡◌, ℕ, zero, suc, ◌*◌, ◌≤◌, List, ◌∷◌, length, drop, arith, length-drop, drop-drop}
+use Rattle.wkb_laws.specs.Prelude.{Dimension, Endianness, width, number, length-items, coordinate, ring_end, Coordinate}
+use Rattle.wkb_check.specs.Prelude.{own_end, ring_piece, decoded_rings, AreWhole}
 
 -- the next of r rings, and those after it
 pub record NextRing (buf : List ℕ) (order : Endianness) (d : Dimension) (r m at next : ℕ) : Type 0 where

@@ -4,17 +4,12 @@ use Rattle.std.proofs.Common.{◌∙◌, arith, nat_lt, if◌then◌else◌, tru
 use Rattle.wkb_laws.specs.Prelude.{Endianness, Dimension, width, Coordinate, Value, Values, point, line_string, polygon}
 use Rattle.wkb_laws.specs.Prelude.{no_members, member, members, kind, dimension, Spelling, node, Spellings}
 use Rattle.wkb_laws.specs.Prelude.{no_spellings, spelling, Spells, SpellsBody, SpellsCoordinate, SpellsCoordinates}
-use Rattle.wkb_laws.specs.Prelude.{SpellsEach, Wanted, Begins, coordinates, all_nan}
-use Rattle.wkb_geom.specs.Spellings.{Header}
-use Rattle.wkb_geom.specs.Grammar.{Then, IsEach}
-use Rattle.wkb_geom.specs.Reading.{coordinate}
+use Rattle.wkb_laws.specs.Prelude.{SpellsEach, Wanted, Begins, coordinates, all_nan, Header, Then, IsEach, coordinate}
 use Rattle.wkb_laws.proofs.Lengths.{coordinate_length, coordinates_length}
 use Rattle.wkb_laws.proofs.Parts.{items_read, each_len, coordinate_read}
-use Rattle.wkb_check.specs.declared.pieces.Piece.{Piece}
-use Rattle.wkb_check.specs.Subjects.{Subject, whole, ring, dimension_in, subject_coordinates, SpellsSubject, rings_of}
-use Rattle.wkb_check.specs.Subjects.{subjects, subjects_of_rings, subjects_of_each}
-use Rattle.wkb_check.specs.Pieces.{leading, count_of, own_end, piece_of, ring_piece, piece_at, last_end, subject_pieces}
-use Rattle.wkb_check.specs.Pieces.{pieces_of}
+use Rattle.wkb_check.specs.Prelude.{Piece, Subject, whole, ring, dimension_in, subject_coordinates, SpellsSubject}
+use Rattle.wkb_check.specs.Prelude.{rings_of, subjects, subjects_of_rings, subjects_of_each, leading, count_of, own_end}
+use Rattle.wkb_check.specs.Prelude.{piece_of, ring_piece, piece_at, last_end, subject_pieces, pieces_of}
 use Rattle.wkb_check.proofs.Placing.{spelled_end, geometry_stands, body_at, counted_at, body_stands, front_stands}
 use Rattle.wkb_check.proofs.Placing.{rest_stands}
 pub use Rattle.wkb_check.proofs.Placing.{Stands}

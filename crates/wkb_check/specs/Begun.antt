@@ -1,14 +1,11 @@
 -- The pieces at the start of any bytes, one after another, each up to its rings or members: also those before a fault.
-use Rattle.std.specs.Prelude.{ℕ, ◌+◌, ◌-◌, List, length, drop, Result, Ok, Err, Option, Some, None}
-use Rattle.std.specs.Prelude.{nat_eq, nat_lt, nat_le, if◌then◌else◌}
-use Rattle.wkb_geom.specs.declared.error.Cause.{Cause}
-use Rattle.wkb_geom.specs.declared.header.Head.{Head}
+use Rattle.std.specs.Prelude.{ℕ, ◌+◌, ◌-◌, List, length, drop, Result, Ok, Err, Option, Some, None, nat_eq, nat_lt}
+use Rattle.std.specs.Prelude.{nat_le, if◌then◌else◌}
+use Rattle.wkb_laws.specs.Prelude.{Cause, Head, number}
 use Rattle.wkb_geom.specs.declared.code.TheConstants.{POINT, POLYGON}
-use Rattle.wkb_geom.specs.Numbers.{number}
 use Rattle.wkb_geom.specs.Reading.{head_at, type_kind, type_dimension, layout_of, body_start, count_in, srid_in}
-use Rattle.wkb_check.specs.declared.pieces.Piece.{Piece}
+use Rattle.wkb_check.specs.Prelude.{Piece, own_end, ring_piece}
 use Rattle.wkb_check.specs.declared.begun.NextPiece.{NextPiece}
-use Rattle.wkb_check.specs.Pieces.{own_end, ring_piece}
 
 -- the piece of a geometry with this header and these bytes, which begins at this byte; a point has no count
 abbrev pub headed_piece : List ℕ → ℕ → Result Head Cause → Option Piece

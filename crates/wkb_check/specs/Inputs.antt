@@ -1,8 +1,6 @@
 -- What is known of inputs: that they begin with a geometry, and whether two have one value.
 use Rattle.std.specs.Prelude.{◌≢◌, ℕ, List}
-use Rattle.wkb_geom.specs.Fronts.{Front}
-use Rattle.wkb_geom.specs.Spellings.{Spelling}
-use Rattle.wkb_geom.specs.Values.{Value}
+use Rattle.wkb_laws.specs.Prelude.{Front, Spelling, Value}
 
 -- the input begins with a geometry
 pub record IsAccepted (input : List ℕ) : Type 0 where

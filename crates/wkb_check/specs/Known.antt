@@ -1,11 +1,6 @@
 -- Geometries and rings that are known to be at the start of some bytes.
 use Rattle.std.specs.Prelude.{◌≡◌, ℕ, zero, suc, ◌≤◌, List, [], ◌∷◌, length, drop}
-use Rattle.wkb_geom.specs.declared.common.Dimension.{Dimension}
-use Rattle.wkb_geom.specs.declared.common.Endianness.{Endianness}
-use Rattle.wkb_geom.specs.Grammar.{Begins}
-use Rattle.wkb_geom.specs.Numbers.{number}
-use Rattle.wkb_geom.specs.Reading.{ring_in}
-use Rattle.wkb_geom.specs.Refusals.{ring_end}
+use Rattle.wkb_laws.specs.Prelude.{Dimension, Endianness, Begins, number, ring_in, ring_end}
 use Rattle.wkb_geom.specs.Spellings.{Spelling, Spellings, Spells, SpellsEach, any}
 use Rattle.wkb_geom.specs.Values.{Coordinate, Value, Values, count}
 

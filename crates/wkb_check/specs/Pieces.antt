@@ -1,25 +1,15 @@
 -- The pieces of a geometry in preorder: itself, and its rings and members at every level; where they are in its bytes,
 -- and what is still to come of them.
 use Rattle.std.specs.Prelude.{◌≡◌, ℕ, ◌+◌, ◌*◌, ◌<◌, ◌≤◌, List, [], ◌∷◌, ◌++◌, length, drop, Option, Some, None}
-use Rattle.std.specs.Prelude.{is_some, false, IfSome, ◌-◌, slice_index_or}
-use Rattle.std.specs.Prelude.{nat_lt, if◌then◌else◌}
-use Rattle.wkb_geom.specs.declared.common.Dimension.{Dimension}
-use Rattle.wkb_geom.specs.declared.common.Dimension.TheVariants.{Xy}
-use Rattle.wkb_geom.specs.declared.header.Head.{Head}
-use Rattle.wkb_geom.specs.Reading.{type_of}
-use Rattle.wkb_geom.specs.declared.common.Endianness.{Endianness}
+use Rattle.std.specs.Prelude.{is_some, false, IfSome, ◌-◌, slice_index_or, nat_lt, if◌then◌else◌}
+use Rattle.wkb_laws.specs.Prelude.{Dimension, Xy, Head, type_of, Endianness, width, order_byte, number, srid_size}
 use Rattle.wkb_geom.specs.declared.code.TheConstants.{POLYGON}
-use Rattle.wkb_geom.specs.Dimensions.{width}
-use Rattle.wkb_geom.specs.Numbers.{order_byte, number}
-use Rattle.wkb_geom.specs.Refusals.{srid_size}
 use Rattle.wkb_geom.specs.Spellings.{Header, header, Spelling, node}
-use Rattle.wkb_geom.specs.Values.{Value, point, line_string, polygon, multi_point}
-use Rattle.wkb_geom.specs.Values.{multi_line_string, multi_polygon, collection, kind, dimension}
-use Rattle.wkb_geom.specs.Values.{count}
+use Rattle.wkb_geom.specs.Values.{Value, point, line_string, polygon, multi_point, multi_line_string, multi_polygon}
+use Rattle.wkb_geom.specs.Values.{collection, kind, dimension, count}
 use Rattle.wkb_check.specs.Known.{HasGeometry, HasGeometries, AreWhole, decoded_rings}
 use Rattle.wkb_check.specs.Subjects.{Subject, whole, ring, subjects, subjects_of_rings, subjects_of_each}
-use Rattle.wkb_check.specs.declared.pieces.Piece.{Piece}
-use Rattle.wkb_check.specs.declared.pieces.Pieces.{Pieces}
+use Rattle.wkb_check.specs.declared.{pieces.Piece.Piece, pieces.Pieces.Pieces}
 
 -- how many coordinates, rings or members a geometry has
 abbrev pub count_of : Value → ℕ

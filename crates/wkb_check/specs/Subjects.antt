@@ -1,9 +1,7 @@
 -- What the pieces and the entries of a geometry are about: itself, and its rings and members at every level.
 use Rattle.std.specs.Prelude.{ℕ, List, [], ◌∷◌, ◌++◌, Some, None}
-use Rattle.wkb_geom.specs.declared.common.Endianness.{Endianness}
-use Rattle.wkb_geom.specs.declared.common.Dimension.{Dimension}
-use Rattle.wkb_geom.specs.Values.{Coordinate, Value, Values, point, line_string, polygon, no_members, member}
-use Rattle.wkb_geom.specs.Values.{dimension, members}
+use Rattle.wkb_laws.specs.Prelude.{Endianness, Dimension, Coordinate, Value, Values, point, line_string, polygon}
+use Rattle.wkb_laws.specs.Prelude.{no_members, member, dimension, members}
 use Rattle.wkb_geom.specs.Spellings.{Spelling, node, Spellings, no_spellings, spelling, Spells, SpellsCoordinates}
 
 -- a geometry, or a ring of a polygon

@@ -1,13 +1,8 @@
 -- Passing over parts from left to right: a reading without its values, of which the coordinates are counted.
 use Rattle.std.specs.Prelude.{ℕ, suc, ◌+◌, ◌-◌, List, [], ◌∷◌, length, sum_by, Result, Ok, Err, ◌==◌, if◌then◌else◌}
-use Rattle.wkb_geom.specs.declared.code.WkbType.{WkbType}
-use Rattle.wkb_geom.specs.declared.error.Cause.{Cause}
-use Rattle.wkb_geom.specs.declared.common.Dimension.{Dimension}
-use Rattle.wkb_geom.specs.declared.header.Head.{Head}
-use Rattle.wkb_geom.specs.declared.header.Layout.{Layout}
+use Rattle.wkb_laws.specs.Prelude.{WkbType, Cause, Dimension, Head, Layout, max_nesting}
 use Rattle.wkb_check.specs.declared.skip.MemberKind.{MemberKind}
 use Rattle.wkb_check.specs.declared.skip.MemberKind.TheVariants as members
-use Rattle.wkb_geom.specs.Fronts.{max_nesting}
 use Rattle.wkb_geom.specs.Reading.{Reading, Item, ring_in, line_string_of, polygon_of, list_item, list_at}
 use Rattle.wkb_geom.specs.Reading.{multi_point_with, member_at, multi_line_string_at, multi_polygon_at, body_at}
 use Rattle.wkb_geom.specs.Reading.{collection_within, geometry_inside, at_no_cost, ring_part, type_kind, layout_of}

@@ -1,9 +1,6 @@
 use Rattle.std.proofs.Common.{◌≡◌, ◌∙◌, refl, ap, arith, false, Some}
-use Rattle.wkb_geom.specs.declared.common.Endianness.{Endianness}
-use Rattle.wkb_geom.specs.declared.common.Endianness.TheVariants.{BigEndian, LittleEndian}
-use Rattle.wkb_geom.specs.Numbers.{order_byte}
+use Rattle.wkb_laws.specs.Prelude.{Endianness, BigEndian, LittleEndian, order_byte, Xy}
 use Rattle.wkb_geom.specs.Reading.{order_of_byte, type_of}
-use Rattle.wkb_geom.specs.declared.common.Dimension.TheVariants.{Xy}
 use Rattle.wkb_geom.proofs.Heads.{head_meant}
 use Rattle.wkb_check.proofs.Ahead.{bare_meant}
 use Rattle.wkb_check.proofs.head.bare_kind.Goals as goal
