@@ -1,13 +1,9 @@
 -- What is said of the bounds of a geometry that the check found.
 use Rattle.std.proofs.Common.{◌≡◌, ℕ, ◌<◌, List, Ok, refl, arith, nat_lt, true, lt-ltb}
-use Rattle.wkb_geom.specs.Reading.{type_kind}
 use Rattle.wkb_geom.specs.declared.code.TheConstants.{POLYGON}
-use Rattle.wkb_laws.specs.Prelude.{Value, Spelling, node}
-use Rattle.wkb_check.specs.declared.answer.Summary.{Summary}
-use Rattle.wkb_check.specs.Known.{HasGeometry}
-use Rattle.wkb_check.specs.declared.pieces.Piece.{Piece}
-use Rattle.wkb_check.specs.Pieces.{IsPieceAt, piece_of, HeaderIs}
-use Rattle.wkb_check.specs.Public.{Checks, DescribesFront}
+use Rattle.wkb_laws.specs.Prelude.{Value, Spelling, node, type_kind}
+use Rattle.wkb_check.specs.Prelude.{HasGeometry, IsPieceAt, piece_of, HeaderIs, Checks, DescribesFront}
+use Rattle.wkb_check.specs.declared.{answer.Summary.Summary, pieces.Piece.Piece}
 use Rattle.wkb_check.proofs.Ahead.{found_header, piece_by}
 use Rattle.wkb_check.proofs.Joining.{geometry_of_front}
 use Rattle.wkb_bounds.specs.declared.range.Bounds.{Bounds}

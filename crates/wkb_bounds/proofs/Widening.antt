@@ -1,18 +1,8 @@
 -- Ranges that are widened word by word, and bounds coordinate by coordinate.
-use Rattle.std.proofs.Common.{◌≡◌, ◌≢◌, ℕ, zero, suc, ◌+◌, ◌*◌, ◌/◌, ◌<◌, ◌≤◌, List, [], ◌∷◌, ◌++◌, length, take}
-use Rattle.std.proofs.Common.{drop, Option, Some, None, IfSome, refl, sym, ap, ◌∙◌, arith}
-use Rattle.std.proofs.Common.{drop-drop, length-append}
-use Rattle.wkb_geom.specs.declared.common.Dimension.{Dimension}
-use Rattle.wkb_geom.specs.declared.common.Endianness.{Endianness}
-use Rattle.wkb_geom.specs.Dimensions.{width}
-use Rattle.wkb_geom.specs.Items.{length-items}
-use Rattle.wkb_geom.specs.Numbers.{number}
-use Rattle.wkb_geom.specs.Reading.{items, coordinates}
-use Rattle.wkb_geom.specs.Values.{Coordinate}
-use Rattle.wkb_bounds.specs.declared.range.Range.{Range}
-use Rattle.wkb_bounds.specs.declared.range.Bounds.{Bounds}
-use Rattle.wkb_bounds.specs.declared.extremes.Extremes.{Extremes}
-use Rattle.wkb_bounds.specs.declared.run.Run.{Run}
+use Rattle.std.proofs.Common.{◌≡◌, ◌≢◌, ℕ, zero, suc, ◌+◌, ◌*◌, ◌/◌, ◌<◌, ◌≤◌, List, [], ◌∷◌, ◌++◌, length, take, drop}
+use Rattle.std.proofs.Common.{Option, Some, None, IfSome, refl, sym, ap, ◌∙◌, arith, drop-drop, length-append}
+use Rattle.wkb_laws.specs.Prelude.{Dimension, Endianness, width, length-items, number, items, coordinates, Coordinate}
+use Rattle.wkb_bounds.specs.declared.{range.Range.Range, range.Bounds.Bounds, extremes.Extremes.Extremes, run.Run.Run}
 use Rattle.wkb_bounds.specs.Ranges.{with_word, widened}
 use Rattle.wkb_bounds.specs.Extremes.{range_by, CountsAhead, CountsWord, WidensRange}
 use Rattle.wkb_bounds.specs.Ordinates.{Axis, axis_place, word_at, words_of_each, words_at, words_in, place_words}

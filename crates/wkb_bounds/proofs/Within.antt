@@ -8,8 +8,7 @@ use Rattle.wkb_geom.specs.declared.common.Dimension.{Dimension}
 use Rattle.wkb_geom.specs.Numbers.{is_nan, IsWord}
 use Rattle.wkb_geom.specs.Values.{Coordinate, Value}
 use Rattle.wkb_laws.proofs.Doubles.{in_order}
-use Rattle.wkb_bounds.specs.declared.range.Range.{Range}
-use Rattle.wkb_bounds.specs.declared.range.Bounds.{Bounds}
+use Rattle.wkb_bounds.specs.declared.{range.Range.Range, range.Bounds.Bounds}
 use Rattle.wkb_bounds.specs.Bounded.{AreBounds}
 use Rattle.wkb_bounds.specs.Ordinates.{Axis, x_axis, y_axis, z_axis, m_axis, axis_place, word_at, words_of_each, words_in}
 use Rattle.wkb_bounds.specs.Ranges.{no_numbers, with_word, widened, range_of}

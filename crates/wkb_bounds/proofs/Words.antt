@@ -1,31 +1,22 @@
 -- The words of a geometry's pieces: they widen a range as the words of its value do.
-use Rattle.std.proofs.Common.{◌≡◌, ℕ, zero, suc, ◌+◌, ◌*◌, List, [], ◌∷◌, ◌++◌, take, drop, arith}
-use Rattle.std.proofs.Common.{Some, None, Option, true, false, nat_lt, refl, sym, ap, ◌∙◌}
-use Rattle.std.proofs.Common.{append-nil, append_assoc, subst}
+use Rattle.std.proofs.Common.{◌≡◌, ℕ, zero, suc, ◌+◌, ◌*◌, List, [], ◌∷◌, ◌++◌, take, drop, arith, Some, None, Option}
+use Rattle.std.proofs.Common.{true, false, nat_lt, refl, sym, ap, ◌∙◌, append-nil, append_assoc, subst}
 use Rattle.std.proofs.lemmas.Bool.{cond-true, cond-false}
 use Rattle.std.specs.Cmp.{first_so, second_so}
 use Rattle.wkb_geom.specs.Numbers.{is_nan}
-use Rattle.wkb_laws.specs.Prelude.{Endianness, Dimension, all_nan, width, Coordinate, Value, Values}
-use Rattle.wkb_laws.specs.Prelude.{point, line_string, polygon}
-use Rattle.wkb_laws.specs.Prelude.{no_members, member, each, members, kind, Spelling, node, Spellings}
-use Rattle.wkb_laws.specs.Prelude.{no_spellings, spelling, Spells, SpellsEach, Wanted}
-use Rattle.wkb_laws.specs.Prelude.{coordinates}
-use Rattle.wkb_check.specs.declared.pieces.Piece.{Piece}
-use Rattle.wkb_bounds.specs.declared.range.Range.{Range}
-use Rattle.wkb_bounds.specs.declared.range.Bounds.{Bounds}
+use Rattle.wkb_laws.specs.Prelude.{Endianness, Dimension, all_nan, width, Coordinate, Value, Values, point, line_string}
+use Rattle.wkb_laws.specs.Prelude.{polygon, no_members, member, each, members, kind, Spelling, node, Spellings}
+use Rattle.wkb_laws.specs.Prelude.{no_spellings, spelling, Spells, SpellsEach, Wanted, coordinates}
+use Rattle.wkb_check.specs.Prelude.{HasGeometry, Subject, whole, dimension_in, subject_coordinates}
+use Rattle.wkb_check.specs.declared.{pieces.Piece.Piece, pieces.Pieces.Pieces}
+use Rattle.wkb_check.specs.Prelude.{subjects, subjects_of_rings, subjects_of_each}
+use Rattle.wkb_bounds.specs.declared.{range.Range.Range, range.Bounds.Bounds}
 use Rattle.wkb_bounds.specs.Ranges.{widened, range_of, no_numbers}
-use Rattle.wkb_bounds.specs.Ordinates.{Axis, axis_place, word_at, words_of_each}
-use Rattle.wkb_bounds.specs.Ordinates.{words_in}
-use Rattle.wkb_bounds.specs.Ordinates.{words_on, words_on_each}
-use Rattle.wkb_check.specs.Known.{HasGeometry}
+use Rattle.wkb_bounds.specs.Ordinates.{Axis, axis_place, word_at, words_of_each, words_in, words_on, words_on_each}
 use Rattle.wkb_bounds.specs.Bounded.{on, nothing, AreBounds}
-use Rattle.wkb_check.specs.Pieces.{pieces_of, piece_of, own_end, IsRing, IsAhead, IsTaken, IsNext, Steps}
-use Rattle.wkb_check.specs.Pieces.{OnlyMember}
-use Rattle.wkb_check.specs.declared.pieces.Pieces.{Pieces}
+use Rattle.wkb_check.specs.Pieces.{pieces_of, piece_of, own_end, IsRing, IsAhead, IsTaken, IsNext, Steps, OnlyMember}
 use Rattle.wkb_bounds.proofs.Widening.{widened-append}
 use Rattle.wkb_check.proofs.Placing.{only_piece}
-use Rattle.wkb_check.specs.Subjects.{Subject, whole, dimension_in, subject_coordinates, subjects, subjects_of_rings}
-use Rattle.wkb_check.specs.Subjects.{subjects_of_each}
 use Rattle.wkb_check.proofs.Subjects.{piece_coordinates, ArePiecesOf, pieces_match}
 
 -- the words of a piece's own coordinates on an axis

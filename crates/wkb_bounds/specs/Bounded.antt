@@ -1,14 +1,9 @@
 -- What the bounds of a geometry say of it, and how they are found.
 use Rattle.std.specs.Prelude.{◌≡◌, ℕ, ◌+◌, ◌<◌, ◌^◌, Some, List, Result, Err, IfOk, IfErr}
-use Rattle.wkb_geom.specs.declared.common.Dimension.{Dimension}
-use Rattle.wkb_geom.specs.Fronts.{Front}
-use Rattle.wkb_geom.specs.Spellings.{Spelling}
-use Rattle.wkb_geom.specs.Values.{Coordinate, Value}
+use Rattle.wkb_laws.specs.Prelude.{Dimension, Front, Spelling, Coordinate, Value}
+use Rattle.wkb_check.specs.Prelude.{Checks}
 use Rattle.wkb_check.specs.declared.answer.Refused.{Refused}
-use Rattle.wkb_bounds.specs.declared.range.Range.{Range}
-use Rattle.wkb_bounds.specs.declared.range.Bounds.{Bounds}
-use Rattle.wkb_check.specs.Public.{Checks}
-use Rattle.wkb_bounds.specs.declared.axes.AxisExtremes.{AxisExtremes}
+use Rattle.wkb_bounds.specs.declared.{range.Range.Range, range.Bounds.Bounds, axes.AxisExtremes.AxisExtremes}
 use Rattle.wkb_bounds.specs.Ranges.{no_numbers, widened, range_of}
 use Rattle.wkb_bounds.specs.Extremes.{range_by, WidensRange}
 use Rattle.wkb_bounds.specs.Ordinates.{Axis, x_axis, y_axis, z_axis, m_axis, words_at, words_in, words_on}

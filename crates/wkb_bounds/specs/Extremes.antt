@@ -1,7 +1,6 @@
 -- What some words say of their range.
 use Rattle.std.specs.Prelude.{◌≡◌, ℕ, ◌+◌, ◌-◌, ◌^◌, ◌<◌, ◌≤◌, List, nat_lt, max, min, if◌then◌else◌}
-use Rattle.wkb_bounds.specs.declared.range.Range.{Range}
-use Rattle.wkb_bounds.specs.declared.extremes.Extremes.{Extremes}
+use Rattle.wkb_bounds.specs.declared.{range.Range.Range, extremes.Extremes.Extremes}
 use Rattle.wkb_bounds.specs.Ranges.{with_word, widened}
 
 -- the word with its sign turned

@@ -1,9 +1,6 @@
 -- Coordinates one after another.
 use Rattle.std.specs.Prelude.{◌≡◌, ℕ, ◌+◌, ◌*◌, ◌/◌, List, drop}
-use Rattle.wkb_geom.specs.declared.common.Endianness.{Endianness}
-use Rattle.wkb_geom.specs.Numbers.{number}
-use Rattle.wkb_geom.specs.Reading.{items}
-use Rattle.wkb_geom.specs.Values.{Coordinate}
+use Rattle.wkb_laws.specs.Prelude.{Endianness, number, items, Coordinate}
 use Rattle.wkb_bounds.specs.declared.run.Run.{Run}
 
 -- n coordinates of this size at the start of the bytes

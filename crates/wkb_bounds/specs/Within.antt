@@ -1,10 +1,9 @@
 -- What a range says of numbers: which are within it, and what is left to widen it.
 use Rattle.std.specs.Prelude.{◌≡◌, ℕ, ◌≤◌, List, drop, false, from_bits}
 use Rattle.std.specs.Float.{binary64, ◌≤ᶠ◌}
-use Rattle.wkb_geom.specs.declared.common.Dimension.{Dimension}
+use Rattle.wkb_laws.specs.Prelude.{Dimension, Coordinate}
 use Rattle.wkb_geom.specs.Numbers.{is_nan}
 use Rattle.wkb_geom.specs.Ranks.{rank}
-use Rattle.wkb_geom.specs.Values.{Coordinate}
 use Rattle.wkb_bounds.specs.declared.range.Range.{Range}
 use Rattle.wkb_bounds.specs.Ranges.{widened, range_of}
 use Rattle.wkb_bounds.specs.Ordinates.{Axis, words_in}

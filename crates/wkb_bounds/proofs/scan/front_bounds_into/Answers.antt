@@ -1,5 +1,5 @@
 use Rattle.std.proofs.Common.{length, ap, sym, ◌∙◌, subst, arith}
-use Rattle.wkb_check.specs.Pieces.{HasAhead, IsAhead, pieces_of}
+use Rattle.wkb_check.specs.Prelude.{HasAhead, IsAhead, pieces_of}
 use Rattle.wkb_check.specs.declared.pieces.Pieces.{Pieces}
 use Rattle.wkb_bounds.specs.Ranges.{widened}
 use Rattle.wkb_bounds.specs.Bounded.{on, bounds_by, nothing, AreBounds}

@@ -1,6 +1,5 @@
 use Rattle.std.proofs.Common.{◌≡◌, ◌*◌, ◌≤◌, length, length-drop, drop, ap, arith, refl, subst}
-use Rattle.wkb_geom.specs.Dimensions.{width}
-use Rattle.wkb_geom.specs.Reading.{coordinates}
+use Rattle.wkb_laws.specs.Prelude.{width, coordinates}
 use Rattle.wkb_bounds.specs.Ordinates.{words_in, words_on}
 use Rattle.wkb_bounds.specs.Ranges.{no_numbers, widened, range_of}
 use Rattle.wkb_check.proofs.Placing.{own_inside}

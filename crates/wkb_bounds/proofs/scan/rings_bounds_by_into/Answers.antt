@@ -4,8 +4,7 @@ use Rattle.wkb_bounds.specs.Ranges.{widened}
 use Rattle.wkb_check.proofs.Ahead.{piece_by}
 use Rattle.wkb_check.proofs.Following.{ring_of, rings_after}
 use Rattle.wkb_bounds.proofs.Widening.{counts_more}
-use Rattle.wkb_bounds.proofs.Words.{first_passed, one_passed, all_passed, ring_words, leaf_end}
-use Rattle.wkb_bounds.proofs.Words.{none_counted}
+use Rattle.wkb_bounds.proofs.Words.{first_passed, one_passed, all_passed, ring_words, leaf_end, none_counted}
 use Rattle.wkb_check.proofs.Leaves.{wide}
 use Rattle.wkb_bounds.proofs.scan.rings_bounds_by_into.Goals as goal
 
