@@ -1,14 +1,13 @@
 -- Values are equal exactly where their shares are.
-use Rattle.std.proofs.Common.{◌≡◌, ◌↔◌, ℕ, List, ◌∷◌, replicate, refl, sym, ap, ◌∙◌, subst, true}
-use Rattle.std.proofs.Common.{arith, zero, suc, ◌*◌, nat_lt, if◌then◌else◌}
-use Rattle.wkb_laws.specs.Prelude.{Endianness, Form, LittleEndian, Iso, AreBytes, encoding, geometry_of}
-use Rattle.wkb_laws.specs.Prelude.{all_nan, empty_word, width}
+use Rattle.std.proofs.Common.{◌≡◌, ◌↔◌, ℕ, List, ◌∷◌, replicate, refl, sym, ap, ◌∙◌, subst, true, arith, zero, suc, ◌*◌}
+use Rattle.std.proofs.Common.{nat_lt, if◌then◌else◌}
+use Rattle.wkb_laws.specs.Prelude.{Endianness, Form, LittleEndian, Iso, AreBytes, encoding, geometry_of, all_nan}
+use Rattle.wkb_laws.specs.Prelude.{empty_word, width}
 use Rattle.wkb_laws.proofs.Values.{Good, AreBytes-front, spelled_good}
 use Rattle.wkb_laws.proofs.OneFront.{SameSpelling, one_spelling}
 use Rattle.wkb_laws.proofs.Rewritings.{one_encoding}
-use Rattle.wkb_check.specs.declared.pieces.Piece.{Piece}
-use Rattle.wkb_check.specs.declared.pieces.Pieces.{Pieces}
-use Rattle.wkb_check.specs.Known.{HasGeometry}
+use Rattle.wkb_check.specs.Prelude.{HasGeometry}
+use Rattle.wkb_check.specs.declared.{pieces.Piece.Piece, pieces.Pieces.Pieces}
 use Rattle.wkb_rewrite.specs.Shares.{Share, share_in, is_empty_point, written_words, word_count}
 use Rattle.wkb_rewrite.proofs.ValueShares.{shares_of, shares_same}
 use Rattle.wkb_rewrite.proofs.Encodings.{shares_encoding, shares_encoded}

@@ -1,16 +1,12 @@
 -- A walk over pieces that stand as they are written, and what is copied behind it.
 use Rattle.std.proofs.Common.{◌≡◌, ℕ, zero, suc, ◌+◌, ◌-◌, ◌<◌, ◌≤◌, List, [], ◌∷◌, ◌++◌, length, take, drop, map}
 use Rattle.std.proofs.Common.{is_some, None, refl, sym, ap, ◌∙◌, subst, arith, append_assoc, append-nil, length-append}
-use Rattle.std.proofs.Common.{false, true, Bool}
-use Rattle.std.specs.Prelude.{◌&&◌, ◌==◌}
-use Rattle.wkb_laws.specs.Prelude.{number, all_nan}
-use Rattle.wkb_laws.specs.Prelude.{Endianness, Form, AreBytes, form_srid, inner, type_of, type_dimension}
-use Rattle.wkb_geom.specs.Reading.{type_kind}
+use Rattle.std.proofs.Common.{false, true, Bool, ◌&&◌, ◌==◌}
+use Rattle.wkb_laws.specs.Prelude.{number, all_nan, Endianness, Form, AreBytes, form_srid, inner, type_of}
+use Rattle.wkb_laws.specs.Prelude.{type_dimension, type_kind, srid_size}
 use Rattle.wkb_laws.proofs.Parts.{take_front}
-use Rattle.wkb_geom.specs.Refusals.{srid_size}
-use Rattle.wkb_check.specs.declared.pieces.Piece.{Piece}
-use Rattle.wkb_check.specs.declared.pieces.Pieces.{Pieces}
-use Rattle.wkb_check.specs.Known.{HasGeometry}
+use Rattle.wkb_check.specs.Prelude.{HasGeometry}
+use Rattle.wkb_check.specs.declared.{pieces.Piece.Piece, pieces.Pieces.Pieces}
 use Rattle.wkb_check.specs.Pieces.{own_end, pieces_of, ring_piece, Ahead, IsAhead, HasAhead, IsTaken, IsPieceAt}
 use Rattle.wkb_check.proofs.Following.{ahead_first, polygon_takes, ring_takes, none_ahead}
 use Rattle.wkb_check.proofs.Placing.{onward}

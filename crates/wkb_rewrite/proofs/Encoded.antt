@@ -3,13 +3,9 @@ use Rattle.std.proofs.Common.{◌≡◌, ℕ, ◌+◌, ◌≤◌, List, [], ◌+
 use Rattle.std.proofs.Common.{true, append-nil, refl, map, Some, subst}
 use lib.Seq.{sets}
 use Rattle.wkb_laws.specs.Prelude.{Endianness, Form, inner, encoding, geometry_of}
-use Rattle.wkb_check.specs.declared.pieces.Piece.{Piece}
-use Rattle.wkb_check.specs.declared.pieces.Pieces.{Pieces}
-use Rattle.wkb_check.specs.Known.{HasGeometry}
-use Rattle.wkb_check.specs.Pieces.{own_end, IsPieceAt, IsTaken, Steps, pieces_of}
+use Rattle.wkb_check.specs.Prelude.{HasGeometry, own_end, IsPieceAt, IsTaken, Steps, pieces_of, DescribesFront}
+use Rattle.wkb_check.specs.declared.{pieces.Piece.Piece, pieces.Pieces.Pieces, answer.Summary.Summary}
 use Rattle.wkb_check.proofs.Placing.{sets_after, only_piece, own_inside}
-use Rattle.wkb_check.specs.declared.answer.Summary.{Summary}
-use Rattle.wkb_check.specs.Public.{DescribesFront}
 use Rattle.wkb_sink.specs.declared.options.WriteOptions.{WriteOptions}
 use Rattle.wkb_rewrite.specs.Shares.{Share, share_in, share_encoding, piece_encoding, HasRoomAt, IsLaidAt}
 use Rattle.wkb_rewrite.specs.Targets.{FrontFits, LaysFront, IsFrontSize, IsFrontEncoding}

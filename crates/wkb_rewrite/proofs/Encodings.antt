@@ -2,10 +2,9 @@
 use Rattle.std.proofs.Common.{◌≡◌, ℕ, List, [], ◌∷◌, ◌++◌, length, map, refl, sym, ap, ◌∙◌, append-nil, append_assoc}
 use Rattle.std.proofs.Common.{arith}
 use Rattle.std.specs.List.{flat_map, concat}
-use Rattle.wkb_laws.specs.Prelude.{Endianness, Dimension, Form, Coordinate, Value, Values, no_members, member}
-use Rattle.wkb_laws.specs.Prelude.{dimension, members, each, Spelling, node, Spellings, no_spellings, spelling, Spells}
-use Rattle.wkb_laws.specs.Prelude.{SpellsEach, Wanted, geometry_of, geometries_of, encoding, encodings, inner}
-use Rattle.wkb_laws.specs.Prelude.{number_bytes}
+use Rattle.wkb_laws.specs.Prelude.{Endianness, Form, Coordinate, no_spellings, geometry_of, geometries_of, number_bytes}
+use Rattle.wkb_laws.specs.Prelude.{Dimension, Values, no_members, dimension, Spelling, Spellings, SpellsEach, encodings}
+use Rattle.wkb_laws.specs.Prelude.{Value, member, members, each, node, spelling, Spells, Wanted, encoding, inner}
 unfoldable use Rattle.wkb_laws.specs.Prelude.{words_encoding, coordinates_encoding, point_encoding}
 unfoldable use Rattle.wkb_laws.specs.Prelude.{line_string_encoding, polygon_encoding, members_encoding}
 use Rattle.wkb_laws.proofs.Values.{same_dimension, count-geometries_of}

@@ -9,17 +9,16 @@ use Rattle.std.specs.Str.{bytes_eq}
 use Rattle.std.proofs.lemmas.Slice.Eq.{bytes_eq-Decides}
 use Rattle.wkb_geom.specs.contracts.common.Endianness.{the_type}
 use Rattle.std.proofs.lemmas.Option.{get_or_from_slice_get}
-use Rattle.wkb_laws.specs.Prelude.{Endianness, AreBytes, length-items, empty_word}
+use Rattle.wkb_laws.specs.Prelude.{Endianness, AreBytes, length-items, empty_word, items}
 unfoldable use Rattle.wkb_laws.specs.Prelude.{number, number_bytes, words_encoding}
-use Rattle.wkb_geom.specs.Reading.{items}
 use Rattle.wkb_laws.proofs.Parts.{field_taken}
 use Rattle.wkb_sink.proofs.Turned.{words_length, word_at}
 use Rattle.wkb_laws.proofs.Values.{AreBytes-front, AreBytes-rest, number-lt}
 use Rattle.wkb_laws.proofs.EncodingBytes.{number_is_bytes}
 use Rattle.wkb_laws.proofs.EncodingSpells.{IsNumber-number_bytes}
 use Rattle.wkb_laws.proofs.OneEncoding.{number_fixed}
+use Rattle.wkb_check.specs.Prelude.{own_end}
 use Rattle.wkb_check.specs.declared.pieces.Piece.{Piece}
-use Rattle.wkb_check.specs.Pieces.{own_end}
 use Rattle.wkb_sink.specs.Runs.{other}
 use Rattle.wkb_rewrite.specs.Shares.{Holds, own_words, word_count, written_words, words_part, is_empty_point}
 

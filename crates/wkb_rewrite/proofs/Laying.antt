@@ -1,19 +1,15 @@
 -- Bytes that are laid one after another.
-use Rattle.std.proofs.Common.{◌≡◌, ℕ, ◌+◌, ◌≤◌, List, [], ◌++◌, length, take, refl, ap, ◌∙◌, arith, append_assoc}
-use Rattle.std.proofs.Common.{length-append, append-nil, ◌≢◌, ◌∷◌, None, slice_set, if◌then◌else◌, Bool}
-use Rattle.std.proofs.lemmas.Bool.{ne_eqb}
-use Rattle.std.proofs.lemmas.List.{drop-drop}
+use Rattle.std.proofs.Common.{◌≡◌, length, append_assoc, length-append, append-nil, slice_set, if◌then◌else◌, drop-drop}
+use Rattle.std.proofs.Common.{ℕ, ◌+◌, ◌≤◌, List, [], ◌++◌, take, refl, ap, ◌∙◌, arith, ◌≢◌, ◌∷◌, None, Bool, ne_eqb}
 use Rattle.std.proofs.lemmas.List.Edits.{sets-eq}
 use lib.Seq.{length-sets}
 use Rattle.wkb_laws.proofs.Parts.{take_front}
-use Rattle.wkb_laws.specs.Prelude.{Endianness, Dimension, Form, order_byte, form_srid, type_of}
+use Rattle.wkb_laws.specs.Prelude.{Endianness, Dimension, Form, order_byte, form_srid, type_of, srid_size, WkbType}
 use Rattle.wkb_geom.specs.Encodings.{type_code}
 unfoldable use Rattle.wkb_laws.specs.Prelude.{number_bytes, header_encoding, srid_encoding}
 use borrow.Rule.Slice.PartMut.{put_mid}
 use Rattle.wkb_check.proofs.Placing.{sets_after}
 use Rattle.wkb_sink.proofs.Lengths.{length-number, length-header}
-use Rattle.wkb_geom.specs.Refusals.{srid_size}
-use Rattle.wkb_geom.specs.declared.code.WkbType.{WkbType}
 use Rattle.wkb_rewrite.specs.Shares.{IsLaidAt, type_header, header_part}
 
 -- a part of a slice that was borrowed

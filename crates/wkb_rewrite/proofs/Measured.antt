@@ -3,20 +3,15 @@ use Rattle.std.proofs.Common.{◌≡◌, ℕ, ◌+◌, ◌*◌, ◌≤◌, List,
 use Rattle.std.proofs.Common.{length-append}
 use Rattle.wkb_laws.specs.Prelude.{Endianness, Dimension, Form, Coordinate, AreBytes, Value, Values, no_members, member}
 use Rattle.wkb_laws.specs.Prelude.{dimension, members, Spelling, node, Spellings, no_spellings, spelling, Spells}
-use Rattle.wkb_laws.specs.Prelude.{SpellsEach, kind, Wanted, srid_count, srid_count_each, srid_size}
-use Rattle.wkb_laws.specs.Prelude.{form_srid, geometry_of, encoding}
+use Rattle.wkb_laws.specs.Prelude.{SpellsEach, kind, Wanted, srid_count, srid_count_each, srid_size, form_srid}
+use Rattle.wkb_laws.specs.Prelude.{geometry_of, encoding, type_kind, Header}
 use Rattle.wkb_laws.proofs.Lengths.{spelled_length, encoding_length, value_size, srid_size_is, none_without_members}
 use Rattle.wkb_laws.proofs.Lengths.{none_in_points}
 use Rattle.wkb_laws.proofs.Values.{normal-geometry_of, lawful-geometry_of}
-use Rattle.wkb_geom.specs.Reading.{type_kind}
-use Rattle.wkb_geom.specs.Spellings.{Header}
-use Rattle.wkb_check.specs.declared.pieces.Piece.{Piece}
-use Rattle.wkb_check.specs.declared.answer.Summary.{Summary}
-use Rattle.wkb_check.specs.Known.{HasGeometry}
-use Rattle.wkb_check.specs.Public.{DescribesFront}
+use Rattle.wkb_check.specs.Prelude.{HasGeometry, DescribesFront, own_end, piece_of, ring_piece}
+use Rattle.wkb_check.specs.declared.{pieces.Piece.Piece, answer.Summary.Summary}
+use Rattle.wkb_check.specs.Prelude.{piece_at, last_end, subject_pieces, pieces_of, IsPieceAt}
 use Rattle.wkb_check.specs.Subjects.{Subject, rings_of, subjects, subjects_of_rings, subjects_of_each}
-use Rattle.wkb_check.specs.Pieces.{own_end, piece_of, ring_piece, piece_at, last_end, subject_pieces, pieces_of}
-use Rattle.wkb_check.specs.Pieces.{IsPieceAt}
 use Rattle.wkb_check.proofs.Ahead.{here, type_kind_is}
 use Rattle.wkb_rewrite.proofs.Comparing.{same_spelling, value_good}
 use Rattle.wkb_rewrite.proofs.Laying.{most_srid}

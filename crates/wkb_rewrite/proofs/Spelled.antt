@@ -1,19 +1,16 @@
 -- What the pieces of a geometry say is what its value says.
-use Rattle.std.proofs.Common.{◌≡◌, ℕ, zero, suc, ◌+◌, ◌*◌, List, [], ◌∷◌, ◌++◌, drop, map, refl, ap, ◌∙◌}
-use Rattle.std.proofs.Common.{arith, replicate, append-nil, drop-drop, add_comm, mul-one, if◌then◌else◌}
+use Rattle.std.proofs.Common.{◌≡◌, ℕ, zero, suc, ◌+◌, ◌*◌, List, [], ◌∷◌, ◌++◌, drop, map, refl, ap, ◌∙◌, arith}
+use Rattle.std.proofs.Common.{replicate, append-nil, drop-drop, add_comm, mul-one, if◌then◌else◌, ◌&&◌, ◌==◌}
 use native.Mathlib.Numerals.{unary_clauses}
-use Rattle.std.specs.Prelude.{◌&&◌, ◌==◌}
 use Rattle.std.proofs.lemmas.List.{map-append}
 use Rattle.std.specs.List.{concat}
-use Rattle.wkb_laws.specs.Prelude.{Endianness, Dimension, Coordinate, Value, Values, member, dimension, members}
-use Rattle.wkb_laws.specs.Prelude.{width, all_nan, empty_word, number, Begins, coordinates, Spelling, node, Spellings}
-use Rattle.wkb_laws.specs.Prelude.{no_spellings, spelling, no_members, Spells}
+use Rattle.wkb_laws.specs.Prelude.{Endianness, Dimension, Coordinate, Value, Values, member, dimension, members, width}
+use Rattle.wkb_laws.specs.Prelude.{all_nan, empty_word, number, Begins, coordinates, Spelling, node, Spellings}
+use Rattle.wkb_laws.specs.Prelude.{no_spellings, spelling, no_members, Spells, items}
 unfoldable use Rattle.wkb_laws.specs.Prelude.{point_words}
-use Rattle.wkb_geom.specs.Reading.{items}
+use Rattle.wkb_check.specs.Prelude.{pieces_of, Subject, whole, ring, rings_of, subject_coordinates, subjects}
 use Rattle.wkb_check.specs.declared.pieces.Piece.{Piece}
-use Rattle.wkb_check.specs.Pieces.{pieces_of}
-use Rattle.wkb_check.specs.Subjects.{Subject, whole, ring, rings_of, subject_coordinates, subjects, subjects_of_rings}
-use Rattle.wkb_check.specs.Subjects.{subjects_of_each}
+use Rattle.wkb_check.specs.Prelude.{subjects_of_rings, subjects_of_each}
 use Rattle.wkb_check.proofs.Subjects.{IsPieceOf, ArePiecesOf, pieces_match}
 use Rattle.wkb_rewrite.specs.Shares.{Share, share_in, own_words}
 use Rattle.wkb_rewrite.proofs.ValueShares.{own_share, ring_share, shares_of, shares_of_each}

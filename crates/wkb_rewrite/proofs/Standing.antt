@@ -1,17 +1,15 @@
 -- Pieces that stand in the input as they are written.
 use Rattle.std.proofs.Common.{◌≡◌, ◌≢◌, ℕ, zero, suc, ◌+◌, ◌-◌, ◌*◌, ◌≤◌, List, [], ◌∷◌, ◌++◌, length, take, drop, None}
 use Rattle.std.proofs.Common.{is_some, sym, ap, ◌∙◌, subst, arith, append_assoc, take-append-drop, length-drop, false}
-use Rattle.std.proofs.Common.{refl}
-use Rattle.std.proofs.lemmas.List.{drop-drop}
+use Rattle.std.proofs.Common.{refl, drop-drop}
 use Rattle.wkb_laws.specs.Prelude.{Endianness, Dimension, Form, AreBytes, Begins, Value, point, kind, Spelling, node}
 use Rattle.wkb_laws.specs.Prelude.{Spells, width, number, number_bytes, order_byte, form_srid, type_of, words_encoding}
 use Rattle.wkb_geom.specs.Encodings.{type_code}
 use Rattle.wkb_geom.specs.Refusals.{srid_size}
 use Rattle.wkb_geom.specs.Reading.{ring_in}
 use Rattle.wkb_geom.specs.Items.{length-items}
+use Rattle.wkb_check.specs.Prelude.{HasGeometry, subjects_of_each}
 use Rattle.wkb_check.specs.declared.pieces.Piece.{Piece}
-use Rattle.wkb_check.specs.Known.{HasGeometry}
-use Rattle.wkb_check.specs.Subjects.{subjects_of_each}
 use Rattle.wkb_check.specs.Pieces.{own_end, count_of, piece_of, subject_pieces, ring_piece, Ahead}
 use Rattle.wkb_check.proofs.Ahead.{says, begins_inside}
 use Rattle.wkb_check.proofs.Placing.{itself_first, inner, first_one}

@@ -5,8 +5,7 @@ use Rattle.wkb_laws.specs.Prelude.{Dimension, Coordinate, Value, Values, no_memb
 use Rattle.wkb_laws.specs.Prelude.{point, line_string, Spelling, node, Spellings, no_spellings, spelling, Spells}
 use Rattle.wkb_laws.specs.Prelude.{SpellsEach, Wanted}
 unfoldable use Rattle.wkb_laws.specs.Prelude.{point_words}
-use Rattle.wkb_check.specs.Pieces.{count_of}
-use Rattle.wkb_check.specs.Subjects.{rings_of}
+use Rattle.wkb_check.specs.Prelude.{count_of, rings_of}
 use Rattle.wkb_rewrite.specs.Shares.{Share}
 
 -- the words of a value itself

@@ -1,9 +1,8 @@
 -- The pieces that are to come, and what they say.
 use Rattle.std.proofs.Common.{◌≡◌, ℕ, ◌≤◌, List, [], ◌∷◌, length, map, Option, Some, None, refl, sym, ap, ◌∙◌, rules}
 use Rattle.std.proofs.Common.{subst, arith, ◌↔◌, IsTrue, is_some, Bool, true, false, not}
-use Rattle.wkb_check.specs.declared.pieces.Piece.{Piece}
-use Rattle.wkb_check.specs.declared.pieces.Pieces.{Pieces}
-use Rattle.wkb_check.specs.Known.{HasGeometry}
+use Rattle.wkb_check.specs.Prelude.{HasGeometry}
+use Rattle.wkb_check.specs.declared.{pieces.Piece.Piece, pieces.Pieces.Pieces}
 use Rattle.wkb_check.specs.Pieces.{own_end, pieces_of, IsAhead, HasAhead, IsNext, Steps, TakesOrStays}
 use Rattle.wkb_rewrite.specs.Shares.{Share, share_in}
 use Rattle.wkb_rewrite.proofs.ValueShares.{shares_of}

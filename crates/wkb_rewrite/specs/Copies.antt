@@ -1,8 +1,7 @@
 -- The two parts of an encoding that is copied.
 use Rattle.std.specs.Prelude.{◌≡◌, ◌≤◌, ℕ, ◌+◌, ◌-◌, List, ◌++◌, take, drop, is_some}
-use Rattle.wkb_geom.specs.Reading.{type_of}
-use Rattle.wkb_geom.specs.Refusals.{srid_size}
-use Rattle.wkb_check.specs.Known.{HasGeometry}
+use Rattle.wkb_laws.specs.Prelude.{type_of, srid_size}
+use Rattle.wkb_check.specs.Prelude.{HasGeometry}
 use Rattle.wkb_check.specs.declared.pieces.Piece.{Piece}
 use Rattle.wkb_rewrite.specs.Targets.{encoding_for}
 use Rattle.wkb_rewrite.specs.declared.copied.Copied.{Copied}

@@ -1,14 +1,9 @@
 -- What is known of a geometry that is to be rewritten.
 use Rattle.std.specs.Prelude.{◌≡◌, ◌≢◌, ℕ, ◌+◌, List, drop, None, Some, false, true, Bool}
-use Rattle.wkb_geom.specs.declared.common.Endianness.{Endianness}
-use Rattle.wkb_geom.specs.declared.common.Form.{Form}
+use Rattle.wkb_laws.specs.Prelude.{Endianness, Form, number, type_of}
 use Rattle.wkb_geom.specs.Encodings.{type_code}
-use Rattle.wkb_geom.specs.Numbers.{number}
-use Rattle.wkb_geom.specs.Reading.{type_of}
-use Rattle.wkb_check.specs.Pieces.{Steps}
-use Rattle.wkb_check.specs.declared.pieces.Piece.{Piece}
-use Rattle.wkb_check.specs.declared.pieces.Pieces.{Pieces}
-use Rattle.wkb_check.specs.declared.pieces.TheConstants.{RING}
+use Rattle.wkb_check.specs.Prelude.{Steps}
+use Rattle.wkb_check.specs.declared.{pieces.Piece.Piece, pieces.Pieces.Pieces, pieces.TheConstants.RING}
 use Rattle.wkb_rewrite.specs.Shares.{is_empty_point}
 
 -- a geometry has the code that is written of it under this form; a ring has none

@@ -3,17 +3,11 @@ use Rattle.std.specs.Prelude.{◌≡◌, ◌≤◌, ℕ, ◌+◌, ◌*◌, List,
 use Rattle.std.specs.Prelude.{◌&&◌, ◌==◌, if◌then◌else◌}
 use Rattle.std.specs.List.{AllByRecursion}
 use lib.Seq.{sets}
-use Rattle.wkb_geom.specs.declared.common.Dimension.{Dimension}
-use Rattle.wkb_geom.specs.declared.common.Endianness.{Endianness}
-use Rattle.wkb_geom.specs.declared.common.Form.{Form}
+use Rattle.wkb_laws.specs.Prelude.{Dimension, Endianness, Form, WkbType, width, header_encoding, words_encoding}
 use Rattle.wkb_geom.specs.declared.code.TheConstants.{POINT, POLYGON}
-use Rattle.wkb_geom.specs.declared.code.WkbType.{WkbType}
-use Rattle.wkb_geom.specs.Dimensions.{width}
-use Rattle.wkb_geom.specs.Encodings.{header_encoding, words_encoding}
 use Rattle.wkb_geom.specs.Numbers.{IsWord, number, number_bytes, all_nan, empty_word}
 use Rattle.wkb_geom.specs.Reading.{items, type_of, type_kind, type_dimension}
-use Rattle.wkb_check.specs.declared.pieces.Piece.{Piece}
-use Rattle.wkb_check.specs.declared.pieces.TheConstants.{RING}
+use Rattle.wkb_check.specs.declared.{pieces.Piece.Piece, pieces.TheConstants.RING}
 use Rattle.wkb_sink.specs.declared.options.WriteOptions.{WriteOptions}
 
 -- the bytes hold these words in this order

@@ -1,11 +1,7 @@
 -- What is written of the geometry that bytes begin with.
 use Rattle.std.specs.Prelude.{◌≡◌, ◌≤◌, ℕ, List, length}
 use lib.Seq.{sets}
-use Rattle.wkb_geom.specs.declared.common.Endianness.{Endianness}
-use Rattle.wkb_geom.specs.declared.common.Form.{Form}
-use Rattle.wkb_geom.specs.Encodings.{encoding}
-use Rattle.wkb_geom.specs.Geometries.{geometry_of}
-use Rattle.wkb_geom.specs.Values.{Value}
+use Rattle.wkb_laws.specs.Prelude.{Endianness, Form, encoding, geometry_of, Value}
 use Rattle.wkb_check.specs.Known.{HasGeometry}
 use Rattle.wkb_sink.specs.declared.options.WriteOptions.{WriteOptions}
 

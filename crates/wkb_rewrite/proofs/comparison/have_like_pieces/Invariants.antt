@@ -1,5 +1,4 @@
-use Rattle.wkb_check.specs.Known.{HasGeometry}
-use Rattle.wkb_check.specs.Pieces.{bytes_left}
+use Rattle.wkb_check.specs.Prelude.{HasGeometry, bytes_left}
 use Rattle.wkb_rewrite.proofs.Comparing.{shares_at, Compared}
 use Rattle.wkb_rewrite.proofs.comparison.have_like_pieces.Given as goal
 

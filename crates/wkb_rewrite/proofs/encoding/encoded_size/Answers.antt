@@ -1,7 +1,6 @@
 use Rattle.std.proofs.Common.{◌≡◌, ◌+◌, ◌∷◌, [], arith, ap, length, is_some}
 use Rattle.wkb_laws.specs.Prelude.{Endianness, LittleEndian, srid_size, encoding, geometry_of}
-use Rattle.wkb_check.specs.Known.{HasGeometry}
-use Rattle.wkb_check.specs.Pieces.{IsAhead, pieces_of}
+use Rattle.wkb_check.specs.Prelude.{HasGeometry, IsAhead, pieces_of}
 use Rattle.wkb_check.proofs.Following.{given, all_given}
 use Rattle.wkb_rewrite.proofs.Measured.{srid_sizes, sizes_append, long_of, measured}
 use Rattle.wkb_check.proofs.Ahead.{here}

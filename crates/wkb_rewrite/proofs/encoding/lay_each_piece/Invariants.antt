@@ -1,7 +1,6 @@
 use Rattle.std.specs.Prelude.{◌≤◌}
 use Rattle.wkb_laws.specs.Prelude.{geometry_of, encoding}
-use Rattle.wkb_check.specs.Known.{HasGeometry}
-use Rattle.wkb_check.specs.Pieces.{bytes_left}
+use Rattle.wkb_check.specs.Prelude.{HasGeometry, bytes_left}
 use Rattle.wkb_rewrite.proofs.Encoded.{Left}
 use Rattle.wkb_rewrite.proofs.encoding.lay_each_piece.Given as goal
 
