@@ -1,8 +1,7 @@
 -- The recursion of collections falls: a collection is longer than its members.
 use Rattle.wkb_write.proofs.Prelude.{◌≡◌, ◌+◌, ◌<◌, ◌≤◌, ℕ, zero, suc, List, [], ◌∷◌, length, map, get_or, ap, arith}
 use Rattle.wkb_write.proofs.Prelude.{Dimensions, Geometry, collection, geometries, byte_size}
-use Rattle.wkb_geom.specs.Geometries.{Geometries}
-use Rattle.wkb_geom.specs.Sizes.{byte_sizes}
+use Rattle.wkb_laws.specs.Prelude.{Geometries, byte_sizes}
 
 -- a member is no longer than all members
 member_among : {X : Type 0} (f : X → Geometry) (xs : List X) (i : ℕ) (d : X) → i < length xs

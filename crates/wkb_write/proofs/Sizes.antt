@@ -1,19 +1,16 @@
 -- The length of an encoding, from what was measured.
-use Rattle.wkb_write.proofs.Prelude.{◌≡◌, ℕ, ◌+◌, ◌<◌, ◌≤◌, ◌^◌, ◌∙◌, length, None, Result, Ok}
-use Rattle.wkb_write.proofs.Prelude.{Err, sym, arith, IsErrAnd, nat_tests, Endianness, Form, Fault}
-use Rattle.wkb_write.proofs.Prelude.{Geometry, IsGeometry, byte_size, encoding, fault, IsForm, Measures}
-use Rattle.wkb_write.proofs.Prelude.{bytes_behind_header, none_both, WkbError, TellsFault, encoding_of, IsSized}
-use Rattle.wkb_write.proofs.Prelude.{no_room, Advances, IsShort, Progress, Stopped, WriteOptions}
+use Rattle.wkb_write.specs.Prelude.{Geometry, IsGeometry, fault, IsForm, bytes_behind_header, TellsFault, encoding_of}
+use Rattle.wkb_write.specs.Prelude.{IsSized, size_by_parts, IsSizeOf}
+use Rattle.wkb_write.proofs.Prelude.{◌≡◌, ℕ, ◌+◌, ◌<◌, ◌≤◌, ◌^◌, ◌∙◌, length, None, Result, Ok, Err, sym, arith}
+use Rattle.wkb_write.proofs.Prelude.{IsErrAnd, nat_tests, Endianness, Form, Fault, byte_size, encoding, Measures}
+use Rattle.wkb_write.proofs.Prelude.{none_both, WkbError, no_room, Advances, IsShort, Progress, Stopped, WriteOptions}
 use Rattle.std.specs.Prelude.{is_some}
 use Rattle.std.proofs.lemmas.Result.{err_from_is_err_and}
-use Rattle.wkb_geom.specs.Refusals.{srid_size}
-use Rattle.wkb_geom.specs.Encodings.{size_fault, form_srid}
+use Rattle.wkb_laws.specs.Prelude.{srid_size, size_fault, form_srid}
 use Rattle.wkb_write.proofs.Faults.{reports_first, reports_rest}
 use Rattle.wkb_write.proofs.Whole.{header_within, size_of_parts}
-use Rattle.wkb_write.specs.Bodies.{size_by_parts}
 use Rattle.wkb_laws.proofs.EncodingSizes.{encoding_has_size_lem}
 use Rattle.wkb_laws.proofs.Lengths.{srid_size_is}
-use Rattle.wkb_write.specs.Answers.{IsSizeOf}
 use Rattle.wkb_write.specs.Measures.{IsMeasured}
 use Rattle.wkb_sink.proofs.Laid.{exits}
 use Rattle.wkb_sink.specs.Options.{header_size}

@@ -1,8 +1,7 @@
 -- Parts one after another, as a loop measures them.
-use Rattle.wkb_write.proofs.Prelude.{◌≡◌, ℕ, ◌+◌, ◌*◌, ◌^◌, ◌<◌, ◌≤◌, List, length, drop, None, Result, Ok}
-use Rattle.wkb_write.proofs.Prelude.{refl, subst, ◌∙◌, arith, Fault, first_fault, or_else, count_below}
-use Rattle.wkb_write.proofs.Prelude.{drop_all, sum_by, sum_by-cons, count_fault, Finds, Measures, capped, Measure}
-use Rattle.wkb_write.proofs.Prelude.{parts_fault, parts_size}
+use Rattle.wkb_write.proofs.Prelude.{subst, first_fault, count_below, sum_by-cons, count_fault, parts_fault, parts_size}
+use Rattle.wkb_write.proofs.Prelude.{length, Result, arith, Fault, or_else, drop_all, sum_by, Measures, capped, Measure}
+use Rattle.wkb_write.proofs.Prelude.{◌≡◌, ℕ, ◌+◌, ◌*◌, ◌^◌, ◌<◌, ◌≤◌, List, drop, None, Ok, refl, ◌∙◌, Finds}
 use Rattle.std.proofs.lemmas.Nat.{mul-le}
 use Rattle.wkb_write.specs.Measures.{result_of}
 use Rattle.wkb_write.specs.declared.measure.Measured.{Measured}

@@ -1,15 +1,12 @@
 -- A geometry's fault and size, by its header and its body.
 use Rattle.std.proofs.Common.{rules}
-use Rattle.wkb_write.proofs.Prelude.{◌≡◌, ℕ, ◌+◌, ◌*◌, ◌^◌, ◌<◌, ◌≤◌, List, [], ◌∷◌, length, Option, None, Result}
-use Rattle.wkb_write.proofs.Prelude.{Ok, refl, ap, arith, sum_by, sum_by-cons, Dimensions, size}
-use Rattle.wkb_write.proofs.Prelude.{Fault, Geometry, fault, first_fault, or_else, dimensions_fault}
-use Rattle.wkb_write.proofs.Prelude.{count_below, none_both, none_first, none_rest, byte_size, Finds, Measures, Measure}
-use Rattle.wkb_write.proofs.Prelude.{parts_fault, parts_size, bytes_behind_header}
-use Rattle.wkb_geom.specs.Geometries.{point, multi_point}
-use Rattle.wkb_geom.specs.Geometries.{rectangle, triangle, line, dimensions_of}
+use Rattle.wkb_write.proofs.Prelude.{List, sum_by-cons, first_fault, dimensions_fault, count_below, bytes_behind_header}
+use Rattle.wkb_write.proofs.Prelude.{Dimensions, none_both, none_first, none_rest, byte_size, parts_fault, parts_size}
+use Rattle.wkb_write.proofs.Prelude.{length, Option, Result, arith, sum_by, Fault, Geometry, or_else, Measures, Measure}
+use Rattle.wkb_write.proofs.Prelude.{◌≡◌, ℕ, ◌+◌, ◌*◌, ◌^◌, ◌<◌, ◌≤◌, [], ◌∷◌, None, Ok, refl, ap, size, fault, Finds}
+use Rattle.wkb_geom.specs.Geometries.{point, multi_point, rectangle, triangle, line, dimensions_of}
 use Rattle.wkb_geom.specs.Sizes.{ring_size}
-use Rattle.wkb_write.specs.Bodies.{coordinate_words, ring_bytes, point_measure}
-use Rattle.wkb_write.specs.Bodies.{body_fault, size_by_parts}
+use Rattle.wkb_write.specs.Bodies.{coordinate_words, ring_bytes, point_measure, body_fault, size_by_parts}
 use Rattle.wkb_write.specs.Counted.{HasFaultlessBody, HasMeasures, ItemList}
 use Rattle.wkb_write.specs.Measures.{IsMeasured}
 use Rattle.wkb_write.proofs.Faults.{reports_first, reports_rest}

@@ -1,9 +1,8 @@
 -- What a writer returns, from what the size under its options returned.
-use Rattle.wkb_write.proofs.Prelude.{◌≡◌, ℕ, ◌<◌, ◌^◌, Bool, List, length, Option, None, Result, Ok, Err, subst, ◌⊎◌}
-use Rattle.wkb_write.proofs.Prelude.{IsErrAnd, Form, WkbError, TellsFault, Geometry, IsGeometry, fault, IsForm}
-use Rattle.wkb_write.proofs.Prelude.{[], arith, refl, none_first, none_both, Fault, WriteOptions, encoding_of, IsSized}
-use Rattle.std.proofs.Common.{rules}
-use Rattle.std.specs.Prelude.{IfErr, IfOk}
+use Rattle.wkb_write.specs.Prelude.{TellsFault, Geometry, IsGeometry, fault, IsForm, encoding_of, IsSized, Reports}
+use Rattle.wkb_write.proofs.Prelude.{ℕ, length, Option, Result, IsErrAnd, WkbError, none_first, none_both, WriteOptions}
+use Rattle.wkb_write.proofs.Prelude.{◌≡◌, ◌<◌, ◌^◌, Bool, List, None, Ok, Err, subst, ◌⊎◌, Form, [], arith, refl, Fault}
+use Rattle.std.proofs.Common.{rules, IfErr, IfOk}
 use Rattle.wkb_geom.specs.declared.common.Endianness.TheVariants.{LittleEndian}
 use Rattle.wkb_laws.proofs.Rewritings.{encoding_spells_lem}
 use Rattle.wkb_write.proofs.Sizes.{measured_length, size_without_fault}
@@ -12,7 +11,6 @@ use Rattle.std.specs.declared.io.Error.{Error}
 use Rattle.std.specs.Io.KnownBytes.{Appends}
 use Rattle.wkb_sink.specs.Sinks.{IsBegun, IsOwnError, Puts, PutsOrStops, TellsFailure}
 use Rattle.wkb_write.specs.Answers.{fault_of, IsSpelledAs, OutgrowsSlice, TellsPut, Writes}
-use Rattle.wkb_write.specs.Measures.{Reports}
 
 -- where there is a size there is no fault
 pub no_fault : (form : Form) (g : Geometry) (r : Result ℕ Fault) → IsSized form g r → IfOk r (λ n. fault g ≡ None)

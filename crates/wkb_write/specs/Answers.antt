@@ -1,24 +1,18 @@
 -- What a size and a writer return.
-use Rattle.std.specs.Prelude.{◌≡◌, ◌<◌, ◌++◌, ◌⊎◌, ℕ, drop, length, Bool, List, Option, Some, None, Result}
-use Rattle.std.specs.Prelude.{Ok, MatchResult, IsErrAnd, IfOk, IfErr, Vec}
+use Rattle.std.specs.Prelude.{◌≡◌, ◌<◌, ◌++◌, ◌⊎◌, ℕ, drop, length, Bool, List, Option, Some, None, Result, Ok}
+use Rattle.std.specs.Prelude.{MatchResult, IsErrAnd, IfOk, IfErr, Vec}
 use Rattle.std.specs.Global.{Global}
 use Rattle.std.specs.declared.io.Error.{Error}
 use Rattle.std.specs.Io.KnownBytes.{Appends}
-use Rattle.wkb_geom.specs.declared.common.Endianness.{Endianness}
-use Rattle.wkb_geom.specs.declared.common.Form.{Form}
+use Rattle.wkb_laws.specs.Prelude.{Endianness, Form, Geometry, IsGeometry, normal, Value, Spelling, Spells, Fault}
 use Rattle.wkb_geom.specs.declared.error.WkbError.{WkbError}
 use Rattle.wkb_geom.specs.Errors.{IsMemory, TellsFault}
-use Rattle.wkb_geom.specs.Geometries.{Geometry, IsGeometry, normal}
-use Rattle.wkb_geom.specs.Values.{Value}
-use Rattle.wkb_geom.specs.Spellings.{Spelling, Spells}
 use Rattle.wkb_geom.specs.Encodings.{fault, fault_under, encoding, form_with_flags}
 use Rattle.wkb_laws.specs.Written.{HasOptions}
 use Rattle.wkb_write.specs.Measures.{Reports, Finds}
-use Rattle.wkb_geom.specs.declared.error.Fault.{Fault}
 use Rattle.wkb_sink.specs.Puts.{PutsTo}
 use Rattle.wkb_sink.specs.Sinks.{IsOwnError, Puts, TellsFailure}
-use Rattle.wkb_sink.specs.declared.sink.Sink.{Ghosts}
-use Rattle.wkb_sink.specs.declared.options.WriteOptions.{WriteOptions}
+use Rattle.wkb_sink.specs.declared.{sink.Sink.Ghosts, options.WriteOptions.WriteOptions}
 
 -- a geometry's one encoding under some options
 abbrev pub encoding_of : WriteOptions → Geometry → List ℕ

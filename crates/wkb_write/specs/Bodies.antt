@@ -1,17 +1,11 @@
 -- A geometry's first fault after its header, and the size of the bytes there, by its parts.
-use Rattle.wkb_geom.specs.declared.error.Fault.{Fault}
+use Rattle.wkb_laws.specs.Prelude.{Fault, Dimensions, Form, size, Coordinate, byte_size, byte_sizes, or_else}
+use Rattle.wkb_laws.specs.Prelude.{count_fault, first_fault, coordinates_fault, fault, fault_each, count_geometries}
 use Rattle.std.specs.Prelude.{◌≡◌, ℕ, ◌+◌, ◌-◌, ◌*◌, min, List, length, map, Option, None, MatchOption}
 use Rattle.std.specs.Borrow.{Bor}
 use Rattle.std.specs.List.{sum_by}
-use Rattle.wkb_geom.specs.declared.common.Dimensions.{Dimensions}
-use Rattle.wkb_geom.specs.declared.common.Form.{Form}
-use Rattle.wkb_geom.specs.Dimensions.{size}
-use Rattle.wkb_geom.specs.Values.{Coordinate}
 use Rattle.wkb_geom.specs.Geometries.{Geometry, point, line_string, polygon, multi_point, multi_line_string}
 use Rattle.wkb_geom.specs.Geometries.{multi_polygon, collection, rectangle, triangle, line, geometries}
-use Rattle.wkb_geom.specs.Sizes.{byte_size, byte_sizes}
-use Rattle.wkb_geom.specs.Encodings.{or_else, count_fault, first_fault, coordinates_fault, fault, fault_each}
-use Rattle.wkb_geom.specs.Encodings.{count_geometries}
 use Rattle.wkb_sink.specs.Options.{header_size}
 
 -- the first fault and the size of a part

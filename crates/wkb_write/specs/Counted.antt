@@ -1,20 +1,13 @@
 -- A count, and that many items: how they are measured and encoded.
 use Rattle.std.specs.Prelude.{◌≡◌, ℕ, List, ◌++◌, None, length, slice_get, IfSome, Result}
 use Rattle.std.specs.List.{flat_map}
-use Rattle.wkb_geom.specs.declared.common.Dimensions.{Dimensions}
-use Rattle.wkb_geom.specs.declared.common.Endianness.{Endianness}
-use Rattle.wkb_geom.specs.declared.code.WkbType.{WkbType}
-use Rattle.wkb_geom.specs.Encodings.{coordinates_encoding}
+use Rattle.wkb_laws.specs.Prelude.{Dimensions, Endianness, WkbType, coordinates_encoding, number_bytes, Coordinate}
 use Rattle.wkb_geom.specs.Geometries.{Geometry, dimensions_of}
-use Rattle.wkb_geom.specs.Numbers.{number_bytes}
-use Rattle.wkb_geom.specs.Values.{Coordinate}
 use Rattle.wkb_sink.specs.Options.{header_of, inner_options}
-use Rattle.wkb_sink.specs.declared.options.WriteOptions.{WriteOptions}
+use Rattle.wkb_sink.specs.declared.{options.WriteOptions.WriteOptions, buffered.Buffered.Buffered}
+use Rattle.wkb_sink.specs.declared.{buffered.Stopped.Stopped, sink.Sink.Ghosts}
 use Rattle.wkb_write.specs.Answers.{encoding_of}
 use Rattle.wkb_sink.specs.Progress.{Lays}
-use Rattle.wkb_sink.specs.declared.buffered.Buffered.{Buffered}
-use Rattle.wkb_sink.specs.declared.buffered.Stopped.{Stopped}
-use Rattle.wkb_sink.specs.declared.sink.Sink.{Ghosts}
 use Rattle.wkb_write.specs.declared.measure.Measured.{Measured}
 use Rattle.wkb_write.specs.Bodies.{Measure, body_fault, parts_fault, parts_measure, parts_size, ring_measure}
 use Rattle.wkb_write.specs.Bodies.{size_by_parts}

@@ -1,12 +1,9 @@
 -- What makes a geometry impossible to write, and its size.
-use Rattle.std.specs.Prelude.{◌≡◌, ℕ, ◌+◌, ◌-◌, ◌^◌, min, Option, Some, None, Result, Ok, Err, MatchResult}
-use Rattle.std.specs.Prelude.{MatchOption}
-use Rattle.wkb_geom.specs.declared.common.Dimensions.{Dimensions}
+use Rattle.std.specs.Prelude.{◌≡◌, ℕ, ◌+◌, ◌-◌, ◌^◌, min, Option, Some, None, Result, Ok, Err, MatchResult, MatchOption}
+use Rattle.wkb_laws.specs.Prelude.{Dimensions, fault, count_fault, dimensions_fault, Fault}
 use Rattle.wkb_geom.specs.declared.error.WkbError.{WkbError}
 use Rattle.wkb_geom.specs.Errors.{TellsFault}
 use Rattle.wkb_geom.specs.Geometries.{Geometry, IsGeometry, dimensions_of}
-use Rattle.wkb_geom.specs.Encodings.{fault, count_fault, dimensions_fault}
-use Rattle.wkb_geom.specs.declared.error.Fault.{Fault}
 use Rattle.wkb_geom.specs.declared.error.Fault.TheVariants as fault
 use Rattle.wkb_write.specs.declared.measure.Measured.{Measured}
 use Rattle.wkb_write.specs.declared.measure.Measured.TheVariants as measured
