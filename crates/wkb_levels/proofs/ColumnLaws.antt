@@ -5,8 +5,7 @@ use Rattle.std.proofs.lemmas.Bool.{false≢true}
 use Rattle.std.proofs.lemmas.List.{drop-drop, take-take, drop-take}
 use Rattle.wkb_geom.specs.declared.common.Dimensions.{Dimensions}
 use Rattle.wkb_geom.specs.Dimensions.{size}
-use Rattle.wkb_levels.specs.declared.ends.Ends.{Ends}
-use Rattle.wkb_levels.specs.declared.levels.Levels.{Levels}
+use Rattle.wkb_levels.specs.declared.{ends.Ends.Ends, levels.Levels.Levels}
 use Rattle.wkb_levels.specs.Cuts.{start_at, AreEnds, pieces_from}
 use Rattle.wkb_levels.specs.EndLists.{start_of, ends_of, begin_of, AreEndsWithin}
 use Rattle.wkb_levels.specs.RingLists.{rings_in}

@@ -2,8 +2,7 @@
 use Rattle.std.proofs.Common.{◌≡◌, ℕ, ◌+◌, ◌≤◌, max, subst, ap, arith, ◌⊎◌, inl, inr}
 use Rattle.std.proofs.lemmas.Bool.{cases_eq}
 use Rattle.wkb_geom.specs.declared.common.Dimensions.{Dimensions}
-use Rattle.wkb_levels.specs.declared.levels.Levels.{Levels}
-use Rattle.wkb_levels.specs.declared.levels.Place.{Place}
+use Rattle.wkb_levels.specs.declared.{levels.Levels.Levels, levels.Place.Place}
 use Rattle.wkb_levels.specs.Columns.{EndUpTo, IsLevelFloor, IsFloor, row_end, rings_end}
 use Rattle.wkb_levels.specs.Columns.{SpansSingles, SpansRings, SpansCoordinates, coordinates_end}
 

@@ -1,13 +1,10 @@
 -- What became of a row, from what its writer and its size returned.
 use Rattle.std.proofs.Common.{arith, ◌≡◌, ℕ, ◌<◌, List, None, length, refl, sym, ap, ◌∙◌, inl, inr}
 use Rattle.std.proofs.lemmas.Option.{none-some, same_Some}
-use Rattle.wkb_geom.specs.declared.common.Dimensions.{Dimensions}
-use Rattle.wkb_geom.specs.declared.error.WkbError.{WkbError}
-use Rattle.wkb_geom.specs.Geometries.{Geometry}
+use Rattle.wkb_geom.specs.declared.{common.Dimensions.Dimensions, error.WkbError.WkbError}
 use Rattle.wkb_sink.specs.declared.options.WriteOptions.{WriteOptions}
-use Rattle.wkb_write.specs.Prelude.{encoding_of, fault_of, IsInFront, IsSliceError, Reports}
-use Rattle.wkb_levels.specs.declared.levels.Levels.{Levels}
-use Rattle.wkb_levels.specs.declared.row.Kind.{Kind}
+use Rattle.wkb_write.specs.Prelude.{encoding_of, fault_of, IsInFront, IsSliceError, Reports, Geometry}
+use Rattle.wkb_levels.specs.declared.{levels.Levels.Levels, row.Kind.Kind}
 use Rattle.wkb_levels.specs.declared.write.Written.TheVariants as written
 use Rattle.wkb_levels.specs.Meant.{IsLevelRow}
 use Rattle.wkb_levels.specs.RowWrites.{IsRowWrite, put, lacks, unfit}

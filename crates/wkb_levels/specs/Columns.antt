@@ -3,9 +3,7 @@ use Rattle.std.specs.Prelude.{ℕ, ◌+◌, ◌-◌, ◌<◌, ◌/◌, ◌≤◌
 use Rattle.std.specs.List.{AllByRecursion}
 use Rattle.wkb_geom.specs.declared.common.Dimensions.{Dimensions}
 use Rattle.wkb_geom.specs.Dimensions.{size}
-use Rattle.wkb_levels.specs.declared.ends.Ends.{Ends}
-use Rattle.wkb_levels.specs.declared.levels.Levels.{Levels}
-use Rattle.wkb_levels.specs.declared.levels.Place.{Place}
+use Rattle.wkb_levels.specs.declared.{ends.Ends.Ends, levels.Levels.Levels, levels.Place.Place}
 use Rattle.wkb_levels.specs.Cuts.{AreEnds, pieces_from}
 use Rattle.wkb_levels.specs.EndLists.{start_of, ends_of, begin_of}
 use Rattle.wkb_levels.specs.RingLists.{rings_in}

@@ -7,9 +7,7 @@ use Rattle.wkb_geom.specs.Geometries.{IsPoint, IsCoordinate, AreCoordinates, IsG
 use Rattle.wkb_plain.specs.Kinds.{line_string_coordinates}
 use Rattle.wkb_plain.specs.Runs.{coordinates_in}
 use Rattle.wkb_plain.specs.Lawful.{point_lawful, line_string_lawful, coordinates_in-lawful}
-use Rattle.wkb_levels.specs.declared.points.Points.{Points}
-use Rattle.wkb_levels.specs.declared.polygons.Polygons.{Polygons}
-use Rattle.wkb_levels.specs.declared.rings.Rings.{Rings}
+use Rattle.wkb_levels.specs.declared.{points.Points.Points, polygons.Polygons.Polygons, rings.Rings.Rings}
 use Rattle.wkb_levels.specs.declared.single.Single.{Single}
 use Rattle.wkb_levels.specs.declared.single.Single.TheVariants as singles
 use Rattle.wkb_levels.specs.Cuts.{pieces_from}

@@ -5,15 +5,11 @@ use Rattle.wkb_geom.specs.declared.common.Dimensions.{Dimensions}
 use Rattle.wkb_geom.specs.Geometries.{Geometry, point, line_string, polygon, multi_point, multi_line_string}
 use Rattle.wkb_geom.specs.Geometries.{multi_polygon}
 use Rattle.wkb_plain.specs.Kinds.{point_dimensions, point_coordinate, line_string_dimensions, line_string_coordinates}
-use Rattle.wkb_levels.specs.declared.polygons.Polygons.{Polygons}
-use Rattle.wkb_levels.specs.declared.rings.Rings.{Rings}
-use Rattle.wkb_levels.specs.declared.single.Single.{Single}
+use Rattle.wkb_levels.specs.declared.{polygons.Polygons.Polygons, rings.Rings.Rings, single.Single.Single, row.Row.Row}
+use Rattle.wkb_levels.specs.declared.{row.Kind.Kind, levels.Levels.Levels}
 use Rattle.wkb_levels.specs.declared.single.Single.TheVariants as singles
-use Rattle.wkb_levels.specs.declared.row.Row.{Row}
 use Rattle.wkb_levels.specs.declared.row.Row.TheVariants as rows
-use Rattle.wkb_levels.specs.declared.row.Kind.{Kind}
 use Rattle.wkb_levels.specs.declared.row.Kind.TheVariants as kinds
-use Rattle.wkb_levels.specs.declared.levels.Levels.{Levels}
 use Rattle.wkb_levels.specs.Columns.{AreRowLevels, IsClear, singles_of}
 use Rattle.wkb_levels.specs.Cuts.{only, only_each}
 use Rattle.wkb_levels.specs.RingLists.{rings_dimensions, rings_rings}

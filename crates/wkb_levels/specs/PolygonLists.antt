@@ -1,9 +1,7 @@
 -- What polygons one after another mean.
 use Rattle.std.specs.Prelude.{ℕ, List}
 use Rattle.wkb_geom.specs.declared.common.Dimensions.{Dimensions}
-use Rattle.wkb_levels.specs.declared.ends.Ends.{Ends}
-use Rattle.wkb_levels.specs.declared.polygons.Polygons.{Polygons}
-use Rattle.wkb_levels.specs.declared.rings.Rings.{Rings}
+use Rattle.wkb_levels.specs.declared.{ends.Ends.Ends, polygons.Polygons.Polygons, rings.Rings.Rings}
 use Rattle.wkb_levels.specs.Cuts.{pieces_from}
 use Rattle.wkb_levels.specs.EndLists.{start_of, ends_of}
 use Rattle.wkb_levels.specs.RingLists.{rings_dimensions, rings_rings}

@@ -3,8 +3,7 @@ use Rattle.std.specs.Prelude.{ℕ, ◌+◌, ◌/◌, ◌<◌, List, length}
 use Rattle.wkb_geom.specs.declared.common.Dimensions.{Dimensions}
 use Rattle.wkb_geom.specs.Dimensions.{size}
 use Rattle.wkb_plain.specs.Runs.{coordinates_in}
-use Rattle.wkb_levels.specs.declared.rings.Rings.{Rings}
-use Rattle.wkb_levels.specs.declared.ends.Ends.{Ends}
+use Rattle.wkb_levels.specs.declared.{rings.Rings.Rings, ends.Ends.Ends}
 use Rattle.wkb_levels.specs.Cuts.{pieces_from}
 use Rattle.wkb_levels.specs.EndLists.{start_of, ends_of, AreEndsWithin}
 

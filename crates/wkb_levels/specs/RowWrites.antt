@@ -1,12 +1,9 @@
 -- What becomes of a row that is written.
 use Rattle.std.specs.Prelude.{◌≡◌, ℕ, ◌<◌, ◌++◌, List, None, length, drop}
 use Rattle.wkb_geom.specs.declared.common.Dimensions.{Dimensions}
-use Rattle.wkb_geom.specs.Geometries.{Geometry}
 use Rattle.wkb_sink.specs.declared.options.WriteOptions.{WriteOptions}
-use Rattle.wkb_write.specs.Prelude.{encoding_of, fault_of}
-use Rattle.wkb_levels.specs.declared.levels.Levels.{Levels}
-use Rattle.wkb_levels.specs.declared.row.Kind.{Kind}
-use Rattle.wkb_levels.specs.declared.write.Written.{Written}
+use Rattle.wkb_write.specs.Prelude.{encoding_of, fault_of, Geometry}
+use Rattle.wkb_levels.specs.declared.{levels.Levels.Levels, row.Kind.Kind, write.Written.Written}
 use Rattle.wkb_levels.specs.declared.write.Written.TheVariants as written
 use Rattle.wkb_levels.specs.Meant.{IsLevelRow}
 

@@ -1,10 +1,7 @@
 -- The rows of a column one after another.
 use Rattle.std.specs.Prelude.{◌≡◌, ◌+◌, ◌≤◌, ◌<◌, length, Option, Some, None}
 use Rattle.wkb_geom.specs.declared.common.Dimensions.{Dimensions}
-use Rattle.wkb_levels.specs.declared.levels.Levels.{Levels}
-use Rattle.wkb_levels.specs.declared.row.Kind.{Kind}
-use Rattle.wkb_levels.specs.declared.row.Row.{Row}
-use Rattle.wkb_levels.specs.declared.rows.Rows.{Rows}
+use Rattle.wkb_levels.specs.declared.{levels.Levels.Levels, row.Kind.Kind, row.Row.Row, rows.Rows.Rows}
 use Rattle.wkb_levels.specs.EndLists.{ends_of}
 use Rattle.wkb_levels.specs.Meant.{FindsRow}
 
