@@ -1,7 +1,6 @@
 -- Readings one after the other, and their costs.
-use Rattle.wkb_view.proofs.Prelude.{◌≡◌, ◌+◌, ◌≤◌, ℕ, suc, List, [], ◌∷◌, Ok, refl, arith, one_turn, Reading, costs}
-use Rattle.wkb_view.proofs.Prelude.{done, and_then, repeated, ReadError, Counts, Spent, CanCount, Stops, next_turn}
-use Rattle.wkb_view.proofs.Prelude.{cost_of}
+use Rattle.wkb_view.proofs.Prelude.{◌≡◌, one_turn, Reading, and_then, repeated, ReadError, CanCount, next_turn, cost_of}
+use Rattle.wkb_view.proofs.Prelude.{◌+◌, ◌≤◌, ℕ, suc, List, [], ◌∷◌, Ok, refl, arith, costs, done, Counts, Spent, Stops}
 use Rattle.std.proofs.Common.{add_assoc}
 use Rattle.wkb_geom.specs.Reading.{◌⊕◌}
 use Rattle.wkb_view.specs.Prelude.{Cost}

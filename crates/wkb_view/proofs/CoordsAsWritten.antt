@@ -4,8 +4,7 @@ use Rattle.wkb_view.proofs.Prelude.{length-drop, take_all, Endianness, Dimension
 use Rattle.wkb_view.proofs.Prelude.{coordinate, coordinates, ring_in, AreBytes-take, AreBytes-drop}
 use Rattle.std.proofs.Common.{take-add}
 use Rattle.std.specs.List.{flat_map}
-use Rattle.wkb_geom.specs.Numbers.{number_bytes}
-use Rattle.wkb_geom.specs.Encodings.{words_encoding}
+use Rattle.wkb_laws.specs.Prelude.{number_bytes, words_encoding}
 use Rattle.wkb_laws.proofs.EncodingBytes.{number_is_bytes}
 use Rattle.wkb_laws.proofs.OneEncoding.{number_fixed}
 use Rattle.wkb_laws.proofs.Parts.{field_taken as number_taken}

@@ -1,21 +1,16 @@
 -- Views whose bytes are what is written of them.
 use Rattle.wkb_view.proofs.Prelude.{◌≡◌, ℕ, ◌+◌, ◌≤◌, List, [], ◌∷◌, length, map, take, drop, None, Some, false, refl}
 use Rattle.wkb_view.proofs.Prelude.{sym, ap, ◌∙◌, arith, slice_get, option_map, Bool, take_all, length-map}
-use Rattle.wkb_view.proofs.Prelude.{slice_get-map, get_or_from_slice_get, geometry_of, fault, in_full_lem}
-use Rattle.wkb_view.proofs.Prelude.{spelled_good, lawful-geometry_of, Endianness, Dimension, number, Layout, Item}
-use Rattle.wkb_view.proofs.Prelude.{Spelling, spellings, as_dimensions, list_of_spellings, BytesSpell}
-use Rattle.wkb_view.proofs.Prelude.{fitted_geometry-same}
+use Rattle.wkb_view.proofs.Prelude.{slice_get-map, get_or_from_slice_get, geometry_of, fault, in_full_lem, spelled_good}
+use Rattle.wkb_view.proofs.Prelude.{lawful-geometry_of, Endianness, Dimension, number, Layout, Item, Spelling}
+use Rattle.wkb_view.proofs.Prelude.{spellings, as_dimensions, list_of_spellings, BytesSpell, fitted_geometry-same}
 use Rattle.std.proofs.lemmas.List.{take_more_same}
 use Rattle.std.proofs.lemmas.Option.{slice_get_within}
-use Rattle.wkb_geom.specs.declared.common.Form.{Form}
-use Rattle.wkb_geom.specs.Values.{Value}
-use Rattle.wkb_geom.specs.Spellings.{node, spelling}
-use Rattle.wkb_geom.specs.Geometries.{Geometry}
+use Rattle.wkb_laws.specs.Prelude.{Form, Value, node, spelling, Geometry, written_dimension}
 use Rattle.wkb_geom.specs.Encodings.{inner, form_with_flags, code_of, encoding, IsForm}
 use Rattle.wkb_laws.specs.Written.{written, written_header, each_spelling}
 use Rattle.wkb_laws.proofs.EncodingBytes.{as_written}
 use Rattle.wkb_view.specs.Prelude.{Spellings, spelled_in, spelling_at, members_spelled}
-use Rattle.wkb_geom.specs.Dimensions.{written_dimension}
 use Rattle.wkb_laws.specs.Fits.{fitted_geometry}
 use Rattle.wkb_view.specs.BytesAsWritten.{IsSpelledAsWritten}
 use Rattle.wkb_view.proofs.Members.{spelled_each}

@@ -1,10 +1,9 @@
 -- Words and coordinates at their offsets.
-use Rattle.wkb_view.proofs.Prelude.{◌≡◌, ℕ, zero, suc, ◌+◌, ◌-◌, ◌*◌, ◌≤◌, ◌<◌, List, length, take, drop, Some, refl}
-use Rattle.wkb_view.proofs.Prelude.{sym, ap, ◌∙◌, get_or, arith, Bool, rules, slice_get, drop-drop, drop-take}
-use Rattle.wkb_view.proofs.Prelude.{get_or_from_slice_get, Endianness, Dimension, number, width, number-take}
-use Rattle.wkb_view.proofs.Prelude.{length-items, items, coordinate, coordinates, body_start, ring_in, Layout, is_nan}
-use Rattle.wkb_view.proofs.Prelude.{all_nan, point_of, point_item, srid_in, take_all, length-take, length-drop}
-use Rattle.wkb_view.proofs.Prelude.{AreBytes-take, AreBytes-drop}
+use Rattle.wkb_view.proofs.Prelude.{◌≡◌, get_or_from_slice_get, number-take, length-items, AreBytes-take, AreBytes-drop}
+use Rattle.wkb_view.proofs.Prelude.{Endianness, coordinate, coordinates, body_start, point_of, length-take, length-drop}
+use Rattle.wkb_view.proofs.Prelude.{slice_get, drop-drop, drop-take, Dimension, ring_in, all_nan, point_item, take_all}
+use Rattle.wkb_view.proofs.Prelude.{zero, length, get_or, arith, rules, number, width, items, Layout, is_nan, srid_in}
+use Rattle.wkb_view.proofs.Prelude.{ℕ, suc, ◌+◌, ◌-◌, ◌*◌, ◌≤◌, ◌<◌, List, take, drop, Some, refl, sym, ap, ◌∙◌, Bool}
 use Rattle.wkb_view.specs.Lawful.{number-lt}
 use Rattle.std.specs.Prelude.{is_none}
 use Rattle.std.proofs.Math.Nat.{mul-le-mul_right}

@@ -1,9 +1,8 @@
 -- Points, line strings and rings: what an encoding that was cut after them says, and what they cost.
-use Rattle.wkb_view.proofs.Prelude.{◌≡◌, ℕ, zero, suc, ◌-◌, ◌+◌, ◌≤◌, List, [], ◌∷◌, length, take, drop, Option, Some}
-use Rattle.wkb_view.proofs.Prelude.{None, Ok, refl, sym, ap, ◌∙◌, length-take, length-drop, arith, Endianness}
-use Rattle.wkb_view.proofs.Prelude.{Dimension, Layout, number, number-take, Item, Outcome, Reading, head_at, consumed}
-use Rattle.wkb_view.proofs.Prelude.{member_layout, member_at, then_body, IsEncoding, IsMemberOfKind, member_item}
-use Rattle.wkb_view.proofs.Prelude.{Passed}
+use Rattle.wkb_view.proofs.Prelude.{length-take, length-drop, number-take, member_layout, IsMemberOfKind, member_item}
+use Rattle.wkb_view.proofs.Prelude.{Endianness, Dimension, Outcome, Reading, consumed, member_at, then_body, IsEncoding}
+use Rattle.wkb_view.proofs.Prelude.{◌≡◌, zero, List, length, take, drop, Option, arith, Layout, number, head_at, Passed}
+use Rattle.wkb_view.proofs.Prelude.{ℕ, suc, ◌-◌, ◌+◌, ◌≤◌, [], ◌∷◌, Some, None, Ok, refl, sym, ap, ◌∙◌, Item}
 use Rattle.wkb_geom.specs.Reading.{order_of_byte, head_by_order}
 use Rattle.wkb_view.specs.Prelude.{ring_end, member_body}
 use Rattle.wkb_view.specs.Members.{item_of, layout_said}

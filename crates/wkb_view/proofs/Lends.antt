@@ -3,13 +3,11 @@ use Rattle.wkb_view.proofs.Prelude.{◌≡◌, ap, ◌<◌, ◌≤◌, ℕ, List
 use Rattle.wkb_view.proofs.Prelude.{geometry_of, in_full_lem, point_value, fitted_geometry-same, AreBytes, BytesSpell}
 use Rattle.wkb_view.proofs.Prelude.{Endianness, Item, point_seen, line_string_seen, multi_point_seen, LineString}
 use Rattle.std.proofs.Common.{◌^◌}
-use Rattle.wkb_geom.specs.Fronts.{max_nesting}
-use Rattle.wkb_geom.specs.Values.{nest}
+use Rattle.wkb_laws.specs.Prelude.{max_nesting, nest}
 use Rattle.wkb_laws.proofs.Lengths.{front_is_writable_lem}
 use Rattle.wkb_view.specs.Lends.{IsFront, Lends, AreSlice}
 use Rattle.wkb_view.specs.Prelude.{LittleEndian}
-use Rattle.wkb_view.specs.declared.multi_point.MultiPoint.{MultiPoint}
-use Rattle.wkb_view.specs.declared.point.Point.{Point}
+use Rattle.wkb_view.specs.declared.{multi_point.MultiPoint.MultiPoint, point.Point.Point}
 use Rattle.wkb_view.proofs.Items.{point_encoding_is}
 
 pub lends : (w : Item) (bytes : List ℕ) → bytes ≡ w.encoding → BytesSpell w → nest w.value ≤ max_nesting

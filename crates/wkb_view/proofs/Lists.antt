@@ -1,10 +1,9 @@
 -- Parts read one after the other, as a loop does, and lists of them after a count.
 use Rattle.wkb_view.proofs.Prelude.{◌≡◌, ℕ, suc, ◌+◌, ◌-◌, ◌≤◌, ◌<◌, List, [], ◌∷◌, ◌++◌, Ok, refl, ap, arith, Bool}
-use Rattle.wkb_view.proofs.Prelude.{length, drop, append-nil, Cause, ReadError, one_turn, Outcome, Reading, costs}
-use Rattle.wkb_view.proofs.Prelude.{done, count_in, and_then, repeated, Layout, Item, number, multi_point_end}
-use Rattle.wkb_view.proofs.Prelude.{slots_asked, consumed, body_start, parts_start, list_item, member_at}
-use Rattle.wkb_view.proofs.Prelude.{multi_point_with, Counts, Spent, next_turn, cost_of, CanCount, Stops}
-use Rattle.wkb_view.proofs.Prelude.{entries_asked, HasNoList}
+use Rattle.wkb_view.proofs.Prelude.{length, drop, append-nil, Cause, ReadError, one_turn, Outcome, Reading, costs, done}
+use Rattle.wkb_view.proofs.Prelude.{count_in, and_then, repeated, Layout, Item, number, multi_point_end, slots_asked}
+use Rattle.wkb_view.proofs.Prelude.{consumed, body_start, parts_start, list_item, member_at, multi_point_with, Counts}
+use Rattle.wkb_view.proofs.Prelude.{Spent, next_turn, cost_of, CanCount, Stops, entries_asked, HasNoList}
 use Rattle.std.proofs.Common.{append_assoc, cond, ltb}
 use Rattle.wkb_view.specs.Prelude.{refused, end_of_input, free, list_at}
 use Rattle.wkb_view.specs.Members.{parts_behind}

@@ -1,12 +1,11 @@
 -- Members in lists.
-use Rattle.wkb_view.proofs.Prelude.{◌≡◌, ℕ, zero, suc, List, [], ◌∷◌, ◌++◌, map, Option, Some, None, refl, ap, ◌∙◌}
-use Rattle.wkb_view.proofs.Prelude.{subst, ◌+◌, ◌-◌, ◌*◌, ◌≤◌, ◌<◌, length, Bor, take, drop, false, Ok, length-drop}
-use Rattle.wkb_view.proofs.Prelude.{length-take, arith, rules, slice_get, option_map, IfSome, slice_get-map}
-use Rattle.wkb_view.proofs.Prelude.{length-map, polygon, Dimension, as_dimensions, Spelling, Coordinate, Listed, Item}
-use Rattle.wkb_view.proofs.Prelude.{spellings, polygon_of, Layout, multi_point_end, body_start, point_of, consumed}
-use Rattle.wkb_view.proofs.Prelude.{member_layout, list_of_spellings, fitted_parts, fitted_line_strings, polygon_items}
-use Rattle.wkb_view.proofs.Prelude.{IsEncoding, IsMemberOfKind, member_item, members_in, point_ends, points_in, pieces}
-use Rattle.wkb_view.proofs.Prelude.{Passed, member_dimension}
+use Rattle.wkb_view.proofs.Prelude.{Spelling, multi_point_end, list_of_spellings, fitted_line_strings, member_dimension}
+use Rattle.wkb_view.proofs.Prelude.{slice_get-map, polygon, as_dimensions, member_layout, polygon_items, IsMemberOfKind}
+use Rattle.wkb_view.proofs.Prelude.{Option, length-drop, length-take, option_map, length-map, fitted_parts, member_item}
+use Rattle.wkb_view.proofs.Prelude.{slice_get, Coordinate, polygon_of, body_start, IsEncoding, members_in, point_ends}
+use Rattle.wkb_view.proofs.Prelude.{length, IfSome, Dimension, Listed, spellings, Layout, point_of, consumed, points_in}
+use Rattle.wkb_view.proofs.Prelude.{◌≡◌, zero, List, ◌++◌, Some, None, refl, subst, false, arith, rules, pieces, Passed}
+use Rattle.wkb_view.proofs.Prelude.{ℕ, suc, [], ◌∷◌, map, ap, ◌∙◌, ◌+◌, ◌-◌, ◌*◌, ◌≤◌, ◌<◌, Bor, take, drop, Ok, Item}
 use Rattle.std.specs.Prelude.{IsOk}
 use Rattle.std.specs.List.{AllByRecursion}
 use Rattle.wkb_view.specs.Prelude.{whole_of, laid}

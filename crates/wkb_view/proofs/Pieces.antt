@@ -1,9 +1,8 @@
 -- Parts of one form one after another, by the offsets at which they end.
-use Rattle.wkb_view.proofs.Prelude.{◌≡◌, ℕ, suc, zero, Option, ◌-◌, ◌+◌, ◌≤◌, ◌<◌, List, [], ◌∷◌, length, take, drop}
-use Rattle.wkb_view.proofs.Prelude.{map, Some, None, refl, sym, ap, subst, ◌∙◌, get_or, arith, ◌/◌, ◌*◌, ◌++◌, Ok}
-use Rattle.wkb_view.proofs.Prelude.{length-append, length-drop, length-take, slice_get, option_map, length-map}
-use Rattle.wkb_view.proofs.Prelude.{drop-drop, drop-take, slice_get-map, Reading, consumed, pieces, Passed, Counts}
-use Rattle.wkb_view.proofs.Prelude.{Spent, next_turn}
+use Rattle.wkb_view.proofs.Prelude.{◌≡◌, length-append, length-drop, length-take, option_map, length-map, slice_get-map}
+use Rattle.wkb_view.proofs.Prelude.{zero, Option, length, slice_get, drop-drop, drop-take, Reading, consumed, next_turn}
+use Rattle.wkb_view.proofs.Prelude.{List, take, drop, Some, None, subst, get_or, arith, pieces, Passed, Counts, Spent}
+use Rattle.wkb_view.proofs.Prelude.{ℕ, suc, ◌-◌, ◌+◌, ◌≤◌, ◌<◌, [], ◌∷◌, map, refl, sym, ap, ◌∙◌, ◌/◌, ◌*◌, ◌++◌, Ok}
 use Rattle.std.proofs.lemmas.List.{take-take}
 use Rattle.std.proofs.lemmas.Option.{slice_get_past}
 use Rattle.wkb_view.specs.Pieces.{ArePieces, AreInOrder, IsPiece}

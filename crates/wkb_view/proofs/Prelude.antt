@@ -17,21 +17,19 @@ pub use Rattle.wkb_laws.proofs.Values.{spelled_good, lawful-geometry_of}
 pub use Rattle.wkb_view.specs.Coords.{ring_seen}
 pub use Rattle.wkb_view.specs.Entries.{entries_asked, HasNoList, entries, capacity}
 pub use Rattle.wkb_laws.specs.Fits.{fitted_line_strings, fitted_parts}
-pub use Rattle.wkb_view.specs.Lawful.{AreBytes-take, AreBytes-drop, fitted_geometry-same, point_value}
-pub use Rattle.wkb_view.specs.Lawful.{member_dimension, ring_lawful}
+pub use Rattle.wkb_view.specs.Lawful.{AreBytes-take, AreBytes-drop, fitted_geometry-same, point_value, member_dimension}
+pub use Rattle.wkb_view.specs.Lawful.{ring_lawful}
 pub use Rattle.wkb_view.specs.Members.{polygon_laid, polygon_seen, IsEncoding, IsMemberOfKind, member_item}
 pub use Rattle.wkb_view.specs.Members.{polygon_items, members_in, point_ends, points_in, multi_line_string_seen}
 pub use Rattle.wkb_view.specs.Members.{members_behind, multi_polygon_seen, AreOfDimension}
 pub use Rattle.wkb_view.specs.Outcome.{Spent, CanCount, Stops, next_turn, cost_of}
 pub use Rattle.wkb_view.specs.Pieces.{pieces, Passed}
-pub use Rattle.wkb_view.specs.Prelude.{one_turn, Reading, costs, done, and_then, ReadError, Dimension, width}
-pub use Rattle.wkb_view.specs.Prelude.{as_dimensions, Layout, Listed, Coordinate, AreBytes, BytesSpell, body_start}
-pub use Rattle.wkb_view.specs.Prelude.{Endianness, items, coordinate, coordinates, ring_in, Item, Spelling, spellings}
-pub use Rattle.wkb_view.specs.Prelude.{list_of_spellings, number-take, length-items, is_nan, all_nan, point_of}
-pub use Rattle.wkb_view.specs.Prelude.{point_item, srid_in, Outcome, consumed, member_layout, member_at, then_body}
-pub use Rattle.wkb_view.specs.Prelude.{Cause, count_in, multi_point_end, slots_asked, parts_start, list_item}
-pub use Rattle.wkb_view.specs.Prelude.{multi_point_with, polygon_of}
+pub use Rattle.wkb_view.specs.Prelude.{as_dimensions, coordinates, list_of_spellings, multi_point_end, multi_point_with}
+pub use Rattle.wkb_view.specs.Prelude.{Coordinate, number-take, length-items, member_layout, slots_asked, parts_start}
+pub use Rattle.wkb_view.specs.Prelude.{one_turn, BytesSpell, body_start, Endianness, coordinate, point_item, polygon_of}
+pub use Rattle.wkb_view.specs.Prelude.{done, and_then, ReadError, Dimension, spellings, member_at, then_body, list_item}
+pub use Rattle.wkb_view.specs.Prelude.{Reading, AreBytes, ring_in, Spelling, all_nan, point_of, consumed, count_in}
+pub use Rattle.wkb_view.specs.Prelude.{costs, width, Layout, Listed, items, Item, is_nan, srid_in, Outcome, Cause}
 unfoldable pub use Rattle.wkb_view.specs.Prelude.{number, repeated, head_at}
 pub use Rattle.wkb_view.specs.Views.{point_seen, line_string_seen, multi_point_seen}
-pub use Rattle.wkb_view.specs.declared.counts.Counts.{Counts}
-pub use Rattle.wkb_view.specs.declared.line_string.LineString.{LineString}
+pub use Rattle.wkb_view.specs.declared.{counts.Counts.Counts, line_string.LineString.LineString}

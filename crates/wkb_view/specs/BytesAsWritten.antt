@@ -1,7 +1,6 @@
 -- Geometries whose bytes in memory are what is written of them.
 use Rattle.std.specs.Prelude.{◌≡◌, Bool, Option, IsSome, MatchOption}
-use Rattle.wkb_geom.specs.declared.common.Form.{Form}
-use Rattle.wkb_geom.specs.Geometries.{geometry_of}
+use Rattle.wkb_laws.specs.Prelude.{Form, geometry_of}
 use Rattle.wkb_geom.specs.Encodings.{form_srid, form_with_flags}
 use Rattle.wkb_laws.specs.Written.{written}
 use Rattle.wkb_view.specs.Prelude.{Endianness, AreBytes, Item}

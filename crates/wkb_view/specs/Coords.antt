@@ -2,11 +2,9 @@
 use Rattle.std.specs.Prelude.{◌≡◌, ℕ, ◌+◌, ◌*◌, List, take, drop, Option, IfSome}
 use Rattle.std.specs.Borrow.{Bor}
 use Rattle.std.specs.List.{flat_map}
-use Rattle.wkb_geom.specs.Encodings.{words_encoding}
-use Rattle.wkb_geom.specs.Spellings.{SpellsCoordinate, SpellsCoordinates}
+use Rattle.wkb_laws.specs.Prelude.{words_encoding, SpellsCoordinate, SpellsCoordinates}
 use Rattle.wkb_view.specs.Prelude.{Dimension, Endianness, Coordinate, width, coordinate, ring_in}
-use Rattle.wkb_view.specs.declared.coord.Coord.{Coord}
-use Rattle.wkb_view.specs.declared.linear_ring.LinearRing.{LinearRing}
+use Rattle.wkb_view.specs.declared.{coord.Coord.Coord, linear_ring.LinearRing.LinearRing}
 
 -- what is seen in a view
 abbrev pub words_seen : Coord → Coordinate

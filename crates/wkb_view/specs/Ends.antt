@@ -6,8 +6,7 @@ use Rattle.wkb_geom.specs.declared.header.TheConstants.{MIN_MEMBER_SIZE}
 use Rattle.wkb_geom.specs.declared.words.TheConstants.{COUNT_SIZE}
 use Rattle.wkb_view.specs.Prelude.{Layout, Item, Reading, Cause, ReadError, list_at, slots_asked, body_start, consumed}
 use Rattle.wkb_view.specs.Prelude.{ring_part, polygon_item, member_at, list_item, multi_line_string_with}
-use Rattle.wkb_view.specs.declared.counts.Counts.{Counts}
-use Rattle.wkb_view.specs.declared.reserved.Reserved.{Reserved}
+use Rattle.wkb_view.specs.declared.{counts.Counts.Counts, reserved.Reserved.Reserved}
 use Rattle.wkb_view.specs.Entries.{entries}
 use Rattle.wkb_view.specs.Members.{parts_behind, pieces_behind, IsMemberOfKind, member_item}
 use Rattle.wkb_view.specs.Outcome.{CountsOutcome, CountsOrStops}

@@ -1,10 +1,6 @@
 -- What `buf` of every view says: the bytes that it lends, and all that reading found of their geometry.
 use Rattle.std.specs.Prelude.{◌≡◌, ℕ, ◌<◌, ◌^◌, List, length}
-use Rattle.wkb_geom.specs.declared.common.Form.TheVariants.{Iso}
-use Rattle.wkb_geom.specs.Encodings.{IsWritable}
-use Rattle.wkb_geom.specs.Fronts.{Front}
-use Rattle.wkb_geom.specs.Geometries.{Geometry, geometry_of, IsGeometry, normal}
-use Rattle.wkb_geom.specs.Values.{Value}
+use Rattle.wkb_laws.specs.Prelude.{Iso, IsWritable, Front, Geometry, geometry_of, IsGeometry, normal, Value}
 use Rattle.wkb_laws.specs.Fits.{fitted_geometry}
 use Rattle.wkb_view.specs.Prelude.{AreBytes, BytesSpell, Endianness, Item}
 

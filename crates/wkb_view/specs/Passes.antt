@@ -4,8 +4,7 @@ use Rattle.std.specs.Borrow.{Bor}
 use Rattle.wkb_geom.specs.declared.code.TheConstants.{POINT}
 use Rattle.wkb_view.specs.Prelude.{Dimension, Layout, Cause, Reading, done, refused, consumed}
 use Rattle.wkb_view.specs.Prelude.{member_at, Item, Listed, Coordinate, multi_point_end}
-use Rattle.wkb_view.specs.declared.counts.Counts.{Counts}
-use Rattle.wkb_view.specs.declared.reserved.Reserved.{Reserved}
+use Rattle.wkb_view.specs.declared.{counts.Counts.Counts, reserved.Reserved.Reserved}
 use Rattle.wkb_view.specs.Entries.{entries}
 use Rattle.wkb_view.specs.Members.{member_item, members_behind, points_in, polygon_items}
 use Rattle.wkb_view.specs.Outcome.{CountsOutcome}

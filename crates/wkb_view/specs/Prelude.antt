@@ -1,14 +1,11 @@
 -- The names that most files of this crate need, passed on from one place.
-pub use Rattle.wkb_geom.specs.declared.common.Endianness.{Endianness}
-pub use Rattle.wkb_geom.specs.declared.common.Endianness.TheVariants.{BigEndian, LittleEndian}
-pub use Rattle.wkb_geom.specs.declared.common.Dimension.{Dimension}
-pub use Rattle.wkb_geom.specs.declared.common.Dimension.TheVariants.{Xy, Xyz, Xym, Xyzm}
-pub use Rattle.wkb_geom.specs.declared.code.WkbType.{WkbType}
-pub use Rattle.wkb_geom.specs.declared.header.Head.{Head}
-pub use Rattle.wkb_geom.specs.declared.header.Layout.{Layout}
-pub use Rattle.wkb_geom.specs.declared.error.Cause.{Cause}
-pub use Rattle.wkb_geom.specs.declared.error.Cause.TheVariants.{EndOfInput as end_of_input}
+pub use Rattle.wkb_geom.specs.declared.{common.Endianness.Endianness, common.Endianness.TheVariants.BigEndian}
+pub use Rattle.wkb_geom.specs.declared.{common.Endianness.TheVariants.LittleEndian, common.Dimension.Dimension}
+pub use Rattle.wkb_geom.specs.declared.{common.Dimension.TheVariants.Xy, common.Dimension.TheVariants.Xyz}
+pub use Rattle.wkb_geom.specs.declared.{common.Dimension.TheVariants.Xym, common.Dimension.TheVariants.Xyzm}
+pub use Rattle.wkb_geom.specs.declared.{code.WkbType.WkbType, header.Head.Head, header.Layout.Layout, error.Cause.Cause}
 pub use Rattle.wkb_geom.specs.declared.error.ReadError.{ReadError}
+pub use Rattle.wkb_geom.specs.declared.error.Cause.TheVariants.{EndOfInput as end_of_input}
 pub use Rattle.wkb_geom.specs.declared.error.ReadError.TheVariants as read_errors
 unfoldable pub use Rattle.wkb_geom.specs.Numbers.{number}
 pub use Rattle.wkb_geom.specs.Numbers.{is_nan, all_nan, AreBytes, IsWord}

@@ -5,9 +5,7 @@ use Rattle.std.specs.Borrow.{Bor}
 use Rattle.wkb_geom.specs.declared.code.TheConstants.{POLYGON}
 use Rattle.wkb_view.specs.Prelude.{Dimension, Layout, Cause, ReadError, Listed, Coordinate, polygon_at, multi_point_at}
 use Rattle.wkb_view.specs.Prelude.{multi_line_string_at, multi_polygon_at, member_at}
-use Rattle.wkb_view.specs.declared.counts.Counts.{Counts}
-use Rattle.wkb_view.specs.declared.multi_point.MultiPoint.{MultiPoint}
-use Rattle.wkb_view.specs.declared.reserved.Reserved.{Reserved}
+use Rattle.wkb_view.specs.declared.{counts.Counts.Counts, multi_point.MultiPoint.MultiPoint, reserved.Reserved.Reserved}
 use Rattle.wkb_view.specs.Members.{polygon_seen, multi_line_string_seen, multi_polygon_seen, members_behind}
 use Rattle.wkb_view.specs.Outcome.{IsReadCounted, IsReadOrStops}
 use Rattle.wkb_view.specs.Passes.{polygons_seen}

@@ -1,8 +1,6 @@
 -- How bytes spell a geometry.
 use Rattle.std.specs.Prelude.{ℕ, Option}
-use Rattle.wkb_geom.specs.declared.common.Endianness.{Endianness}
-use Rattle.wkb_geom.specs.Spellings.{Spelling, header, Spells}
-use Rattle.wkb_geom.specs.Reading.{Item}
+use Rattle.wkb_laws.specs.Prelude.{Endianness, Spelling, header, Spells, Item}
 
 -- the bytes of a geometry spell its value
 abbrev pub BytesSpell : Item → Type 0

@@ -1,10 +1,8 @@
 -- What the views of points, line strings and multi points mean.
 use Rattle.std.proofs.Common.{ℕ, ◌+◌, ◌*◌, List, take, drop, Option}
-use Rattle.wkb_view.specs.Prelude.{Layout, Dimension, Coordinate, width, Item, coordinate, point_item, point_of}
-use Rattle.wkb_view.specs.Prelude.{points_of, line_string_of, line_string_item, body_start, order_of, Spelling}
-use Rattle.wkb_view.specs.Prelude.{Endianness}
-use Rattle.wkb_view.specs.declared.point.Point.{Point}
-use Rattle.wkb_view.specs.declared.line_string.LineString.{LineString}
+use Rattle.wkb_view.specs.Prelude.{Coordinate, coordinate, point_item, line_string_of, line_string_item, body_start}
+use Rattle.wkb_view.specs.Prelude.{Layout, Dimension, width, Item, point_of, points_of, order_of, Spelling, Endianness}
+use Rattle.wkb_view.specs.declared.{point.Point.Point, line_string.LineString.LineString}
 use Rattle.wkb_view.specs.declared.multi_point.MultiPoint.{MultiPoint}
 use Rattle.wkb_view.specs.Coords.{coordinate_encoding}
 use Rattle.wkb_view.specs.Members.{stride, multi_point_item}
