@@ -5,14 +5,12 @@ use Rattle.wkb_abi.proofs.Common.{Dimension, Endianness, Spelling, Value, Subjec
 use Rattle.std.proofs.Common.{add-one, get_or, length-set}
 use Rattle.std.proofs.lemmas.List.{set_comm, set-set}
 use lib.Seq.{get_or-set_same}
-use Rattle.wkb_check.specs.Known.{AreWhole, HasGeometry, HasGeometries}
-use Rattle.wkb_check.specs.Subjects.{ring, subjects_of_rings}
+use Rattle.wkb_check.specs.Prelude.{AreWhole, HasGeometry, HasGeometries, ring, subjects_of_rings}
 use Rattle.wkb_check.specs.Pieces.{own_end, piece_of, piece_at, ring_piece, last_end, first_rings}
 use Rattle.wkb_check.proofs.Placing.{inner, itself_first, sets_after, end_append, end_onward, first_one, begun_at}
 use Rattle.wkb_check.proofs.Placing.{behind_geometry, inner_end}
 use Rattle.wkb_check.proofs.Rings.{next_ring}
-use Rattle.wkb_abi.specs.declared.parts.Part.{Part}
-use Rattle.wkb_abi.specs.declared.parts.PartPlace.{PartPlace}
+use Rattle.wkb_abi.specs.declared.{parts.Part.Part, parts.PartPlace.PartPlace}
 use Rattle.wkb_abi.specs.Tables.{entry_of, entry_at, entries_from, geometry_entries, EndsPart}
 
 pub width_is_small : (d : Dimension) → width d < 2 ^ 32

@@ -1,21 +1,18 @@
 -- How many coordinates, rings and singles a geometry has, by its kind.
-use Rattle.wkb_abi.proofs.Common.{◌≡◌, ℕ, ◌+◌, ◌<◌, List, [], ◌∷◌, ◌++◌, length, refl, sym, ap, ◌∙◌, arith}
-use Rattle.wkb_abi.proofs.Common.{length-append, Option, Dimension, Spelling, node, Spellings, no_spellings, spelling}
-use Rattle.wkb_abi.proofs.Common.{Spells, Wanted, SpellsEach, Coordinate, Value, point, line_string, polygon}
-use Rattle.wkb_abi.proofs.Common.{multi_point, multi_line_string, multi_polygon, collection, subst, member_count}
-use Rattle.wkb_abi.proofs.Common.{Endianness, HasGeometry, DescribesFront, Summary, Piece, Totals, Subject, subjects}
-use Rattle.wkb_abi.proofs.Common.{subjects_of_each}
-use Rattle.std.specs.Prelude.{sum, sum_by}
+use Rattle.wkb_abi.proofs.Common.{[], length-append, multi_line_string, multi_polygon, DescribesFront, subjects_of_each}
+use Rattle.wkb_abi.proofs.Common.{length, no_spellings, SpellsEach, line_string, multi_point, member_count, HasGeometry}
+use Rattle.wkb_abi.proofs.Common.{Dimension, Spelling, Spellings, spelling, Coordinate, polygon, collection, Endianness}
+use Rattle.wkb_abi.proofs.Common.{List, arith, Option, Spells, Wanted, Value, point, Summary, Totals, Subject, subjects}
+use Rattle.wkb_abi.proofs.Common.{◌≡◌, ℕ, ◌+◌, ◌<◌, ◌∷◌, ◌++◌, refl, sym, ap, ◌∙◌, node, subst, Piece}
 use Rattle.std.proofs.lemmas.Grind.{flat_map-append}
 use Rattle.std.proofs.lemmas.List.Sums.{sum_by-cons, sum_by-append}
-use Rattle.std.proofs.Common.{rules}
+use Rattle.std.proofs.Common.{rules, sum, sum_by}
 use Rattle.wkb_geom.specs.Values.{each}
 use Rattle.wkb_laws.proofs.OneFront.{one_spelling}
 use Rattle.wkb_geom.specs.Counted.{coordinate_count}
-use Rattle.wkb_check.specs.Pieces.{piece_of, IsPieceAt}
+use Rattle.wkb_check.specs.Prelude.{piece_of, IsPieceAt, subjects_of_rings}
 use Rattle.wkb_abi.specs.Coordinates.{ring_counts, single_counts, AreTotals}
 use Rattle.wkb_abi.specs.PieceLevels.{ring_number, single_number}
-use Rattle.wkb_check.specs.Subjects.{subjects_of_rings}
 
 -- these subjects have so many coordinates, rings and singles
 abbrev Count : List Subject → ℕ → ℕ → ℕ → Type 0

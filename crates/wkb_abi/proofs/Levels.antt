@@ -2,20 +2,18 @@
 use Rattle.wkb_abi.proofs.Common.{◌≡◌, ℕ, zero, suc, ◌+◌, ◌*◌, ◌≤◌, ◌<◌, ◌^◌, List, [], ◌∷◌, ◌++◌, length, drop}
 use Rattle.wkb_abi.proofs.Common.{slice_index, refl, ap, sym, ◌∙◌, arith, append_assoc, append-nil, length-append}
 use Rattle.wkb_abi.proofs.Common.{drop-drop, Dimension, width, number, Coordinate, Spelling, node, Spellings}
-use Rattle.wkb_abi.proofs.Common.{no_spellings, spelling, Value, Values, no_members, member, members, dimension}
-use Rattle.wkb_abi.proofs.Common.{sets, length-sets, Endianness, HasGeometry, Piece, levels_of, Totals, Subject}
-use Rattle.wkb_abi.proofs.Common.{subjects, subjects_of_each, kind, subst, false, set}
-use Rattle.std.specs.Prelude.{sum, flat_map, nat_lt, Bool, cond}
-use Rattle.std.proofs.Common.{length-set}
+use Rattle.wkb_abi.proofs.Common.{no_spellings, spelling, Value, Values, no_members, member, members, dimension, sets}
+use Rattle.wkb_abi.proofs.Common.{length-sets, Endianness, HasGeometry, Piece, levels_of, Totals, Subject, subjects}
+use Rattle.wkb_abi.proofs.Common.{subjects_of_each, kind, subst, false, set}
+use Rattle.std.proofs.Common.{length-set, sum, flat_map, nat_lt, Bool, cond}
 use Rattle.std.proofs.lemmas.List.Sums.{sum_by-cons, sum_by-append}
 use Rattle.std.proofs.lemmas.Option.{slice_get-get_or}
-use Rattle.wkb_geom.specs.Items.{length-items}
-use Rattle.wkb_geom.specs.Reading.{coordinate, coordinates, items}
+use Rattle.wkb_laws.specs.Prelude.{length-items, coordinate, coordinates, items}
 use Rattle.wkb_laws.proofs.OneFront.{one_spelling}
 use Rattle.wkb_laws.proofs.Parts.{item_at}
-use Rattle.wkb_check.specs.Pieces.{piece_at, subject_pieces, own_end, all_pieces, IsAhead, IsTaken, IsPieceAt}
-use Rattle.wkb_check.specs.Pieces.{OnlyMember}
+use Rattle.wkb_check.specs.Prelude.{piece_at, subject_pieces, own_end, IsAhead, IsTaken, IsPieceAt, OnlyMember}
 use Rattle.wkb_check.specs.declared.pieces.Pieces.{Pieces}
+use Rattle.wkb_check.specs.Pieces.{all_pieces}
 use Rattle.wkb_check.proofs.Placing.{sets_after, itself_first}
 use Rattle.wkb_abi.specs.Coordinates.{words_asked, asked_subject_words, ring_counts, single_counts, ends, totals_after}
 use Rattle.wkb_abi.specs.Coordinates.{LevelLists, with_levels, HasRoomUpTo}

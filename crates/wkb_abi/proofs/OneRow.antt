@@ -1,10 +1,8 @@
 -- What holds of one row of a column: it has one list of bytes, and no two answers.
 use Rattle.std.proofs.Common.{arith, rules}
-use Rattle.wkb_abi.proofs.Common.{◌≡◌, ◌≢◌, ℕ, List, Some, None, IsAccepted, IsRow, IsRefusedWith, Column, Options}
+use Rattle.wkb_abi.proofs.Common.{◌≡◌, ℕ, List, IsAccepted, IsRow, IsRefusedWith, Column}
 use Rattle.wkb_laws.proofs.Outcomes.{never_both_lem}
 use Rattle.wkb_abi.specs.Columns.{LacksRow, null_row, bad_offsets}
-use Rattle.wkb_abi.specs.Requests.{request_of}
-use Rattle.wkb_abi.specs.declared.options.Request.{Request}
 
 -- a row has one list of bytes
 pub one_row : {c : Column} {i : ℕ} {a b : List ℕ} → IsRow c i a → IsRow c i b → a ≡ b
@@ -17,7 +15,3 @@ never_lacks is (bad_offsets some none is_status) = none _ is.slice
 -- what is accepted isn't rejected
 pub never_refused : {row : List ℕ} {status : ℕ} → IsAccepted row → IsRefusedWith row status → ⊥
 never_refused {row} a why = search (rules, never_both_lem)
-
--- what is asked for is not nothing
-pub is_asked : (o : Options) (request : Request) → request_of o ≡ Some request → request_of o ≢ None
-is_asked o request asked none = cc

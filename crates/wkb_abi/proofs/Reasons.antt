@@ -2,8 +2,7 @@
 use Rattle.wkb_abi.proofs.Common.{ℕ, Option, arith, Column, RowFails, Options, NO_ROOM}
 use Rattle.wkb_abi.specs.LevelRows.{LacksLevels}
 use Rattle.wkb_abi.specs.Writings.{FailsToWrite}
-use Rattle.wkb_abi.specs.declared.level_column.LevelColumn.{LevelColumn}
-use Rattle.wkb_abi.specs.declared.level_column.LevelTarget.{LevelTarget}
+use Rattle.wkb_abi.specs.declared.{level_column.LevelColumn.LevelColumn, level_column.LevelTarget.LevelTarget}
 
 -- the status of a row without items is another
 abbrev pub TellsOther : (ℕ → ℕ → Type 0) → Type 0

@@ -1,20 +1,17 @@
 -- Items that are laid into lists row by row, and that with room for the totals no row lacks room.
 use Rattle.wkb_abi.proofs.Common.{◌≡◌, ℕ, zero, suc, ◌+◌, ◌*◌, ◌≤◌, ◌<◌, ◌^◌, List, length, drop, Some, refl, sym, ap}
 use Rattle.wkb_abi.proofs.Common.{◌∙◌, subst, arith, Dimension, width, set, sets, sets-eq, length-sets, ◌-◌}
-use Rattle.wkb_abi.proofs.Common.{DescribesFront, Summary, IsRow, Column, Totals, OK, NO_ROOM, subjects}
-use Rattle.wkb_abi.proofs.Common.{length-append, append_assoc, levels_of, HasGeometry, here}
-use Rattle.std.specs.Prelude.{flat_map, take, sum, nat_lt, if◌then◌else◌}
-use Rattle.std.proofs.Common.{length-take, mul-add, lt-ltb, rules}
-use Rattle.std.proofs.lemmas.Bool.{le-ltb}
+use Rattle.wkb_abi.proofs.Common.{DescribesFront, Summary, IsRow, Column, Totals, OK, NO_ROOM, subjects, length-append}
+use Rattle.wkb_abi.proofs.Common.{append_assoc, levels_of, HasGeometry, here}
+use Rattle.std.proofs.Common.{length-take, mul-add, lt-ltb, rules, flat_map, take, sum, nat_lt, if◌then◌else◌, le-ltb}
 use Rattle.std.proofs.lemmas.List.{take_at, drop_at, take-take, drop-take, length-take-le}
 use Rattle.std.proofs.lemmas.Slice.{drop-append-drop}
 use borrow.Author.Count.{below_more, below_none}
 use lib.Seq.{get_or-set_same, get_or-set_other}
 use Rattle.wkb_geom.specs.Codes.{dimension_of_thousands}
-use Rattle.wkb_abi.specs.Coordinates.{LevelLists, HasRoomUpTo, LevelsSuffice, totals_after, ring_counts}
-use Rattle.wkb_abi.specs.Coordinates.{no_totals, Level, of_words, of_rings, of_singles, list_of, many_in, items_of}
-use Rattle.wkb_abi.specs.Coordinates.{AreLaid, written, no_room, IsCoordinatesRow, handed, failed}
-use Rattle.wkb_abi.specs.Coordinates.{AreColumnCoordinates, IsCoordinatesStep}
+use Rattle.wkb_abi.specs.Coordinates.{LevelsSuffice, list_of, IsCoordinatesRow, AreColumnCoordinates, IsCoordinatesStep}
+use Rattle.wkb_abi.specs.Coordinates.{LevelLists, HasRoomUpTo, totals_after, ring_counts, no_totals, of_singles, handed}
+use Rattle.wkb_abi.specs.Coordinates.{Level, of_words, of_rings, many_in, items_of, AreLaid, written, no_room, failed}
 use Rattle.wkb_abi.specs.LevelLists.{LaysAny, LaysLevels}
 use Rattle.wkb_abi.specs.RowItems.{HoldsItems, KeepsFrom, end_of}
 use Rattle.wkb_abi.specs.declared.level_slices.LevelSlices.{LevelSlices}

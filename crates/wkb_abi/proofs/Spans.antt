@@ -1,8 +1,7 @@
 -- How far the rows of a column reach, so that no two of them overlap.
 use Rattle.wkb_abi.proofs.Common.{◌≡◌, ℕ, zero, suc, ◌+◌, ◌<◌, ◌≤◌, ◌⊎◌, inl, inr, List, [], length, ap, arith, ◌-◌}
 use Rattle.wkb_abi.proofs.Common.{Column, IsRow}
-use Rattle.std.specs.Prelude.{max, drop}
-use Rattle.std.proofs.lemmas.List.{length-take}
+use Rattle.std.proofs.Common.{max, drop, length-take}
 use borrow.Author.Count.{below_more}
 use Rattle.wkb_abi.specs.Columns.{IsSpan, HasNoSpan, EndBy, IsReach, RowsFollow, RowsFit, total_length}
 

@@ -1,13 +1,11 @@
 -- What the C library reports of a result of the check.
-use Rattle.wkb_abi.proofs.Common.{◌≡◌, ◌≢◌, ℕ, List, arith, Value, header, Spelling}
-use Rattle.wkb_abi.proofs.Common.{node, Spells, Piece, HasGeometry, DescribesFront, Summary, IsAccepted, IsRefusedWith}
+use Rattle.wkb_abi.proofs.Common.{◌≡◌, ◌≢◌, ℕ, List, arith, Value, header, Spelling, node, Spells, Piece, HasGeometry}
+use Rattle.wkb_abi.proofs.Common.{DescribesFront, Summary, IsAccepted, IsRefusedWith}
 use Rattle.std.proofs.Common.{rules}
-use Rattle.wkb_geom.specs.Fronts.{Front}
-use Rattle.wkb_geom.specs.Grammar.{Begins}
-use Rattle.wkb_check.specs.Pieces.{leading, count_of, piece_of, HeaderIs}
-use Rattle.wkb_check.specs.Public.{IsRefusedFor}
+use Rattle.wkb_laws.specs.Prelude.{Front, Begins}
+use Rattle.wkb_check.specs.Prelude.{leading, count_of, piece_of, HeaderIs, HaveOneValue, HaveTwoValues}
 use Rattle.wkb_check.specs.declared.answer.Refused.{Refused}
-use Rattle.wkb_check.specs.Inputs.{HaveOneValue, HaveTwoValues}
+use Rattle.wkb_check.specs.Public.{IsRefusedFor}
 use Rattle.wkb_abi.specs.Checks.{IsFound}
 use Rattle.wkb_abi.specs.declared.found.Found.{Found}
 use Rattle.wkb_abi.specs.EnumNumbers.{AreRefusals, OthersTellNoEnd}

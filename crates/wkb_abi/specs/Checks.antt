@@ -1,17 +1,12 @@
 -- What `wkb_check` reports of the geometry at the start of an input.
 use Rattle.std.specs.Prelude.{◌≡◌, ◌≢◌, ℕ, suc, List, length, is_some, unwrap_or}
 use mir.Val.{bool_byte as from_bool}
-use Rattle.wkb_geom.specs.Codes.{thousands}
-use Rattle.wkb_geom.specs.Dimensions.{width}
-use Rattle.wkb_geom.specs.Numbers.{order_byte}
-use Rattle.wkb_geom.specs.Values.{Value, kind, dimension, member_count}
-use Rattle.wkb_geom.specs.Spellings.{Spelling, header}
+use Rattle.wkb_laws.specs.Prelude.{thousands, width, order_byte, Value, kind, dimension, member_count, Spelling, header}
 use Rattle.wkb_geom.specs.Fronts.{Front}
 use Rattle.wkb_geom.specs.Counted.{coordinate_count}
 use Rattle.wkb_check.specs.Pieces.{count_of, leading}
-use Rattle.wkb_abi.specs.declared.fault.WkbFault.{WkbFault}
-use Rattle.wkb_abi.specs.declared.found.Found.{Found}
-use Rattle.wkb_abi.specs.declared.status.TheConstants.{OK, NO_MEMORY}
+use Rattle.wkb_abi.specs.declared.{fault.WkbFault.WkbFault, found.Found.Found, status.TheConstants.OK}
+use Rattle.wkb_abi.specs.declared.status.TheConstants.{NO_MEMORY}
 use Rattle.wkb_bounds.specs.Bounded.{BoundsFront}
 use Rattle.wkb_bounds.specs.declared.range.Bounds.{Bounds}
 use Rattle.wkb_abi.specs.Statuses.{IsFault}

@@ -4,11 +4,9 @@ use Rattle.std.specs.Prelude.{◌≡◌, ◌⊎◌, ℕ, ◌+◌, ◌-◌, ◌*�
 use Rattle.std.specs.Prelude.{Option, Some, None, zero, suc, [], drop, slice_get, slice_range, slice_index}
 use Rattle.std.specs.Prelude.{slice_index_or, nat_eq}
 use Rattle.wkb_check.specs.Inputs.{IsAccepted}
-use Rattle.wkb_geom.specs.Numbers.{number}
-use Rattle.wkb_geom.specs.declared.common.Endianness.TheVariants.{LittleEndian}
-use Rattle.wkb_abi.specs.declared.column.Column.{Column}
-use Rattle.wkb_abi.specs.declared.fault.WkbFault.{WkbFault}
-use Rattle.wkb_abi.specs.declared.status.TheConstants.{OK, NULL_ROW, BAD_OFFSETS}
+use Rattle.wkb_laws.specs.Prelude.{number, LittleEndian}
+use Rattle.wkb_abi.specs.declared.{column.Column.Column, fault.WkbFault.WkbFault, status.TheConstants.OK}
+use Rattle.wkb_abi.specs.declared.{status.TheConstants.NULL_ROW, status.TheConstants.BAD_OFFSETS}
 use Rattle.wkb_abi.specs.Statuses.{IsFault}
 
 -- whether this bit of a byte is 0, counted from the lowest; without a byte no bit is

@@ -4,18 +4,13 @@ use Rattle.std.specs.Prelude.{◌≡◌, ℕ, suc, ◌+◌, ◌*◌, ◌<◌, �
 use Rattle.std.specs.Prelude.{slice_index}
 use lib.Seq.{sets}
 use Rattle.wkb_geom.specs.Codes.{dimension_of_thousands}
-use Rattle.wkb_geom.specs.declared.common.Dimension.{Dimension}
-use Rattle.wkb_geom.specs.declared.common.Dimension.TheVariants.{Xy, Xyz, Xym, Xyzm}
-use Rattle.wkb_geom.specs.Dimensions.{width}
-use Rattle.wkb_geom.specs.Numbers.{empty_word}
+use Rattle.wkb_laws.specs.Prelude.{Dimension, Xy, Xyz, Xym, Xyzm, width, empty_word}
 use Rattle.wkb_geom.specs.Values.{Coordinate, point, line_string, polygon}
 use Rattle.wkb_abi.specs.Columns.{IsRow, LacksRow, IsRefusedWith}
-use Rattle.wkb_abi.specs.declared.column.Column.{Column}
+use Rattle.wkb_abi.specs.declared.{column.Column.Column, totals.Totals.Totals, status.TheConstants.OK}
+use Rattle.wkb_abi.specs.declared.{status.TheConstants.NO_ROOM, status.TheConstants.UNKNOWN_OPTION}
 use Rattle.wkb_abi.specs.RowItems.{end_of, HoldsItems, KeepsFrom, NoneLacksRoom}
-use Rattle.wkb_check.specs.Inputs.{IsAccepted}
-use Rattle.wkb_check.specs.Subjects.{Subject, whole, ring, dimension_in, subject_coordinates, subjects}
-use Rattle.wkb_abi.specs.declared.totals.Totals.{Totals}
-use Rattle.wkb_abi.specs.declared.status.TheConstants.{OK, NO_ROOM, UNKNOWN_OPTION}
+use Rattle.wkb_check.specs.Prelude.{IsAccepted, Subject, whole, ring, dimension_in, subject_coordinates, subjects}
 
 -- the z of a coordinate of this dimension
 abbrev pub z_of : Dimension → Coordinate → ℕ

@@ -2,23 +2,18 @@
 use Rattle.std.specs.Prelude.{◌≡◌, ℕ, List, Option, Some}
 use Rattle.wkb_check.specs.declared.pieces.TheConstants.{RING}
 use Rattle.wkb_geom.specs.Codes.{thousands, dimension_of_thousands}
-use Rattle.wkb_geom.specs.Numbers.{order_byte}
-use Rattle.wkb_geom.specs.Values.{Coordinate, Values, kind, point, line_string, polygon, multi_point, multi_line_string}
-use Rattle.wkb_geom.specs.Values.{multi_polygon, collection}
-use Rattle.wkb_geom.specs.declared.common.Dimension.{Dimension}
-use Rattle.wkb_geom.specs.declared.common.Dimension.TheVariants.{Xy, Xyz, Xym, Xyzm}
+use Rattle.wkb_laws.specs.Prelude.{order_byte, Coordinate, Values, kind, point, line_string, polygon, multi_point}
+use Rattle.wkb_laws.specs.Prelude.{multi_line_string, multi_polygon, collection, Dimension, Xy, Xyz, Xym, Xyzm, Cause}
 use Rattle.wkb_geom.specs.declared.common.Endianness.TheVariants.{BigEndian, LittleEndian}
-use Rattle.wkb_geom.specs.declared.error.Cause.{Cause}
 use Rattle.wkb_abi.specs.Classes.{IsRefusalStatus, IsShortStatus}
 use Rattle.wkb_abi.specs.Statuses.{cause_status, cause_fault}
 use Rattle.wkb_abi.specs.declared.numbers.TheConstants.{FIRST, SECOND, DIFFERENT, EQUAL}
 use Rattle.wkb_abi.specs.declared.options.TheConstants.{BIG_ENDIAN, LITTLE_ENDIAN, ISO, EWKB_OWN_SRID, EWKB_WITH_SRID}
 use Rattle.wkb_abi.specs.declared.options.TheConstants.{EWKB_WITHOUT_SRID}
-use Rattle.wkb_abi.specs.declared.status.TheConstants.{OK, NO_MEMORY, NO_ROOM, UNKNOWN_OPTION, TOO_MANY_ROWS, NULL_ROW}
-use Rattle.wkb_abi.specs.declared.status.TheConstants.{BAD_OFFSETS, BAD_LEVELS, SHORT_HEADER, INVALID_BYTE_ORDER}
-use Rattle.wkb_abi.specs.declared.status.TheConstants.{CODE_OUT_OF_RANGE, INCORRECT_TYPE, NESTING_DEPTH_EXCEEDED}
-use Rattle.wkb_abi.specs.declared.status.TheConstants.{SHORT_POINT, SHORT_LINE_STRING, SHORT_MULTI_POINT}
-use Rattle.wkb_abi.specs.declared.status.TheConstants.{SHORT_LINEAR_RING}
+use Rattle.wkb_abi.specs.declared.status.TheConstants.{INVALID_BYTE_ORDER, CODE_OUT_OF_RANGE, NESTING_DEPTH_EXCEEDED}
+use Rattle.wkb_abi.specs.declared.status.TheConstants.{NO_ROOM, SHORT_LINE_STRING, SHORT_MULTI_POINT, SHORT_LINEAR_RING}
+use Rattle.wkb_abi.specs.declared.status.TheConstants.{OK, UNKNOWN_OPTION, TOO_MANY_ROWS, SHORT_HEADER, INCORRECT_TYPE}
+use Rattle.wkb_abi.specs.declared.status.TheConstants.{NO_MEMORY, NULL_ROW, BAD_OFFSETS, BAD_LEVELS, SHORT_POINT}
 
 -- what a call returns
 pub record HaveStatusNumbers : Type 0 where

@@ -2,15 +2,12 @@
 use Rattle.std.specs.Prelude.{◌≡◌, ℕ, List, Some}
 use Rattle.wkb_geom.specs.Codes.{dimension_of_thousands}
 use Rattle.wkb_geom.specs.declared.common.Dimension.{Dimension}
-use Rattle.wkb_check.specs.Known.{HasGeometry}
+use Rattle.wkb_check.specs.Prelude.{HasGeometry, subjects}
 use Rattle.wkb_abi.specs.Coordinates.{LevelLists, levels, HasRoomUpTo, totals_after, with_levels, IsCoordinatesStep}
 use Rattle.wkb_abi.specs.Coordinates.{AreColumnCoordinates, LevelsSuffice}
 use Rattle.wkb_abi.specs.RowItems.{rows_of}
-use Rattle.wkb_check.specs.Subjects.{subjects}
 use Rattle.wkb_abi.specs.Columns.{IsRow}
-use Rattle.wkb_abi.specs.declared.column.Column.{Column}
-use Rattle.wkb_abi.specs.declared.level_slices.LevelSlices.{LevelSlices}
-use Rattle.wkb_abi.specs.declared.totals.Totals.{Totals}
+use Rattle.wkb_abi.specs.declared.{column.Column.Column, level_slices.LevelSlices.LevelSlices, totals.Totals.Totals}
 
 -- what they hold
 abbrev pub levels_of : LevelSlices → LevelLists

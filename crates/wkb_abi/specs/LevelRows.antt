@@ -5,10 +5,9 @@ use Rattle.wkb_levels.specs.RowWrites.{HasRowEncoding}
 use Rattle.wkb_abi.specs.Columns.{is_unset_bit}
 use Rattle.wkb_abi.specs.LevelTargets.{levels_in, target_asked}
 use Rattle.wkb_abi.specs.RowItems.{rows_of, AreRowAnswers, IsRowStep, KeepsAfter, LastEndSuffices}
-use Rattle.wkb_abi.specs.declared.level_column.LevelColumn.{LevelColumn}
-use Rattle.wkb_abi.specs.declared.level_column.LevelTarget.{LevelTarget}
-use Rattle.wkb_abi.specs.declared.options.Options.{Options}
-use Rattle.wkb_abi.specs.declared.status.TheConstants.{NULL_ROW, UNKNOWN_OPTION, BAD_LEVELS}
+use Rattle.wkb_abi.specs.declared.{level_column.LevelColumn.LevelColumn, level_column.LevelTarget.LevelTarget}
+use Rattle.wkb_abi.specs.declared.{options.Options.Options, status.TheConstants.NULL_ROW}
+use Rattle.wkb_abi.specs.declared.{status.TheConstants.UNKNOWN_OPTION, status.TheConstants.BAD_LEVELS}
 
 -- row i isn't null, and these bytes are its encoding as what is asked for
 pub record HasLevelEncoding (c : LevelColumn) (asked : Option LevelTarget) (i : ℕ) (bytes : List ℕ) : Type 0 where

@@ -1,19 +1,14 @@
 -- The levels that are given, and what each row of them is written as.
 use Rattle.std.specs.Prelude.{ℕ, length, Option, Some, None, ◌==◌, if◌then◌else◌}
-use Rattle.wkb_geom.specs.declared.common.Dimension.{Dimension}
+use Rattle.wkb_laws.specs.Prelude.{Dimension, as_dimensions}
 use Rattle.wkb_geom.specs.declared.code.TheConstants.{POINT, LINE_STRING, POLYGON, MULTI_POINT, MULTI_LINE_STRING}
 use Rattle.wkb_geom.specs.declared.code.TheConstants.{MULTI_POLYGON}
-use Rattle.wkb_geom.specs.Dimensions.{as_dimensions}
-use Rattle.wkb_levels.specs.declared.ends.Ends.TheVariants.{Each, At}
-use Rattle.wkb_levels.specs.declared.levels.Levels.{Levels}
-use Rattle.wkb_levels.specs.declared.levels.Place.{Place}
-use Rattle.wkb_levels.specs.declared.row.Kind.{Kind}
+use Rattle.wkb_levels.specs.declared.{ends.Ends.TheVariants.Each, ends.Ends.TheVariants.At, levels.Levels.Levels}
+use Rattle.wkb_levels.specs.declared.{levels.Place.Place, row.Kind.Kind}
 use Rattle.wkb_levels.specs.declared.row.Kind.TheVariants as kinds
 use Rattle.wkb_levels.specs.Columns.{IsFloor}
-use Rattle.wkb_abi.specs.declared.level_column.LevelColumn.{LevelColumn}
-use Rattle.wkb_abi.specs.declared.level_column.LevelTarget.{LevelTarget}
-use Rattle.wkb_abi.specs.declared.options.Options.{Options}
-use Rattle.wkb_abi.specs.declared.options.Request.{Request}
+use Rattle.wkb_abi.specs.declared.{level_column.LevelColumn.LevelColumn, level_column.LevelTarget.LevelTarget}
+use Rattle.wkb_abi.specs.declared.{options.Options.Options, options.Request.Request}
 use Rattle.wkb_geom.specs.Codes.{dimension_of_thousands}
 use Rattle.wkb_abi.specs.Requests.{request_of, options_for}
 

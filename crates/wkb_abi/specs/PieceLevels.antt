@@ -2,17 +2,10 @@
 use Rattle.std.specs.Prelude.{ℕ, ◌+◌, ◌-◌, ◌*◌, ◌^◌, ◌<◌, ◌≤◌, List, [], ◌∷◌, length, drop, sum, flat_map, nat_lt, ◌&&◌}
 use Rattle.std.specs.Prelude.{IsTrue, if◌then◌else◌}
 use lib.Seq.{sets}
-use Rattle.wkb_geom.specs.declared.common.Endianness.{Endianness}
-use Rattle.wkb_geom.specs.declared.common.Dimension.{Dimension}
+use Rattle.wkb_laws.specs.Prelude.{Endianness, Dimension, width, coordinate, coordinates}
 use Rattle.wkb_geom.specs.declared.code.TheConstants.{POLYGON}
-use Rattle.wkb_geom.specs.Dimensions.{width}
-use Rattle.wkb_geom.specs.Reading.{coordinate, coordinates}
-use Rattle.wkb_check.specs.declared.answer.Summary.{Summary}
-use Rattle.wkb_check.specs.declared.pieces.Piece.{Piece}
-use Rattle.wkb_check.specs.Known.{HasGeometry}
-use Rattle.wkb_check.specs.Pieces.{IsPieceAt}
-use Rattle.wkb_check.specs.Public.{DescribesFront}
-use Rattle.wkb_check.specs.Subjects.{subjects}
+use Rattle.wkb_check.specs.Prelude.{HasGeometry, IsPieceAt, DescribesFront, subjects}
+use Rattle.wkb_check.specs.declared.{answer.Summary.Summary, pieces.Piece.Piece}
 use Rattle.wkb_abi.specs.Coordinates.{LevelLists, words_asked, ends, AreTotals}
 use Rattle.wkb_abi.specs.RowItems.{end_of}
 use Rattle.wkb_abi.specs.declared.totals.Totals.{Totals}

@@ -1,9 +1,6 @@
 -- Which encoding is asked for.
 use Rattle.std.specs.Prelude.{ℕ, List, Option, Some, None, ◌==◌, if◌then◌else◌}
-use Rattle.wkb_geom.specs.declared.common.Endianness.{Endianness}
-use Rattle.wkb_geom.specs.declared.common.Endianness.TheVariants.{BigEndian, LittleEndian}
-use Rattle.wkb_geom.specs.declared.common.Form.TheVariants.{Iso, Ewkb}
-use Rattle.wkb_geom.specs.Encodings.{IsRewriting, IsRewritingWithSrid}
+use Rattle.wkb_laws.specs.Prelude.{Endianness, BigEndian, LittleEndian, Iso, Ewkb, IsRewriting, IsRewritingWithSrid}
 use Rattle.wkb_sink.specs.declared.options.WriteOptions.{WriteOptions}
 use Rattle.wkb_abi.specs.declared.options.TheConstants.{BIG_ENDIAN, LITTLE_ENDIAN, ISO, EWKB_OWN_SRID, EWKB_WITH_SRID}
 use Rattle.wkb_abi.specs.declared.options.TheConstants.{EWKB_WITHOUT_SRID}

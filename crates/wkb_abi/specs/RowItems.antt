@@ -2,13 +2,11 @@
 use Rattle.std.specs.Prelude.{◌≡◌, ℕ, ◌+◌, ◌-◌, ◌^◌, ◌<◌, ◌≤◌, List, length, drop, min, slice_range, slice_index}
 use lib.Seq.{sets}
 use Rattle.wkb_abi.specs.Columns.{IsRow, LacksRow, IsRefusedWith}
-use Rattle.wkb_abi.specs.declared.column.Column.{Column}
+use Rattle.wkb_abi.specs.declared.{column.Column.Column, options.Options.Options, parts.Part.Part}
+use Rattle.wkb_abi.specs.declared.{status.TheConstants.OK, status.TheConstants.NO_ROOM}
 use Rattle.wkb_abi.specs.Subjects.{HasTable}
 use Rattle.wkb_abi.specs.Writings.{HasEncoding, FailsToWrite}
-use Rattle.wkb_abi.specs.declared.options.Options.{Options}
-use Rattle.wkb_abi.specs.declared.parts.Part.{Part}
 use Rattle.wkb_levels.specs.Cuts.{start_at}
-use Rattle.wkb_abi.specs.declared.status.TheConstants.{OK, NO_ROOM}
 
 -- as many rows as both of these lists have entries for
 abbrev pub rows_of : {A : Type 0} → List ℕ → List A → ℕ

@@ -1,24 +1,20 @@
 -- The status of a refusal, and its numbers.
 use Rattle.std.specs.Prelude.{◌≡◌, ◌⊎◌, ℕ, ◌+◌, List, length}
-use Rattle.wkb_geom.specs.declared.error.General.{General}
-use Rattle.wkb_geom.specs.declared.error.General.TheVariants.{UnsupportedDimensions, CodeOutOfRange, InvalidByteOrder}
-use Rattle.wkb_geom.specs.declared.error.General.TheVariants.{ShortPoint, ShortLineString, ShortLinearRing}
-use Rattle.wkb_geom.specs.declared.error.General.TheVariants.{ShortMultiPoint}
-use Rattle.wkb_geom.specs.Spellings.{any}
+use Rattle.wkb_geom.specs.declared.{error.General.General, error.General.TheVariants.UnsupportedDimensions}
+use Rattle.wkb_geom.specs.declared.{error.General.TheVariants.CodeOutOfRange, error.Cause.Cause}
+use Rattle.wkb_laws.specs.Prelude.{InvalidByteOrder, ShortPoint, ShortLineString, ShortLinearRing, ShortMultiPoint, any}
 use Rattle.wkb_geom.specs.Fronts.{max_nesting}
-use Rattle.wkb_geom.specs.declared.error.Cause.{Cause}
 use Rattle.wkb_geom.specs.declared.error.Cause.TheVariants.{EndOfInput as end_of_input, General as general}
 use Rattle.wkb_geom.specs.declared.error.Cause.TheVariants.{IncorrectType as incorrect_type}
 use Rattle.wkb_geom.specs.declared.error.Cause.TheVariants.{NestingDepthExceeded as nesting_depth_exceeded}
 use Rattle.wkb_geom.specs.Refusals.{Refuses, left_in}
 use Rattle.wkb_check.specs.Public.{IsRefusedForWithin}
+use Rattle.wkb_check.specs.Prelude.{IsAccepted, HaveOneValue, HaveTwoValues}
 use Rattle.wkb_check.specs.declared.answer.Refused.{Refused}
-use Rattle.wkb_check.specs.Inputs.{IsAccepted, HaveOneValue, HaveTwoValues}
 use Rattle.wkb_abi.specs.Classes.{IsRefusalStatus}
-use Rattle.wkb_abi.specs.declared.status.TheConstants.{OK, NO_ROOM, UNKNOWN_OPTION, SHORT_HEADER, INVALID_BYTE_ORDER}
-use Rattle.wkb_abi.specs.declared.status.TheConstants.{CODE_OUT_OF_RANGE, INCORRECT_TYPE, NESTING_DEPTH_EXCEEDED}
-use Rattle.wkb_abi.specs.declared.status.TheConstants.{SHORT_POINT, SHORT_LINE_STRING, SHORT_MULTI_POINT}
-use Rattle.wkb_abi.specs.declared.status.TheConstants.{SHORT_LINEAR_RING}
+use Rattle.wkb_abi.specs.declared.status.TheConstants.{INVALID_BYTE_ORDER, CODE_OUT_OF_RANGE, NESTING_DEPTH_EXCEEDED}
+use Rattle.wkb_abi.specs.declared.status.TheConstants.{NO_ROOM, SHORT_LINE_STRING, SHORT_MULTI_POINT, SHORT_LINEAR_RING}
+use Rattle.wkb_abi.specs.declared.status.TheConstants.{OK, UNKNOWN_OPTION, SHORT_HEADER, INCORRECT_TYPE, SHORT_POINT}
 use Rattle.wkb_abi.specs.declared.numbers.TheConstants.{FIRST, SECOND, DIFFERENT, EQUAL}
 use Rattle.wkb_abi.specs.declared.fault.WkbFault.{WkbFault}
 

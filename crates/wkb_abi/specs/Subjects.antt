@@ -1,10 +1,6 @@
 -- Where the bytes and the words of the subjects of a table are.
 use Rattle.std.specs.Prelude.{◌≡◌, ℕ, suc, ◌+◌, ◌*◌, List, [], ◌∷◌, ◌++◌, length, drop, slice_get, Some}
-use Rattle.wkb_geom.specs.declared.common.Endianness.{Endianness}
-use Rattle.wkb_geom.specs.Fronts.{Front}
-use Rattle.wkb_geom.specs.Numbers.{number}
-use Rattle.wkb_geom.specs.Values.{Coordinate, Value, member_count}
-use Rattle.wkb_geom.specs.Spellings.{Spelling}
+use Rattle.wkb_laws.specs.Prelude.{Endianness, Front, number, Coordinate, Value, member_count, Spelling}
 use Rattle.wkb_check.specs.Subjects.{Subject, order_in, subject_coordinates, SpellsSubject, subjects}
 use Rattle.wkb_abi.specs.Tables.{geometry_entries}
 use Rattle.wkb_abi.specs.declared.parts.Part.{Part}

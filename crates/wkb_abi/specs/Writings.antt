@@ -1,10 +1,9 @@
 -- The bytes that an encoding is written into.
 use Rattle.std.specs.Prelude.{◌≡◌, ◌≢◌, ◌⊎◌, ◌↔◌, ℕ, ◌+◌, ◌≤◌, List, length, Some, None}
 use Rattle.wkb_abi.specs.Room.{AreWritten, FindsNoRoom}
-use Rattle.wkb_abi.specs.declared.options.Options.{Options}
-use Rattle.wkb_abi.specs.declared.options.Request.{Request}
-use Rattle.wkb_abi.specs.declared.fault.WkbFault.{WkbFault}
-use Rattle.wkb_abi.specs.declared.status.TheConstants.{OK, NO_ROOM, UNKNOWN_OPTION}
+use Rattle.wkb_abi.specs.declared.{options.Options.Options, options.Request.Request, fault.WkbFault.WkbFault}
+use Rattle.wkb_abi.specs.declared.{status.TheConstants.OK, status.TheConstants.NO_ROOM}
+use Rattle.wkb_abi.specs.declared.status.TheConstants.{UNKNOWN_OPTION}
 use Rattle.wkb_abi.specs.Columns.{IsRefusedWith}
 use Rattle.wkb_abi.specs.Requests.{request_of, IsRequested}
 use Rattle.wkb_abi.specs.Classes.{IsRefusalStatus, IsNoRefusal}

@@ -1,6 +1,5 @@
 use Rattle.wkb_abi.proofs.Common.{◌-◌, ◌+◌, ◌*◌, sets, number}
-use Rattle.wkb_geom.specs.Reading.{items}
-use Rattle.wkb_geom.specs.declared.common.Endianness.TheVariants.{LittleEndian}
+use Rattle.wkb_laws.specs.Prelude.{items, LittleEndian}
 use Rattle.wkb_abi.proofs.Levels.{PlainLeft}
 use Rattle.wkb_abi.proofs.level_slices.lay_words.Given as goal
 

@@ -1,6 +1,5 @@
 use Rattle.std.proofs.Common.{length, length-set, set, refl, sym, ◌∙◌, arith}
-use Rattle.wkb_geom.specs.declared.common.Dimension.TheVariants.{Xy}
-use Rattle.wkb_geom.specs.declared.common.Endianness.TheVariants.{BigEndian}
+use Rattle.wkb_geom.specs.declared.{common.Dimension.TheVariants.Xy, common.Endianness.TheVariants.BigEndian}
 use Rattle.wkb_check.proofs.Placing.{own_inside, onward, leaf_inside, rings_inside, members_inside, rings_alone}
 use Rattle.wkb_check.proofs.Placing.{none_of, inside_many, inner}
 use Rattle.wkb_check.specs.Subjects.{subjects}
