@@ -1,15 +1,15 @@
 -- Rows that are written in levels, and encoded again, are as they were.
-use Rattle.wkb_abi.proofs.Common.{◌≡◌, ℕ, suc, ◌+◌, ◌*◌, ◌≤◌, ◌<◌, ◌^◌, List, length, drop, Option, Some, None, refl}
-use Rattle.wkb_abi.proofs.Common.{sym, ap, ◌∙◌, subst, arith, Dimension, Spelling, Value, kind, dimension}
-use Rattle.wkb_abi.proofs.Common.{length-append, header, encoding, geometry_of, Endianness, subjects}
-use Rattle.std.specs.Prelude.{◌-◌, take, sum, flat_map, slice_range}
-use Rattle.std.proofs.Common.{take-append-drop}
+use Rattle.wkb_abi.proofs.Common.{◌≡◌, Dimension, Spelling, dimension, length-append, encoding, geometry_of, Endianness}
+use Rattle.wkb_abi.proofs.Common.{List, length, Option, subst, arith, Value, header, subjects}
+use Rattle.wkb_abi.specs.declared.{options.Options.Options, column.Column.Column, totals.Totals.Totals}
+use Rattle.wkb_abi.specs.declared.{level_column.LevelColumn.LevelColumn, level_column.LevelTarget.LevelTarget}
+use Rattle.wkb_abi.specs.declared.{options.Request.Request, options.Request.TheVariants.Encoding}
+use Rattle.wkb_abi.specs.declared.{options.Request.TheVariants.OwnSrid, options.TheConstants.EWKB_OWN_SRID}
+use Rattle.wkb_abi.proofs.Common.{ℕ, suc, ◌+◌, ◌*◌, ◌≤◌, ◌<◌, ◌^◌, drop, Some, None, refl, sym, ap, ◌∙◌, kind}
+use Rattle.std.proofs.Common.{take-append-drop, ◌-◌, take, sum, flat_map, slice_range}
 use Rattle.std.proofs.lemmas.Bool.Decides.{nat_tests}
 use Rattle.std.proofs.lemmas.List.{length-map}
-use Rattle.wkb_geom.specs.Dimensions.{as_dimensions}
-use Rattle.wkb_geom.specs.Fronts.{Front}
-use Rattle.wkb_geom.specs.Numbers.{AreBytes}
-use Rattle.wkb_geom.specs.declared.common.Form.TheVariants.{Ewkb}
+use Rattle.wkb_laws.specs.Prelude.{as_dimensions, Front, AreBytes, Ewkb}
 use Rattle.wkb_laws.proofs.Lengths.{named_width, width-least}
 use Rattle.wkb_laws.proofs.OneFront.{one_front_lem}
 use Rattle.wkb_laws.proofs.Values.{front_bytes, AreBytes-front, AreBytes-rest}
@@ -25,23 +25,14 @@ use Rattle.wkb_abi.specs.Requests.{IsRequested, request_of, options_for}
 use Rattle.wkb_abi.specs.RowItems.{HoldsItems, IsRowAnswer, handed, no_room, failed}
 use Rattle.wkb_column_laws.specs.ThereAndBack.{as_spelled, HasEmptyWords, bytes_of, AreGivenOn, IsLevelled}
 use Rattle.wkb_column_laws.specs.ThereAndBack.{BackAsSpelled, IsWrittenBack, ThereAndBack}
-use Rattle.wkb_abi.specs.declared.level_column.LevelColumn.{LevelColumn}
-use Rattle.wkb_abi.specs.declared.level_column.LevelTarget.{LevelTarget}
-use Rattle.wkb_abi.specs.declared.options.Options.{Options}
-use Rattle.wkb_abi.specs.declared.options.Request.{Request}
-use Rattle.wkb_abi.specs.declared.options.Request.TheVariants.{Encoding, OwnSrid}
-use Rattle.wkb_abi.specs.declared.options.TheConstants.{EWKB_OWN_SRID}
 use Rattle.wkb_abi.proofs.OneRow.{one_row}
 use Rattle.wkb_abi.proofs.Rooms.{rise_at}
 use Rattle.wkb_column_laws.proofs.ThereAndBackEncodings.{spelled_writable, same_encoding}
 use Rattle.wkb_column_laws.proofs.ThereAndBackKinds.{singles_in, gives, HaveWords, have_words, Means, singles_mean}
 use Rattle.wkb_column_laws.proofs.ThereAndBackLevels.{sizes_sum, joined, HoldsSingles, singles_are, levels_are}
 use Rattle.wkb_column_laws.proofs.ThereAndBackLevels.{spans_are}
-use Rattle.wkb_column_laws.proofs.ThereAndBackRows.{unscaled, rings_more, coordinates_more, row_there, given, at}
-use Rattle.wkb_column_laws.proofs.ThereAndBackRows.{fits_before, held_given, single_level, ring_level, BeginsAt}
-use Rattle.wkb_column_laws.proofs.ThereAndBackRows.{begins_at}
-use Rattle.wkb_abi.specs.declared.column.Column.{Column}
-use Rattle.wkb_abi.specs.declared.totals.Totals.{Totals}
+use Rattle.wkb_column_laws.proofs.ThereAndBackRows.{rings_more, coordinates_more, fits_before, held_given, single_level}
+use Rattle.wkb_column_laws.proofs.ThereAndBackRows.{unscaled, row_there, given, at, ring_level, BeginsAt, begins_at}
 
 -- a part of bytes is bytes
 range_bytes : (bytes : List ℕ) (start end : ℕ) → AreBytes bytes → AreBytes (slice_range bytes start end)

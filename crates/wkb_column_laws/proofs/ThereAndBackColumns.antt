@@ -1,6 +1,9 @@
 -- Columns whose rows are all null, or come back from their levels, come back as a whole.
 use Rattle.wkb_abi.proofs.Common.{◌≡◌, ℕ, zero, suc, ◌+◌, ◌≤◌, ◌<◌, List, [], ◌++◌, length, drop, Option, Some, refl}
 use Rattle.wkb_abi.proofs.Common.{sym, ap, ◌∙◌, subst, arith, Spelling, Value, slice_index}
+use Rattle.wkb_abi.specs.declared.{column.Column.Column, options.Options.Options, level_column.LevelColumn.LevelColumn}
+use Rattle.wkb_abi.specs.declared.{level_column.LevelTarget.LevelTarget, options.Request.Request}
+use Rattle.wkb_abi.specs.declared.{status.TheConstants.OK, status.TheConstants.NO_ROOM, status.TheConstants.NULL_ROW}
 use Rattle.std.specs.Prelude.{take, true}
 use lib.Seq.{take-add}
 use Rattle.wkb_geom.specs.Fronts.{Front}
@@ -11,15 +14,9 @@ use Rattle.wkb_abi.specs.LevelRows.{EncodeLevels, LacksLevels}
 use Rattle.wkb_abi.specs.Requests.{request_of}
 use Rattle.wkb_abi.specs.RowItems.{IsRowAnswer, RowFails, fails, has_no_row}
 use Rattle.wkb_abi.specs.Writings.{FailsToWrite, unknown, refused}
-use Rattle.wkb_abi.specs.declared.level_column.LevelColumn.{LevelColumn}
-use Rattle.wkb_abi.specs.declared.level_column.LevelTarget.{LevelTarget}
-use Rattle.wkb_abi.specs.declared.options.Request.{Request}
-use Rattle.wkb_abi.specs.declared.status.TheConstants.{OK, NO_ROOM, NULL_ROW}
 use Rattle.wkb_abi.proofs.OneRow.{one_row, never_lacks, never_refused}
 use Rattle.wkb_column_laws.specs.ThereAndBack.{ComesBack, stays_null, is_levelled, AreTheSame, ColumnsComeBack}
 use Rattle.wkb_column_laws.proofs.ThereAndBack.{there_and_back}
-use Rattle.wkb_abi.specs.declared.column.Column.{Column}
-use Rattle.wkb_abi.specs.declared.options.Options.{Options}
 
 -- a call gives a row this status, and writes these bytes of it
 record Tells (s : ℕ) (bytes : List ℕ) (status start end : ℕ) (out : List ℕ) : Type 0 where

@@ -1,20 +1,14 @@
 -- What bytes spell, with the words of its empty points, can be written; and where these are the words that are written
 -- of empty points, its encoding is that of the value.
 use Rattle.wkb_abi.proofs.Common.{◌≡◌, ℕ, suc, ◌<◌, ◌^◌, List, [], ◌∷◌, ◌++◌, length, Option, Some, None, refl, ap}
-use Rattle.wkb_abi.proofs.Common.{arith, Dimension, Coordinate, Spelling, node, Spellings, no_spellings}
-use Rattle.wkb_abi.proofs.Common.{spelling, Spells, SpellsEach, SpellsCoordinate, Value, point, multi_point, IsNumber}
-use Rattle.std.specs.Prelude.{map, flat_map}
+use Rattle.wkb_abi.proofs.Common.{arith, Dimension, Coordinate, Spelling, node, Spellings, no_spellings, spelling}
+use Rattle.wkb_abi.proofs.Common.{Spells, SpellsEach, SpellsCoordinate, Value, point, multi_point, IsNumber}
 use Rattle.std.specs.List.{AllByRecursion}
-use Rattle.std.proofs.Common.{lt-ltb}
+use Rattle.std.proofs.Common.{lt-ltb, map, flat_map}
 use Rattle.std.proofs.lemmas.List.{length-map}
-use Rattle.wkb_geom.specs.Dimensions.{as_dimensions, written_dimension}
+use Rattle.wkb_laws.specs.Prelude.{as_dimensions, written_dimension, IsEach, AreBytes, IsWord, part, each, Endianness}
 use Rattle.wkb_geom.specs.Encodings.{encoding, point_encoding, point_words, fault, or_else, size_fault, fault_under}
 use Rattle.wkb_geom.specs.Geometries.{geometry_of, normal, IsGeometry, IsCoordinate, IsPoint}
-use Rattle.wkb_geom.specs.Grammar.{IsEach}
-use Rattle.wkb_geom.specs.Numbers.{AreBytes, IsWord}
-use Rattle.wkb_geom.specs.Spellings.{part}
-use Rattle.wkb_geom.specs.Values.{each}
-use Rattle.wkb_geom.specs.declared.common.Endianness.{Endianness}
 use Rattle.wkb_geom.specs.declared.common.Form.{Form}
 use Rattle.wkb_laws.proofs.Lengths.{named_width, value_size, spelled_length, encoding_length}
 use Rattle.wkb_laws.proofs.Values.{bytes_of, number-lt, spelled_good, lawful-geometry_of, normal-geometry_of}

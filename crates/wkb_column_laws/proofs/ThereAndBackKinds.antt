@@ -1,19 +1,14 @@
 -- The singles of a geometry: what its subjects give each level, and the geometry that they mean.
-use Rattle.std.proofs.Common.{lt-ltb}
-use Rattle.wkb_abi.proofs.Common.{◌≡◌, ℕ, ◌<◌, List, [], ◌∷◌, ◌++◌, length, Option, Some, None, refl, arith}
-use Rattle.wkb_abi.proofs.Common.{append-nil, Dimension, width, Coordinate, Spelling, node, Spellings, no_spellings}
-use Rattle.wkb_abi.proofs.Common.{spelling, Spells, SpellsEach, SpellsBody, Value, Values, point, line_string, polygon}
+use Rattle.std.proofs.Common.{lt-ltb, ◌-◌, map, flat_map, sum}
+use Rattle.wkb_abi.proofs.Common.{◌≡◌, ℕ, ◌<◌, List, [], ◌∷◌, ◌++◌, length, Option, Some, None, refl, arith, append-nil}
+use Rattle.wkb_abi.proofs.Common.{Dimension, width, Coordinate, Spelling, node, Spellings, no_spellings, spelling}
+use Rattle.wkb_abi.proofs.Common.{Spells, SpellsEach, SpellsBody, Value, Values, point, line_string, polygon}
 use Rattle.wkb_abi.proofs.Common.{multi_point, multi_line_string, Header, multi_polygon, collection, no_members, member}
 use Rattle.wkb_abi.proofs.Common.{members, kind, dimension, SpellsCoordinate, SpellsCoordinates, Endianness}
-use Rattle.std.specs.Prelude.{◌-◌, map, flat_map, sum}
 use Rattle.std.specs.List.{AllByRecursion}
 use Rattle.std.proofs.lemmas.List.{map-append, length-map, map-id}
 use Rattle.std.proofs.lemmas.List.Concat.{flat_map-append}
-use Rattle.wkb_geom.specs.Dimensions.{as_dimensions}
-use Rattle.wkb_geom.specs.Grammar.{IsEach}
-use Rattle.wkb_geom.specs.Spellings.{Wanted, part, member_part}
-use Rattle.wkb_geom.specs.Values.{each}
-use Rattle.wkb_geom.specs.declared.common.Dimension.TheVariants.{Xy, Xyz, Xym, Xyzm}
+use Rattle.wkb_laws.specs.Prelude.{as_dimensions, IsEach, Wanted, part, member_part, each, Xy, Xyz, Xym, Xyzm}
 use Rattle.wkb_check.specs.Subjects.{Subject, whole, ring, subjects, subjects_of_rings, subjects_of_each, dimension_in}
 use Rattle.wkb_check.specs.Subjects.{subject_coordinates, rings_of}
 use Rattle.wkb_levels.specs.Cuts.{only_each}

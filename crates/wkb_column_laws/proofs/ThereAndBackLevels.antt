@@ -4,8 +4,7 @@ use Rattle.std.proofs.Common.{◌++◌, length, take, drop, map, slice_index, sl
 use Rattle.std.specs.List.{AllByRecursion, flat_map, sum}
 use Rattle.std.proofs.Math.Nat.{mul-div_cancel_left, sub-zero}
 use Rattle.std.proofs.lemmas.List.{take_at, drop_at, take-take, drop-take, drop-drop}
-use Rattle.wkb_geom.specs.declared.common.Dimensions.{Dimensions}
-use Rattle.wkb_geom.specs.Dimensions.{size}
+use Rattle.wkb_laws.specs.Prelude.{Dimensions, size}
 use Rattle.wkb_plain.specs.Runs.{runs, coordinates_in}
 use Rattle.wkb_plain.proofs.Runs.{length-runs}
 use Rattle.wkb_levels.specs.declared.levels.Levels.{Levels}

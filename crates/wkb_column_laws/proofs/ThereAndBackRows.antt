@@ -1,36 +1,31 @@
 -- What the lists of a column's levels hold of each row, and where it begins in the levels that are given on.
-use Rattle.wkb_abi.proofs.Common.{◌≡◌, ℕ, zero, suc, ◌+◌, ◌*◌, ◌≤◌, ◌<◌, List, [], ◌∷◌, length, Some, refl, sym, ap}
-use Rattle.wkb_abi.proofs.Common.{◌∙◌, subst, arith, Dimension, width, Spelling, Value, Subject, subjects}
-use Rattle.std.specs.Prelude.{◌==◌, if◌then◌else◌, sum, flat_map, take}
+use Rattle.wkb_abi.proofs.Common.{ℕ, length, subst, arith, Dimension, width, Spelling, Value, Subject, subjects}
+use Rattle.wkb_abi.specs.declared.totals.Totals.{Totals}
+use Rattle.wkb_abi.proofs.Common.{◌≡◌, zero, suc, ◌+◌, ◌*◌, ◌≤◌, ◌<◌, List, [], ◌∷◌, Some, refl, sym, ap, ◌∙◌, IsRow}
 use Rattle.std.specs.Borrow.{Bor}
-use Rattle.std.proofs.Common.{eqb-true, mul-add, rules}
+use Rattle.std.proofs.Common.{eqb-true, mul-add, rules, ◌==◌, if◌then◌else◌, sum, flat_map, take}
 use Rattle.std.proofs.lemmas.Bool.{cond_both}
 use Rattle.std.proofs.lemmas.List.{take-take, nil_from_length}
 use Rattle.std.proofs.lemmas.List.Sums.{sum_by-cons}
 use Rattle.wkb_geom.specs.Codes.{dimension_of_thousands}
 use Rattle.wkb_geom.specs.Fronts.{Front}
 use Rattle.wkb_laws.proofs.OneFront.{one_front_lem}
-use Rattle.wkb_levels.specs.declared.ends.Ends.{Ends}
-use Rattle.wkb_levels.specs.declared.ends.Ends.TheVariants.{Each, At}
+use Rattle.wkb_levels.specs.declared.{ends.Ends.Ends, ends.Ends.TheVariants.Each, ends.Ends.TheVariants.At}
 use Rattle.wkb_levels.specs.declared.levels.Levels.{Levels}
 use Rattle.wkb_levels.specs.Cuts.{start_at}
 use Rattle.wkb_levels.specs.EndLists.{ends_of, begin_of}
 use Rattle.wkb_levels.proofs.Pieces.{start_behind, last_of_part}
-use Rattle.wkb_abi.specs.Columns.{IsRow}
 use Rattle.wkb_abi.specs.Coordinates.{LevelLists, levels, Level, of_words, of_rings, of_singles, list_of, many_in}
 use Rattle.wkb_abi.specs.Coordinates.{HoldLevels, written, no_room, IsCoordinatesRow, handed, failed, no_row, unknown}
 use Rattle.wkb_abi.specs.Coordinates.{refused, ends, ring_counts, single_counts}
 use Rattle.wkb_abi.specs.LevelTargets.{levels_in}
 use Rattle.wkb_abi.specs.RowItems.{HoldsItems}
-use Rattle.wkb_abi.specs.declared.totals.Totals.{Totals}
-use Rattle.wkb_abi.specs.declared.level_column.LevelColumn.{LevelColumn}
+use Rattle.wkb_abi.specs.declared.{level_column.LevelColumn.LevelColumn, column.Column.Column, status.TheConstants.OK}
 use Rattle.wkb_abi.proofs.OneRow.{one_row, never_lacks}
 use Rattle.wkb_abi.proofs.Levels.{ends_length, subjects_words}
 use Rattle.wkb_abi.proofs.Rooms.{one_dimension, row_lacks, room_of, held_on, rise_at, end_at}
 use Rattle.wkb_column_laws.specs.ThereAndBack.{AreGivenOn}
 use Rattle.wkb_column_laws.proofs.ThereAndBackKinds.{counted}
-use Rattle.wkb_abi.specs.declared.column.Column.{Column}
-use Rattle.wkb_abi.specs.declared.status.TheConstants.{OK}
 
 -- ---- what a row has
 

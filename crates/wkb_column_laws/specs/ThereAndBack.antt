@@ -2,13 +2,9 @@
 -- back from them.
 use Rattle.std.specs.Prelude.{◌≡◌, ℕ, ◌*◌, ◌^◌, ◌<◌, ◌≤◌, List, [], ◌∷◌, length, take, map, Option, Some, None, true}
 use Rattle.std.specs.Prelude.{slice_index}
-use Rattle.wkb_geom.specs.declared.common.Dimension.{Dimension}
+use Rattle.wkb_laws.specs.Prelude.{Dimension, width, as_dimensions, encoding, point_words, Front, Geometry, geometry_of}
 use Rattle.wkb_geom.specs.Codes.{dimension_of_thousands}
-use Rattle.wkb_geom.specs.Dimensions.{width, as_dimensions}
-use Rattle.wkb_geom.specs.Encodings.{encoding, point_words}
-use Rattle.wkb_geom.specs.Fronts.{Front}
 use Rattle.wkb_geom.specs.Geometries as geometries
-use Rattle.wkb_geom.specs.Geometries.{Geometry, geometry_of}
 use Rattle.wkb_geom.specs.Numbers.{AreBytes}
 use Rattle.wkb_geom.specs.Spellings.{Spelling, node, header, Spellings, no_spellings, spelling}
 use Rattle.wkb_geom.specs.Values.{Coordinate, Value, point, multi_point, kind, dimension}
@@ -19,14 +15,10 @@ use Rattle.wkb_abi.specs.LevelTargets.{target_asked}
 use Rattle.wkb_abi.specs.Requests.{request_of, options_for}
 use Rattle.wkb_abi.specs.RowItems.{RowHas, IsRowAnswer, AreEncodings, rows_of}
 use Rattle.wkb_abi.specs.Writings.{HasEncoding}
-use Rattle.wkb_abi.specs.declared.column.Column.{Column}
-use Rattle.wkb_abi.specs.declared.totals.Totals.{Totals}
-use Rattle.wkb_abi.specs.declared.level_column.LevelColumn.{LevelColumn}
-use Rattle.wkb_abi.specs.declared.level_column.LevelTarget.{LevelTarget}
-use Rattle.wkb_abi.specs.declared.options.Options.{Options}
-use Rattle.wkb_abi.specs.declared.options.Request.{Request}
-use Rattle.wkb_abi.specs.declared.options.TheConstants.{EWKB_OWN_SRID}
-use Rattle.wkb_abi.specs.declared.status.TheConstants.{OK, NO_ROOM, NULL_ROW}
+use Rattle.wkb_abi.specs.declared.{column.Column.Column, totals.Totals.Totals, level_column.LevelColumn.LevelColumn}
+use Rattle.wkb_abi.specs.declared.{level_column.LevelTarget.LevelTarget, options.Options.Options}
+use Rattle.wkb_abi.specs.declared.{options.Request.Request, options.TheConstants.EWKB_OWN_SRID, status.TheConstants.OK}
+use Rattle.wkb_abi.specs.declared.{status.TheConstants.NO_ROOM, status.TheConstants.NULL_ROW}
 use Rattle.wkb_levels.specs.Cuts.{start_at}
 use Rattle.wkb_sink.specs.declared.options.WriteOptions.{WriteOptions}
 
