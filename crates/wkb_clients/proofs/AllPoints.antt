@@ -1,8 +1,7 @@
 -- All coordinates of a value as the points of one multi point.
-use Rattle.std.proofs.Common.{◌≡◌, ℕ, zero, suc, ◌<◌, List, [], ◌∷◌, map, length, drop, Some, None}
-use Rattle.std.proofs.Common.{inl, inr, refl, sym, ap, subst, arith, append-nil}
+use Rattle.std.proofs.Common.{◌≡◌, ℕ, zero, suc, ◌<◌, List, [], ◌∷◌, map, length, drop, Some, None, inl, inr, refl, sym}
+use Rattle.std.proofs.Common.{ap, subst, arith, append-nil, slice_index_or}
 use Rattle.std.specs.List.{AllByRecursion}
-use Rattle.std.specs.Prelude.{slice_index_or}
 use Rattle.std.proofs.lemmas.List.{length-map}
 use Rattle.wkb.specs.Prelude.{Dimension, Dimensions, as_dimensions, written_dimension, WkbError}
 use Rattle.wkb.specs.Values.{Coordinate, Value, multi_point, dimension}

@@ -1,17 +1,14 @@
 -- What is written of a package, and that the blob holds it.
 use Rattle.std.proofs.Common.{◌≡◌, ℕ, zero, suc, ◌+◌, ◌*◌, ◌/◌, ◌%◌, ◌<◌, ◌≤◌, ◌^◌, List, [], ◌∷◌, ◌++◌, Bool, true}
 use Rattle.std.proofs.Common.{false, if◌then◌else◌, ◌&&◌, length, drop, length-drop, append_assoc, refl, sym, ap, subst}
-use Rattle.std.proofs.Common.{◌∙◌, arith}
-use Rattle.std.specs.Prelude.{◌==◌, nat_le}
+use Rattle.std.proofs.Common.{◌∙◌, arith, ◌==◌, nat_le}
 use Rattle.wkb.specs.Bridges.{number_is_read}
 use Rattle.wkb.specs.Checks.{Range, Bounds, AreBounds, range_of, words_on, x_axis, y_axis}
 use Rattle.wkb.specs.Known.{never_both}
 use Rattle.wkb.specs.Refusals.{no_order_byte}
 use Rattle.wkb.specs.Order.{HasNumbers, range_has_numbers}
 use Rattle.wkb.specs.Prelude.{Endianness, order_byte, number_bytes, is_nan}
-use Rattle.wkb.specs.Values.{Value}
-use Rattle.wkb.specs.Reads.{IsFront}
-use Rattle.wkb_clients.specs.Common.{Item}
+use Rattle.wkb_clients.specs.Common.{Item, Value, IsFront}
 use Rattle.wkb_clients.specs.declared.geopackage.BlobHeader.{BlobHeader}
 use Rattle.wkb_clients.specs.Geopackage.{IsBlobHeader, HoldsGeometry, order_said, start_behind, is_ewkb, is_around}
 use Rattle.wkb_clients.specs.Geopackage.{axis_around, envelope_around, header_bytes, word_or_nan, range_bytes}

@@ -1,9 +1,8 @@
 -- What the box of coordinates holds.
 use Rattle.std.proofs.Common.{arith, ◌≡◌, List, Some, slice_get, refl, sym, subst}
-use Rattle.wkb.specs.Prelude.{Dimension}
 use Rattle.wkb.specs.Checks.{x_axis, y_axis, words_in}
 use Rattle.wkb.specs.Ranges.{IsWithin, ordinate_within, within_range_of}
-use Rattle.wkb_clients.specs.Common.{Coordinate}
+use Rattle.wkb_clients.specs.Common.{Coordinate, Dimension}
 use Rattle.wkb_clients.specs.Boxes.{HasRanges, HoldsNumbers, exterior_of}
 use Rattle.wkb_clients.specs.declared.boxes.BoundingBox.{BoundingBox}
 

@@ -5,8 +5,7 @@ use Rattle.wkb.specs.Checks.{Bounds, AreBounds}
 use Rattle.wkb.specs.Known.{has_one_front}
 use Rattle.wkb.specs.OwnBytes.{no_refusal, one_geometry}
 use Rattle.wkb.specs.Ranges.{same_bounds}
-use Rattle.wkb.specs.Reads.{IsFront}
-use Rattle.wkb_clients.specs.Common.{Item}
+use Rattle.wkb_clients.specs.Common.{Item, IsFront}
 use Rattle.wkb_clients.specs.declared.geopackage.BlobHeader.{BlobHeader}
 use Rattle.wkb_clients.specs.declared.geopackage.Package.{Package}
 use Rattle.wkb_clients.specs.declared.geopackage.Unread.{Unread}

@@ -1,7 +1,6 @@
 -- Rings of polygons in a collection, and their words.
 use Rattle.std.proofs.Common.{◌≡◌, ℕ, ◌+◌, ◌*◌, List, [], drop-drop, Option, Some, None, refl, sym, ap, subst, ◌∙◌}
-use Rattle.std.proofs.Common.{arith, slice_get}
-use Rattle.std.specs.Prelude.{option_map, MatchOption}
+use Rattle.std.proofs.Common.{arith, slice_get, option_map, MatchOption}
 use Rattle.wkb_clients.specs.Common.{number, width, Dimension, Coordinate, Value, polygon, kind, header, Spelling}
 use Rattle.wkb_clients.specs.Common.{Spells, Listed, whole_of, Item, IsMember, IsWordOf, LinearRing, ring_seen}
 use Rattle.wkb.specs.Known.{members_stand, rings_stand}

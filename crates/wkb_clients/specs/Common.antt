@@ -5,5 +5,4 @@ pub use Rattle.wkb.specs.Spellings.{Front, max_nesting, Spelling, Spells, header
 pub use Rattle.wkb.specs.Reads.{Item, Reading, geometry_at, whole_of, Listed, HasNoFront, IsFront, members_spelled}
 pub use Rattle.wkb.specs.Reads.{list_of_spellings, point_seen, polygon_seen, multi_polygon_seen, LinearRing, words_seen}
 pub use Rattle.wkb.specs.Reads.{ring_seen, ring_dimension}
-pub use Rattle.wkb.specs.Laws.{IsWordOf, IsMember, HoldsMember, HoldsRing}
-pub use Rattle.wkb.specs.Laws.{StandsAt, member_start, ring_start}
+pub use Rattle.wkb.specs.Laws.{IsWordOf, IsMember, HoldsMember, HoldsRing, StandsAt, member_start, ring_start}

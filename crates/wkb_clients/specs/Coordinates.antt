@@ -1,6 +1,5 @@
 -- All coordinates of a value, and the multi point that has a point at each of them.
-use Rattle.std.specs.Prelude.{◌≡◌, ◌⊎◌, ◌≤◌, ◌^◌, ℕ, List, [], map, length, Option, Some}
-use Rattle.std.specs.Prelude.{MatchOption, Vec}
+use Rattle.std.specs.Prelude.{◌≡◌, ◌⊎◌, ◌≤◌, ◌^◌, ℕ, List, [], map, length, Option, Some, MatchOption, Vec}
 use Rattle.std.specs.Global.{Global}
 use Rattle.wkb.specs.Prelude.{as_dimensions, WkbError, IsMemory}
 use Rattle.wkb.specs.Values.{Value, multi_point, dimension}

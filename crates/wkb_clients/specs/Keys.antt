@@ -1,8 +1,7 @@
 -- Keys of geometries, and a store of them.
-use Rattle.std.proofs.Common.{◌≡◌, ℕ, List, [], ◌∷◌, ◌++◌, Bool, Ok, Err, None}
-use Rattle.std.specs.Prelude.{◌↔◌, MatchBool, Contains}
-use Rattle.wkb_clients.specs.Common.{LittleEndian, Xy, Iso, AreBytes, Value, point, Spelling, Front}
-use Rattle.wkb_clients.specs.Common.{max_nesting, Item, Reading, geometry_at}
+use Rattle.std.proofs.Common.{◌≡◌, ℕ, List, [], ◌∷◌, ◌++◌, Bool, Ok, Err, None, ◌↔◌, MatchBool, Contains}
+use Rattle.wkb_clients.specs.Common.{LittleEndian, Xy, Iso, AreBytes, Value, point, Spelling, Front, max_nesting, Item}
+use Rattle.wkb_clients.specs.Common.{Reading, geometry_at}
 use Rattle.wkb.specs.Geometries.{geometry_of}
 use Rattle.wkb.specs.Encodings.{encoding}
 

@@ -1,6 +1,5 @@
 -- Lemmas: a shape of any type is lawful, of one dimension, and so is a layer.
-use Rattle.std.specs.Prelude.{◌≡◌, List, [], ◌∷◌, map, refl}
-use Rattle.std.proofs.Common.{ap, ◌∙◌, sym, subst}
+use Rattle.std.proofs.Common.{ap, ◌∙◌, sym, subst, ◌≡◌, List, [], ◌∷◌, map, refl}
 use Rattle.wkb.specs.Prelude.traits.{Xy}
 use Rattle.wkb.specs.Geometries.{Geometry, dimensions_of, geometries, IsGeometry, AreGeometries}
 use Rattle.wkb_cases.specs.LawfulPlaces.{place_lawful}
