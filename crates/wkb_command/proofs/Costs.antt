@@ -1,8 +1,7 @@
 -- What reading cost, of the bytes that a text spells.
 use Rattle.std.proofs.Common.{arith, ◌≡◌, ℕ, List, Option, Some, None, Result}
 use Rattle.std.specs.Result.{result_err}
-use Rattle.wkb_geom.specs.declared.error.Cause.{Cause}
-use Rattle.wkb_geom.specs.declared.error.WkbError.{WkbError}
+use Rattle.wkb_geom.specs.declared.{error.Cause.Cause, error.WkbError.WkbError}
 use Rattle.wkb_geom.specs.declared.error.WkbError.TheVariants as errors
 use Rattle.wkb_command.specs.Readings.{Accepts, IsRefused}
 use Rattle.wkb.specs.Reads.{Wkb, Counts, Costs, Reads}

@@ -1,14 +1,11 @@
 -- What reports say.
 use Rattle.std.proofs.Common.{arith, ◌≡◌, ◌≢◌, ℕ, List, [], ◌∷◌, ◌++◌, append_assoc, refl, ◌∙◌, Bool, true, false}
-use Rattle.std.proofs.Common.{Option, Some, None, Result, ◌⊎◌, inl, inr, IfOk}
-use Rattle.std.specs.Prelude.{codes}
+use Rattle.std.proofs.Common.{Option, Some, None, Result, ◌⊎◌, inl, inr, IfOk, codes}
 use Rattle.std.specs.Fmt.{decimal}
 use Rattle.std.specs.declared.alloc.AllocError.{AllocError}
 use Rattle.std.proofs.lemmas.Result.{IfOk-weaker}
-use Rattle.wkb_geom.specs.declared.common.Endianness.{Endianness}
-use Rattle.wkb_geom.specs.declared.common.Form.TheVariants.{Iso}
+use Rattle.wkb_geom.specs.declared.{common.Endianness.Endianness, common.Form.TheVariants.Iso, error.WkbError.WkbError}
 use Rattle.wkb_geom.specs.Encodings.{IsRewriting, IsRewritingWithSrid}
-use Rattle.wkb_geom.specs.declared.error.WkbError.{WkbError}
 use Rattle.wkb_geom.specs.declared.error.WkbError.TheVariants as errors
 use Rattle.wkb.specs.Canonical.{IsPairRefusal, OverflowsWithSrid, IsSize}
 use Rattle.wkb.specs.Reads.{IsRefusal}
@@ -20,9 +17,9 @@ use Rattle.wkb_command.specs.declared.program.Command.TheVariants.{Rewrite, Rewr
 use Rattle.wkb_command.specs.declared.program.Report.{Report}
 use Rattle.wkb_command.specs.Readings.{HasSrid}
 use Rattle.wkb_command.specs.Calls.{IsHex, OfHex, OfTwoHexes, IsCost, AreCompared, FailsOn, FailsOnTwo}
-use Rattle.wkb_command.specs.Program.{Spells, one, two, TellsError, counts, hex_line}
-use Rattle.wkb_command.specs.Program.{Says, rewritten, rewritten_with_srid, same, different, accepted, counted_refusal}
-use Rattle.wkb_command.specs.Program.{srid, no_srid, refused, second_refused, Replies, said}
+use Rattle.wkb_command.specs.Program.{Spells, one, two, TellsError, counts, hex_line, Says, rewritten}
+use Rattle.wkb_command.specs.Program.{rewritten_with_srid, same, different, accepted, counted_refusal, srid, no_srid}
+use Rattle.wkb_command.specs.Program.{refused, second_refused, Replies, said}
 use Rattle.wkb_command.specs.Reports.{IsReport, IsReportOn, IsFailureOn, HasLines}
 use Rattle.wkb_command.proofs.Spelled.{IsHex-from}
 

@@ -1,7 +1,6 @@
 -- How a run ends.
 use Rattle.std.proofs.Common.{arith, ◌≡◌, ℕ, List, [], append-nil, Option, Some, None, IfSome, IfOk, Result, refl, sym}
-use Rattle.std.proofs.Common.{◌∙◌}
-use Rattle.std.specs.Prelude.{codes}
+use Rattle.std.proofs.Common.{◌∙◌, codes}
 use Rattle.std.specs.declared.alloc.AllocError.{AllocError}
 use Rattle.std.specs.Io.{StartsWith}
 use Rattle.std.proofs.Math.Seq.{take-append_seam}

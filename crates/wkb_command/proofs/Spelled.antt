@@ -1,7 +1,6 @@
 -- Which texts are hex, and what texts spell for a command.
-use Rattle.std.proofs.Common.{◌≡◌, ◌≢◌, ℕ, ◌<◌, true, List, ◌∷◌, ◌++◌, length, Option, Some, None, Err, refl}
-use Rattle.std.proofs.Common.{arith, lit<}
-use Rattle.std.specs.Prelude.{slice_index}
+use Rattle.std.proofs.Common.{◌≡◌, ◌≢◌, ℕ, ◌<◌, true, List, ◌∷◌, ◌++◌, length, Option, Some, None, Err, refl, arith}
+use Rattle.std.proofs.Common.{lit<, slice_index}
 use Rattle.std.specs.Borrow.{Bor}
 use Rattle.std.specs.List.{All}
 use Rattle.std.specs.Str.{IsUtf8}
@@ -14,8 +13,7 @@ use Rattle.hex.specs.Hex.{decode_of, is_hex_digit}
 use Rattle.hex.specs.declared.error.FromHexError.{FromHexError}
 use Rattle.hex.proofs.HexLemmas.{decode_of-ok, decode_of-digits}
 use Rattle.wkb_command.specs.Calls.{IsHex, IsHexOf}
-use Rattle.wkb_command.specs.declared.program.Command.{Command}
-use Rattle.wkb_command.specs.declared.program.Command.TheVariants.{Same}
+use Rattle.wkb_command.specs.declared.{program.Command.Command, program.Command.TheVariants.Same}
 use Rattle.wkb_command.specs.Program.{Spells, one, two, line_feed, IsOneLine}
 use Rattle.wkb_command.specs.Reports.{HasLines}
 

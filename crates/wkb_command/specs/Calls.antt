@@ -2,16 +2,13 @@
 use Rattle.std.specs.Prelude.{◌≡◌, ℕ, ◌%◌, Bool, List, length, Ok, ◌⊎◌, MatchBool}
 use Rattle.std.specs.List.{AllPass}
 use Rattle.hex.specs.Hex.{decode_of, is_hex_digit}
-use Rattle.hex.specs.declared.error.FromHexError.{FromHexError}
-use Rattle.hex.specs.declared.error.FromHexError.TheVariants.{OutOfMemory}
-use Rattle.wkb_geom.specs.declared.error.Cause.{Cause}
+use Rattle.hex.specs.declared.{error.FromHexError.FromHexError, error.FromHexError.TheVariants.OutOfMemory}
+use Rattle.wkb_geom.specs.declared.{error.Cause.Cause, error.WkbError.WkbError}
 use Rattle.wkb.specs.Canonical.{HaveOneValue, HaveTwoValues}
 use Rattle.wkb_command.specs.Readings.{Accepts, IsRefused}
-use Rattle.wkb_command.specs.declared.calls.Cost.{Cost}
-use Rattle.wkb_geom.specs.declared.error.WkbError.{WkbError}
+use Rattle.wkb_command.specs.declared.{calls.Cost.Cost, calls.HexFault.HexFault, calls.HexFault.TheVariants.NotHex}
+use Rattle.wkb_command.specs.declared.{calls.HexFault.TheVariants.Wkb, calls.HexFault.TheVariants.Memory}
 use Rattle.wkb_geom.specs.declared.error.WkbError.TheVariants as errors
-use Rattle.wkb_command.specs.declared.calls.HexFault.{HexFault}
-use Rattle.wkb_command.specs.declared.calls.HexFault.TheVariants.{NotHex, Wkb, Memory}
 
 -- hex digits in either case, two for each byte
 pub record IsHex (text : List ℕ) : Type 0 where

@@ -8,16 +8,14 @@ use Rattle.std.specs.Fmt.{decimal}
 use Rattle.std.specs.Io.{StartsWith}
 use Rattle.std.specs.Io.KnownBytes.{Appends}
 use Rattle.hex.specs.Hex.{encode_lower}
-use Rattle.wkb_geom.specs.declared.common.Endianness.{Endianness}
-use Rattle.wkb_geom.specs.declared.common.Endianness.TheVariants.{BigEndian, LittleEndian}
-use Rattle.wkb_geom.specs.declared.common.Form.TheVariants.{Iso}
-use Rattle.wkb_geom.specs.declared.error.Cause.{Cause}
+use Rattle.wkb_geom.specs.declared.{common.Endianness.Endianness, common.Endianness.TheVariants.BigEndian}
+use Rattle.wkb_geom.specs.declared.{common.Endianness.TheVariants.LittleEndian, common.Form.TheVariants.Iso}
+use Rattle.wkb_geom.specs.declared.{error.Cause.Cause, error.WkbError.WkbError}
 use Rattle.wkb_geom.specs.Encodings.{IsRewriting, IsRewritingWithSrid}
 use Rattle.wkb.specs.Canonical.{IsAccepted, HaveOneValue, HaveTwoValues}
 use Rattle.wkb.specs.Reads.{IsRefusal}
 use Rattle.wkb_command.specs.Readings.{Accepts, IsRefused, HasSrid}
 use Rattle.wkb_command.specs.Calls.{IsHexOf}
-use Rattle.wkb_geom.specs.declared.error.WkbError.{WkbError}
 use Rattle.wkb_geom.specs.declared.error.WkbError.TheVariants as errors
 use Rattle.wkb_command.specs.declared.program.Command.{Command}
 use Rattle.wkb_command.specs.declared.program.Command.TheVariants.{Rewrite, RewriteWithSrid, Same, Cost, Srid}

@@ -4,13 +4,11 @@ use Rattle.std.specs.Borrow.{Bor}
 use Rattle.std.specs.declared.alloc.AllocError.{AllocError}
 use Rattle.wkb_command.specs.Calls.{IsHex}
 use Rattle.wkb_command.specs.Program.{hex_line, line_feed, status_refused, Spells, Replies, TellsError}
-use Rattle.wkb_command.specs.declared.calls.HexFault.{HexFault}
-use Rattle.wkb_command.specs.declared.calls.HexFault.TheVariants.{NotHex, Wkb, Memory}
-use Rattle.wkb_command.specs.declared.program.Command.{Command}
-use Rattle.wkb_command.specs.declared.program.Command.TheVariants.{Same}
-use Rattle.wkb_command.specs.declared.program.Report.{Report}
-use Rattle.wkb_command.specs.declared.program.Output.{Output}
-use Rattle.wkb_command.specs.declared.program.Output.TheVariants.{Text, Hex}
+use Rattle.wkb_command.specs.declared.{calls.HexFault.HexFault, calls.HexFault.TheVariants.NotHex}
+use Rattle.wkb_command.specs.declared.{calls.HexFault.TheVariants.Wkb, calls.HexFault.TheVariants.Memory}
+use Rattle.wkb_command.specs.declared.{program.Command.Command, program.Command.TheVariants.Same, program.Report.Report}
+use Rattle.wkb_command.specs.declared.{program.Output.Output, program.Output.TheVariants.Text}
+use Rattle.wkb_command.specs.declared.program.Output.TheVariants.{Hex}
 
 -- a text is written as it is, with its line feed, and bytes as a line of hex
 abbrev pub line_of : Output → List ℕ

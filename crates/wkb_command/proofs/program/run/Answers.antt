@@ -1,5 +1,4 @@
-use Rattle.std.proofs.Common.{[], Err, refl}
-use Rattle.std.specs.Prelude.{alloc_error}
+use Rattle.std.proofs.Common.{[], Err, refl, alloc_error}
 use Rattle.std.proofs.KnownBytes.{Appends-nil}
 use Rattle.std.proofs.lemmas.Result.{IfOk-weaker}
 use Rattle.wkb_command.specs.Program.{misused, asked}
