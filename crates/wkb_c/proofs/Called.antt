@@ -1,12 +1,9 @@
 -- The table of the parts of what was found.
-use Rattle.wkb_abi.proofs.Common.{◌≡◌, ℕ, ◌+◌, ◌≤◌, ◌<◌, List, [], ◌∷◌, length, sym, ap, ◌∙◌, arith, append-nil}
-use Rattle.wkb_abi.proofs.Common.{Spelling, node, Value, sets, set, DescribesFront, Summary, Piece, subjects}
-use Rattle.wkb_abi.proofs.Common.{subjects_of_each}
+use Rattle.wkb_abi.proofs.Common.{[], length, append-nil, Spelling, DescribesFront, Summary, subjects, subjects_of_each}
+use Rattle.wkb_abi.proofs.Common.{◌≡◌, ℕ, ◌+◌, ◌≤◌, ◌<◌, List, ◌∷◌, sym, ap, ◌∙◌, arith, node, Value, sets, set, Piece}
 use Rattle.std.proofs.lemmas.List.{nil_from_length}
 use Rattle.std.proofs.Common.{rules}
-use Rattle.wkb_check.specs.Known.{HasGeometries}
-use Rattle.wkb_check.specs.Pieces.{last_end, IsPieceAt}
-use Rattle.wkb_check.specs.Subjects.{whole}
+use Rattle.wkb_check.specs.Prelude.{HasGeometries, last_end, IsPieceAt, whole}
 use Rattle.wkb_abi.specs.Tables.{geometry_entries, FitGeometries, entry_at, entry_of}
 use Rattle.wkb_abi.specs.declared.parts.Part.{Part}
 use Rattle.wkb_check.proofs.Placing.{spelled_end, alone}

@@ -1,5 +1,5 @@
 -- The encoding that is asked for of what was checked, and how long it is.
-use Rattle.wkb_abi.proofs.Common.{◌≡◌, ℕ, ◌+◌, ◌≤◌, ◌<◌, inl, inr, List, length, Some, refl, ap, sym, ◌∙◌, arith}
+use Rattle.wkb_abi.proofs.Common.{◌≡◌, ℕ, ◌+◌, ◌≤◌, ◌<◌, inl, inr, List, length, Some, refl, ap, ◌∙◌, arith}
 use Rattle.wkb_abi.proofs.Common.{header, length-sets, Endianness, encoding, geometry_of, DescribesFront, Summary, here}
 use Rattle.wkb_abi.proofs.Common.{IsRow, IsRowStep, RowHas, RowFails}
 use Rattle.wkb_laws.specs.Prelude.{Form, header_encoding, point_encoding, line_string_encoding, polygon_encoding}
@@ -67,10 +67,6 @@ module _ (request : Request) {input : List ℕ} {found : Summary} (d : Describes
     long = refl;
     out_kept = λ differ. refl;
   }
-
-has_encoding : {o : Options} {request : Request} {input : List ℕ} → Some request ≡ request_of o → (bytes : List ℕ)
-    → IsRequested request input bytes → HasEncoding o input bytes
-has_encoding asked _ requested = record { request = _; asked = sym asked; is_requested = requested }
 
 -- what is written for a request is written for the options that ask for it
 pub meant : {o : Options} {request : Request} {input before after : List ℕ} {status size size' : ℕ}

@@ -1,14 +1,12 @@
 -- The members that rows begin with, row by row.
 use Rattle.wkb_abi.proofs.Common.{◌≡◌, ℕ, suc, ◌+◌, ◌≤◌, ◌<◌, List, ◌++◌, length, drop, ◌⊎◌, inl, inr, refl, sym, ap}
 use Rattle.wkb_abi.proofs.Common.{subst, ◌∙◌, arith, length-append, Spelling, Value, Values, member, no_members, kind}
-use Rattle.wkb_abi.proofs.Common.{Some, None, srid_size, ◌-◌, sets, sets-eq, Summary, false, IsAccepted}
-use Rattle.wkb_abi.proofs.Common.{RowHas, IsRow, Reach, Wanted}
+use Rattle.wkb_abi.proofs.Common.{Some, None, srid_size, ◌-◌, sets, sets-eq, Summary, false, IsAccepted, RowHas, IsRow}
+use Rattle.wkb_abi.proofs.Common.{Reach, Wanted}
 use Rattle.wkb_laws.specs.Prelude.{inner, IsRewriting, FrontWithin, AreBytes, type_kind, type_dimension, IsPart, any}
 use Rattle.wkb_laws.specs.Prelude.{count, nest}
-use Rattle.std.specs.Prelude.{Result, Ok, Err, IfErr}
 use Rattle.std.proofs.lemmas.Bool.{cases_eq}
-use Rattle.std.proofs.Common.{length-drop}
-use Rattle.std.proofs.lemmas.List.{length-take, take_at}
+use Rattle.std.proofs.Common.{length-drop, Result, Ok, Err, IfErr, length-take, take_at}
 use Rattle.std.proofs.lemmas.Slice.{drop-append-drop}
 use Rattle.wkb_geom.specs.Reading.{cause_of}
 use Rattle.wkb_laws.proofs.Complete.{front_read, refusal_read}
@@ -26,9 +24,8 @@ use Rattle.wkb_abi.specs.Room.{IsHeld}
 use Rattle.wkb_abi.specs.Writings.{WritesRequested}
 use Rattle.wkb_abi.specs.declared.{column.Column.Column, fault.WkbFault.WkbFault, options.Request.TheVariants.Encoding}
 use Rattle.wkb_abi.specs.declared.{status.TheConstants.NO_ROOM, status.TheConstants.OK}
-use Rattle.wkb_c.specs.Collections.{BeginsWithMember, AreRowMembers, HaveMembers, part_of, inner_of, inside_of}
-use Rattle.wkb_c.specs.Collections.{LaysIfFits, WritesMember, WritesMembers, IsUnwanted, IsUnfit, no_row, refused}
-use Rattle.wkb_c.specs.Collections.{no_member}
+use Rattle.wkb_c.specs.Collections.{BeginsWithMember, AreRowMembers, HaveMembers, inner_of, WritesMember, WritesMembers}
+use Rattle.wkb_c.specs.Collections.{part_of, inside_of, LaysIfFits, IsUnwanted, IsUnfit, no_row, refused, no_member}
 use Rattle.wkb_c.specs.declared.collect.CollectTarget.{CollectTarget}
 use Rattle.wkb_c.proofs.RowItems.{IsLent, lent_laid}
 

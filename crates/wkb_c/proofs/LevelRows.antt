@@ -1,10 +1,9 @@
 -- What becomes of a row in levels.
 use Rattle.wkb_abi.proofs.Common.{◌≡◌, ℕ, ◌+◌, List, length, Option, Some, None, ap, arith, false, IsRowStep}
 use Rattle.wkb_laws.specs.Prelude.{Dimensions}
-use Rattle.wkb_levels.specs.declared.levels.Levels.{Levels}
-use Rattle.wkb_levels.specs.declared.levels.Place.{Place}
-use Rattle.wkb_levels.specs.declared.write.Written.{Written}
-use Rattle.wkb_levels.specs.declared.write.Written.TheVariants.{Whole, LacksRoom, Unfit}
+use Rattle.wkb_levels.specs.declared.{levels.Levels.Levels, levels.Place.Place, write.Written.Written}
+use Rattle.wkb_levels.specs.declared.{write.Written.TheVariants.Whole, write.Written.TheVariants.LacksRoom}
+use Rattle.wkb_levels.specs.declared.write.Written.TheVariants.{Unfit}
 use Rattle.wkb_levels.specs.Columns.{IsFloor}
 use Rattle.wkb_levels.specs.RowWrites.{IsRowWrite, HasRowEncoding}
 use Rattle.wkb_levels.specs.RowWrites as row_writes

@@ -1,10 +1,8 @@
 -- Rows that write their items one after another.
-use Rattle.wkb_abi.proofs.Common.{◌≡◌, ◌≢◌, ℕ, suc, ◌+◌, ◌≤◌, ◌<◌, ◌^◌, ◌⊎◌, inl, inr, List, [], ◌++◌, length}
-use Rattle.wkb_abi.proofs.Common.{drop, slice_index, refl, ap, sym, ◌∙◌, arith, append-nil, append_assoc}
-use Rattle.wkb_abi.proofs.Common.{length-append, drop-drop, ◌-◌, set, sets, sets-eq, length-sets, IsRow, IsRowStep}
-use Rattle.wkb_abi.proofs.Common.{RowFails, RowHas, Reach}
-use Rattle.std.specs.Prelude.{take, min}
-use Rattle.std.proofs.Common.{length-drop}
+use Rattle.wkb_abi.proofs.Common.{slice_index, append-nil, append_assoc, length-append, drop-drop, sets-eq, length-sets}
+use Rattle.wkb_abi.proofs.Common.{◌≡◌, List, ◌++◌, length, drop, refl, arith, IsRow, IsRowStep, RowFails, RowHas, Reach}
+use Rattle.wkb_abi.proofs.Common.{◌≢◌, ℕ, suc, ◌+◌, ◌≤◌, ◌<◌, ◌^◌, ◌⊎◌, inl, inr, [], ap, sym, ◌∙◌, ◌-◌, set, sets}
+use Rattle.std.proofs.Common.{length-drop, take, min}
 use Rattle.wkb_abi.specs.declared.{column.Column.Column, status.TheConstants.NO_ROOM, status.TheConstants.OK}
 use Rattle.std.proofs.lemmas.List.{take-append-drop, drop-set-lt, drop_all, take_rest}
 use lib.ListN.{length-set}

@@ -1,15 +1,14 @@
 -- Where the parts of a geometry are in its bytes, and what is there.
 use Rattle.wkb_abi.proofs.Common.{◌≡◌, ℕ, suc, ◌+◌, ◌*◌, List, [], ◌∷◌, length, drop, Some, refl, sym, ap, ◌∙◌, arith}
 use Rattle.wkb_abi.proofs.Common.{drop-drop, slice_get, width, number, Spelling, node, Spellings, no_spellings}
-use Rattle.wkb_abi.proofs.Common.{spelling, Spells, Wanted, SpellsEach, Coordinate, Value, Values, no_members}
-use Rattle.wkb_abi.proofs.Common.{member, members, member_count, member_count_each, length-append, dimension, Subject}
-use Rattle.wkb_abi.proofs.Common.{subjects, subjects_of_each, Piece, false}
+use Rattle.wkb_abi.proofs.Common.{spelling, Spells, Wanted, SpellsEach, Coordinate, Value, Values, no_members, member}
+use Rattle.wkb_abi.proofs.Common.{members, member_count, member_count_each, length-append, dimension, Subject, subjects}
+use Rattle.wkb_abi.proofs.Common.{subjects_of_each, Piece, false}
 use Rattle.wkb_laws.specs.Prelude.{Begins, coordinate, coordinates}
 use Rattle.wkb_laws.proofs.Bounds.{ring_count, member_count-members}
 use Rattle.wkb_laws.proofs.Lengths.{coordinates_length}
 use Rattle.wkb_laws.proofs.Parts.{item_at}
-use Rattle.wkb_check.specs.Pieces.{own_end, piece_at}
-use Rattle.wkb_check.specs.Subjects.{whole, ring, order_in, SpellsSubject, rings_of}
+use Rattle.wkb_check.specs.Prelude.{own_end, piece_at, whole, ring, order_in, SpellsSubject, rings_of}
 use Rattle.std.specs.Prelude.{Bool, true, if◌then◌else◌}
 use Rattle.wkb_abi.specs.Tables.{entry_of, entry_at, entries_from, geometry_entries}
 use Rattle.wkb_check.proofs.Placing.{spelled_end, rings_many}

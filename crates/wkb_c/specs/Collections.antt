@@ -1,12 +1,8 @@
 -- One geometry whose members are the geometries that the rows of a column begin with.
-use Rattle.std.specs.Prelude.{◌≡◌, ℕ, suc, ◌<◌, ◌≤◌, List, ◌++◌, length, Option, Some, None, false}
-use Rattle.std.specs.Prelude.{drop, nat_lt, ◌||◌, if◌then◌else◌}
+use Rattle.std.specs.Prelude.{◌≡◌, ℕ, suc, ◌<◌, ◌≤◌, List, ◌++◌, length, Option, Some, None, false, drop, nat_lt, ◌||◌}
+use Rattle.std.specs.Prelude.{if◌then◌else◌}
 use Rattle.wkb_geom.specs.declared.code.TheConstants.{MULTI_POINT, GEOMETRY_COLLECTION}
-use Rattle.wkb_geom.specs.declared.code.WkbType.{WkbType}
-use Rattle.wkb_geom.specs.declared.common.Dimension.{Dimension}
-use Rattle.wkb_geom.specs.Encodings.{encodings}
-use Rattle.wkb_geom.specs.Fronts.{FrontWithin, max_nesting}
-use Rattle.wkb_geom.specs.Geometries.{geometries_of}
+use Rattle.wkb_laws.specs.Prelude.{WkbType, Dimension, encodings, FrontWithin, max_nesting, geometries_of}
 use Rattle.wkb_geom.specs.Reading.{type_of, type_kind, type_dimension}
 use Rattle.wkb_geom.specs.Spellings.{Spelling, Wanted, IsPart, member_part}
 use Rattle.wkb_geom.specs.Values.{Value, Values, no_members, member, kind, dimension, members, count, nest}
@@ -21,11 +17,9 @@ use Rattle.wkb_abi.specs.Requests.{request_of, options_for}
 use Rattle.wkb_abi.specs.RowItems.{RowHas}
 use Rattle.wkb_abi.specs.Statuses.{IsFaultWithin, IsStatusOfWriting, plain_fault}
 use Rattle.wkb_c.specs.declared.collect.CollectTarget.{CollectTarget}
-use Rattle.wkb_abi.specs.declared.column.Column.{Column}
-use Rattle.wkb_abi.specs.declared.fault.WkbFault.{WkbFault}
-use Rattle.wkb_abi.specs.declared.options.Options.{Options}
-use Rattle.wkb_abi.specs.declared.options.Request.{Request}
-use Rattle.wkb_abi.specs.declared.status.TheConstants.{INCORRECT_TYPE, TOO_MANY_ROWS}
+use Rattle.wkb_abi.specs.declared.{column.Column.Column, fault.WkbFault.WkbFault, options.Options.Options}
+use Rattle.wkb_abi.specs.declared.{options.Request.Request, status.TheConstants.INCORRECT_TYPE}
+use Rattle.wkb_abi.specs.declared.status.TheConstants.{TOO_MANY_ROWS}
 
 -- what a kind, a dimension and a request ask for together; no row's own SRID is written
 abbrev pub collect_with : ℕ → Option Dimension → Option Request → Option CollectTarget
