@@ -1,6 +1,5 @@
 -- The number that a word stands for.
-use Rattle.std.proofs.Common.{◌≡◌, ℕ, ◌<◌, ◌^◌}
-use Rattle.std.specs.Prelude.{false, to_bits, from_bits}
+use Rattle.std.proofs.Common.{◌≡◌, ℕ, ◌<◌, ◌^◌, false, to_bits, from_bits}
 use Rattle.std.specs.Float.{binary64}
 use lib.Ieee.Bits.{to_bits-of_bits}
 use Rattle.wkb.specs.Order.{is_number, not_nan}

@@ -1,17 +1,11 @@
 -- What the check finds in an input is what is rewritten and compared; what it rejects is what the reader rejects.
-use Rattle.std.proofs.Common.{◌≡◌, ℕ, ◌+◌, ◌≤◌, List, ◌++◌, length, length-append, length-drop, Bool, true, false}
-use Rattle.std.proofs.Common.{refl, sym, ap, ◌∙◌, take, drop, ◌↔◌, IsTrue, MatchBool, subst, arith}
-use Rattle.std.proofs.Common.{append-nil}
+use Rattle.std.proofs.Common.{◌≡◌, ℕ, ◌+◌, ◌≤◌, List, ◌++◌, length, length-append, length-drop, Bool, true, false, refl}
+use Rattle.std.proofs.Common.{sym, ap, ◌∙◌, take, drop, ◌↔◌, IsTrue, MatchBool, subst, arith, append-nil}
 use Rattle.std.proofs.Math.Seq.{take-append_seam}
 use Rattle.std.proofs.lemmas.List.{drop_all}
 use Rattle.std.proofs.lemmas.List.Edits.{sets, sets-eq}
-use Rattle.wkb_geom.specs.declared.common.Endianness.{Endianness}
-use Rattle.wkb_geom.specs.declared.common.Form.{Form}
-use Rattle.wkb_geom.specs.declared.common.Form.TheVariants.{Ewkb}
-use Rattle.wkb_geom.specs.Encodings.{encoding, IsRewriting, IsRewritingWithSrid}
-use Rattle.wkb_geom.specs.Fronts.{Front}
+use Rattle.wkb_laws.specs.Prelude.{Endianness, Form, Ewkb, encoding, IsRewriting, IsRewritingWithSrid, Front, AreBytes}
 use Rattle.wkb_geom.specs.Geometries.{geometry_of}
-use Rattle.wkb_geom.specs.Numbers.{AreBytes}
 use Rattle.wkb_check.specs.Known.{HasGeometry}
 use Rattle.wkb_check.specs.Public.{DescribesFront, DescribesOnlyFront}
 use Rattle.wkb_check.specs.declared.answer.Summary.{Summary}

@@ -1,11 +1,9 @@
 -- Lemmas: all coordinates of a value fit its one dimension, are in their words, and can be written as points.
 use Rattle.std.proofs.Common.{◌≡◌, ℕ, ◌+◌, ◌*◌, ◌%◌, ◌<◌, ◌≤◌, ◌^◌, List, [], ◌∷◌, ◌++◌, flat_map, length, Option, Some}
-use Rattle.std.proofs.Common.{None, Bool, refl, sym, ap, arith, if◌then◌else◌, length-append}
+use Rattle.std.proofs.Common.{None, Bool, refl, sym, ap, arith, if◌then◌else◌, length-append, is_some, lt-ltb}
 use Rattle.std.specs.List.{AllByRecursion}
-use Rattle.std.specs.Prelude.{is_some}
 use Rattle.std.proofs.Math.Nat.{mul-div_cancel, mul-mod_left, suc-mul, zero-mul}
 use Rattle.std.proofs.Math.Seq.{take-append_seam, drop-append_seam}
-use Rattle.std.proofs.lemmas.Bool.{lt-ltb}
 use Rattle.wkb.specs.Prelude.{Dimension, Xy, Dimensions, as_dimensions, size}
 use Rattle.wkb.specs.Values.{Coordinate, Value, Values, point, line_string, polygon, multi_point, multi_line_string}
 use Rattle.wkb.specs.Values.{multi_polygon, collection, no_members, member}
@@ -17,8 +15,7 @@ use Rattle.wkb.specs.Plain.{runs, coordinates_in}
 use Rattle.wkb.specs.Writes.{WriteOptions}
 use Rattle.wkb.specs.Known.{encoding_has_size}
 use Rattle.wkb.specs.Lawful.{has_two}
-use Rattle.wkb.specs.Coordinates.{of_point, of_parts, coordinates_of, coordinates_of_each, words_of, HasOnly}
-use Rattle.wkb.specs.Coordinates.{HaveOnly}
+use Rattle.wkb.specs.Coordinates.{of_point, of_parts, coordinates_of, coordinates_of_each, words_of, HasOnly, HaveOnly}
 
 -- ---- every coordinate fits the dimension
 

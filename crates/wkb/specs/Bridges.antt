@@ -7,17 +7,14 @@ use Rattle.std.proofs.Math.Seq.{take-append_seam}
 use Rattle.std.proofs.lemmas.List.{drop-take, length-map}
 use Rattle.std.proofs.lemmas.Result.{IfOk-at_ok}
 use Rattle.std.specs.Io.KnownBytes.{Appends}
-use Rattle.wkb.specs.Prelude.{Dimension, WkbError, IsMemory, Tells, Endianness, Form, as_dimensions, number}
-use Rattle.wkb.specs.Prelude.{number_bytes}
+use Rattle.wkb.specs.Prelude.{Dimension, WkbError, IsMemory, Tells, Endianness, as_dimensions, number, number_bytes}
 use Rattle.wkb.specs.Checks.{Refused, IsRefusedFor}
 use Rattle.wkb_geom.specs.declared.error.WkbError.TheVariants as errors
 use Rattle.wkb.specs.Values.{Coordinate, Value, Values, each, members, collection, nest}
-use Rattle.wkb.specs.Spellings.{Spelling, node, Spellings, no_spellings, spelling, header, Front, max_nesting}
-use Rattle.wkb.specs.Spellings.{HasOptions}
+use Rattle.wkb.specs.Spellings.{Spelling, node, Spellings, no_spellings, spelling, Front, max_nesting, HasOptions}
 use Rattle.wkb.specs.Geometries.{Geometry, normal}
-use Rattle.wkb.specs.Encodings.{Fault, encoding, fault_under, form_srid}
-use Rattle.wkb.specs.Reads.{Item, spellings, values, IfRefused, IsRefusal, IsFront, IsCollectionOf}
-use Rattle.wkb.specs.Reads.{list_of_spellings}
+use Rattle.wkb.specs.Encodings.{Fault, encoding, fault_under}
+use Rattle.wkb.specs.Reads.{Item, spellings, values, IfRefused, IsRefusal, IsFront, IsCollectionOf, list_of_spellings}
 use Rattle.wkb.specs.Reads.{members_spelled, spelling_at, Listed, fitted_parts, fitted_members, fitted_line_string}
 use Rattle.wkb.specs.Reads.{fitted_line_strings}
 use Rattle.std.specs.declared.io.Error.{Error}
@@ -25,6 +22,7 @@ use Rattle.wkb.specs.Writes.{Writes, WriteOptions, IsSpelled}
 use Rattle.wkb.specs.Laws.{IsOneOf, IsMember, StandsAt}
 use Rattle.wkb_laws.proofs.EncodingSpells.{IsNumber-number_bytes}
 use Rattle.wkb_laws.proofs.Parts.{begins_number}
+pub use Rattle.wkb_laws.proofs.Rewritings.{outer_srid as srid_of_options}
 
 -- A refusal as one fact: an error of the reader is an allocation failure, or this holds of it.
 pub memory_or : (P : WkbError → Type 0) (e : WkbError) → IfRefused (Err e) P → IsMemory e ⊎ P e
@@ -179,7 +177,7 @@ number_is_read order n x at blob rest fits is =
     (record { front = number_bytes order n x; whole = is; first = IsNumber-number_bytes order n x fits }) in
     (read.0, read.1, sym (drop-drop n at blob) ∙ read.2)
 
--- ---- what views count, and the options' SRID
+-- ---- what views count
 
 -- A polygon has as many rings, and a multi line string as many line strings, as its value.
 pub parts_counted : (g : Listed (List (List Coordinate))) → length (fitted_parts g) ≡ length g.parts
@@ -188,8 +186,3 @@ parts_counted g = length-map g.parts (fitted_line_string (as_dimensions g.dimens
 -- A multi polygon has as many polygons as its value.
 pub members_counted : (g : Listed (List (List (List Coordinate)))) → length (fitted_members g) ≡ length g.parts
 members_counted g = length-map g.parts (fitted_line_strings (as_dimensions g.dimension))
-
--- What has the options has the SRID of their form.
-pub srid_of_options : (order : Endianness) (form : Form) (s : Spelling) → HasOptions order form s
-    → (header s).srid ≡ form_srid form
-srid_of_options order form (node h words members) has = has.1

@@ -1,6 +1,5 @@
 -- Lemmas: a plain geometry of any kind is lawful, and has the dimensions that it shows. `Plain` passes them on.
-use Rattle.std.specs.Prelude.{◌≡◌, List, [], ◌∷◌, map, refl}
-use Rattle.std.proofs.Common.{ap, ◌∙◌, sym, subst}
+use Rattle.std.proofs.Common.{ap, ◌∙◌, sym, subst, ◌≡◌, List, [], ◌∷◌, map, refl}
 use Rattle.wkb_geom.specs.Geometries.{Geometry, dimensions_of, geometries, IsGeometry, AreGeometries}
 use Rattle.wkb.specs.declared.geom.geometry.Geometry.{Geometry as PlainGeometry}
 use Rattle.wkb.specs.declared.geom.geometry.Geometry.TheOpen.{Geometry-F, GeometryCollection-F, Point, LineString}
@@ -12,9 +11,8 @@ use Rattle.wkb.specs.declared.geom.geometry.Geometry.TheFolds.{fold-roll-Geometr
 use Rattle.wkb.specs.declared.geom.geometry.Geometry.TheFolds.{fold_out-GeometryCollection, map-GeometryCollection}
 use Rattle.wkb.specs.declared.geom.geometry.Geometry.TheFolds.{fold-roll-GeometryCollection}
 use Rattle.wkb.specs.declared.geom.geometry.GeometryCollection.{GeometryCollection as PlainCollection}
-use Rattle.wkb_plain.specs.Lawful.{point_lawful, line_string_lawful, polygon_lawful, multi_point_lawful}
-use Rattle.wkb_plain.specs.Lawful.{multi_line_string_lawful, multi_polygon_lawful, line_lawful, rect_lawful}
-use Rattle.wkb_plain.specs.Lawful.{triangle_lawful}
+use Rattle.wkb_plain.specs.Lawful.{line_string_lawful, multi_line_string_lawful, multi_polygon_lawful, triangle_lawful}
+use Rattle.wkb_plain.specs.Lawful.{point_lawful, polygon_lawful, multi_point_lawful, line_lawful, rect_lawful}
 use Rattle.wkb.specs.PlainGeometry.{geometry_layer, collection_layer, plain_geometry, layer_dimensions}
 use Rattle.wkb.specs.PlainGeometry.{plain_dimensions, collection_members}
 

@@ -1,13 +1,9 @@
 -- Lemmas: members by their index, of a list, of a geometry that bytes spell, and of what `as_type` hands out.
-use Rattle.std.proofs.Common.{◌≡◌, ℕ, zero, suc, ◌+◌, ◌*◌, ◌<◌, List, [], ◌∷◌, length, map, Some, None, true}
-use Rattle.std.proofs.Common.{false, nat_lt, sym, ap, subst}
-use Rattle.std.proofs.Common.{◌∙◌, slice_get, arith}
-use Rattle.std.specs.Prelude.{slice_index_or}
-use Rattle.std.proofs.lemmas.Bool.{ltb-true, ltb-false}
+use Rattle.std.proofs.Common.{◌≡◌, ℕ, zero, suc, ◌+◌, ◌*◌, ◌<◌, List, [], ◌∷◌, length, map, Some, None, true, false}
+use Rattle.std.proofs.Common.{nat_lt, sym, ap, subst, ◌∙◌, slice_get, arith, slice_index_or, ltb-true, ltb-false}
 use Rattle.std.proofs.lemmas.Option.{slice_get-get_or, slice_get_past}
 use Rattle.wkb.specs.Prelude.{Dimension}
-use Rattle.wkb.specs.Values.{Value, Values, collection, members, member, member_count}
-use Rattle.wkb.specs.Values.{member_count_each}
+use Rattle.wkb.specs.Values.{Value, Values, collection, members, member, member_count, member_count_each}
 use Rattle.wkb.specs.Spellings.{Spelling, node, Spellings, spelling}
 use Rattle.wkb.specs.Geometries.{AreGeometries, geometries}
 use Rattle.wkb.specs.Reads.{Item, spellings, values, IsCollectionOf, members_spelled, geometry_seen, geometry_lawful}

@@ -1,6 +1,5 @@
 -- Lemmas: what the reader's clauses say of the geometry at an offset in a blob, and of its words.
-use Rattle.std.proofs.Common.{◌≡◌, ℕ, List, drop, ◌⊎◌, inl, inr, Some, None, Err, subst}
-use Rattle.std.proofs.Common.{slice_get}
+use Rattle.std.proofs.Common.{◌≡◌, ℕ, List, drop, ◌⊎◌, inl, inr, Some, None, Err, subst, slice_get}
 use Rattle.wkb.specs.Prelude.{WkbError, IsMemory}
 use Rattle.wkb.specs.Values.{Coordinate}
 use Rattle.wkb.specs.Reads.{Item, IsFront, IsOnlyFront, HasNoFront, IfRefused}

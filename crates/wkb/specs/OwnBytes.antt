@@ -1,8 +1,6 @@
 -- Lemmas: what calls return for bytes that begin with a geometry, as those do that `buf` of a geometry returns.
-use Rattle.std.proofs.Common.{◌≡◌, ℕ, List, Result, Ok, Err, Bool, true, false, ◌⊎◌, inl, inr, sym, ap, subst, ◌∙◌}
-use Rattle.std.proofs.Common.{◌≤◌, length, arith}
-use Rattle.std.specs.Prelude.{IfOk, IfErr, MatchBool, Vec}
-use Rattle.std.specs.Global.{Global}
+use Rattle.std.proofs.Common.{◌≡◌, ℕ, List, Result, Ok, Err, Bool, true, false, ◌⊎◌, inl, inr, sym, ap, subst, ◌∙◌, ◌≤◌}
+use Rattle.std.proofs.Common.{length, arith, IfOk, IfErr, MatchBool, Vec, Global}
 use Rattle.wkb.specs.Prelude.{WkbError, IsMemory, Dimension, Endianness, Ewkb, Iso}
 use Rattle.wkb_geom.specs.declared.error.WkbError.TheVariants as errors
 use Rattle.wkb.specs.Spellings.{header, Spells}
@@ -10,12 +8,12 @@ use Rattle.wkb.specs.Values.{Value}
 use Rattle.wkb.specs.Geometries.{geometry_of}
 use Rattle.wkb.specs.Encodings.{encoding, IsRewritingWithSrid}
 use Rattle.wkb.specs.Writes.{WriteOptions, IsEncodingOf}
-use Rattle.wkb.specs.Reads.{Item, Listed, whole_of, IsFront, IsOnlyFront, IsRead, HasNoFront, IsRefusal, IsNotMemory}
-use Rattle.wkb.specs.Reads.{Reads, Wkb}
+use Rattle.wkb.specs.Reads.{Item, Listed, whole_of, IsFront, IsRead, HasNoFront, IsRefusal, IsNotMemory, Reads, Wkb}
 use Rattle.wkb.specs.Canonical.{HaveOneValue, HaveTwoValues, IsRewritingUnder, IsRefusedUnder, IsPairRefusal, IsSize}
 use Rattle.wkb.specs.Bridges.{memory_or}
 use Rattle.wkb.specs.Known.{never_both, has_one_front, has_one_encoding, length_of_front}
 pub use Rattle.wkb.specs.Terms.{own_options}
+pub use Rattle.wkb_read.proofs.Results.{only_front}
 
 -- Bytes that begin with a geometry, such as those of a geometry's `buf`, are never rejected by a call that rejects
 -- only bytes that begin with none.
@@ -45,12 +43,6 @@ pub read_the_same : {buf : List ℕ} {w : Item} (r : Result Wkb WkbError) → Is
     → IfOk r (λ x. x ≡ w)
 read_the_same (Ok x) f reads = one_geometry reads.front f
 read_the_same (Err e) f reads = tt
-
--- Whatever geometry such bytes begin with is that geometry.
-pub only_front : {buf : List ℕ} {w : Item} → IsFront buf w → IsOnlyFront buf w
-only_front {buf = buf} {w = w} f = λ s t rest g.
-    let one = has_one_front buf s w.spelled t w.value rest f.rest g f.front in
-    (one.0 ∙ f.encoding_is, one.1, one.2)
 
 -- Two geometries that were read are one if their spellings and their values are.
 pub one_item : {v w : Item} → IsRead v → IsRead w → v.spelled ≡ w.spelled → v.value ≡ w.value → v ≡ w

@@ -11,12 +11,11 @@ use Rattle.wkb.specs.declared.geom.geometry.Geometry.TheOpen.{GeometryCollection
 use Rattle.wkb.specs.declared.geom.geometry.Geometry.TheViews.{out-Geometry}
 use Rattle.wkb.specs.declared.geom.geometry.Geometry.TheFolds.{fold-Geometry}
 use Rattle.wkb.specs.declared.geom.geometry.GeometryCollection.{GeometryCollection as PlainCollection}
-use Rattle.wkb_plain.specs.Kinds.{point_dimensions, point_coordinate, line_string_dimensions, line_string_coordinates}
-use Rattle.wkb_plain.specs.Kinds.{polygon_dimensions, polygon_rings, multi_point_dimensions, multi_point_points}
-use Rattle.wkb_plain.specs.Kinds.{multi_line_string_dimensions, multi_line_string_line_strings}
-use Rattle.wkb_plain.specs.Kinds.{multi_polygon_dimensions, multi_polygon_polygons, line_dimensions, line_start}
-use Rattle.wkb_plain.specs.Kinds.{line_end, rect_dimensions, rect_min, rect_max, triangle_dimensions, triangle_first}
-use Rattle.wkb_plain.specs.Kinds.{triangle_second, triangle_third}
+use Rattle.wkb_plain.specs.Kinds.{line_string_coordinates, multi_line_string_dimensions, multi_line_string_line_strings}
+use Rattle.wkb_plain.specs.Kinds.{line_string_dimensions, multi_point_dimensions, multi_polygon_dimensions, line_start}
+use Rattle.wkb_plain.specs.Kinds.{polygon_dimensions, multi_point_points, multi_polygon_polygons, triangle_dimensions}
+use Rattle.wkb_plain.specs.Kinds.{point_dimensions, point_coordinate, line_dimensions, rect_dimensions, triangle_second}
+use Rattle.wkb_plain.specs.Kinds.{polygon_rings, line_end, rect_min, rect_max, triangle_first, triangle_third}
 
 -- one layer, with each collection's geometry in its place
 abbrev pub geometry_layer : Geometry-F Geometry Geometry → Geometry

@@ -1,6 +1,5 @@
 -- Lemmas: what a range says of the numbers that it was widened by, and of those of a value on an axis.
-use Rattle.std.proofs.Common.{◌≡◌, ℕ, ◌+◌, List, ◌++◌, Some, refl, ap, slice_get}
-use Rattle.std.specs.Prelude.{slice_index}
+use Rattle.std.proofs.Common.{◌≡◌, ℕ, ◌+◌, List, ◌++◌, Some, refl, ap, slice_get, slice_index}
 use Rattle.wkb.specs.Prelude.{Dimension}
 use Rattle.wkb.specs.Values.{Coordinate, Value, Values, no_members, member}
 use Rattle.wkb.specs.Checks.{Range, with_word, Axis, words_on, words_of_each, words_on_each, x_axis, y_axis}

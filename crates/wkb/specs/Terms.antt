@@ -11,8 +11,7 @@ use Rattle.wkb.specs.Values.{Coordinate, nest}
 use Rattle.wkb.specs.Spellings.{Spelling, SpellsCoordinates, Front, max_nesting, HasOptions, header}
 use Rattle.wkb.specs.Geometries.{Geometry, normal}
 use Rattle.wkb.specs.Writes.{WriteOptions}
-use Rattle.wkb.specs.Reads.{Listed, Item, order_of, LinearRing, ring_seen, ring_encoding, IsFront}
-use Rattle.wkb.specs.Reads.{IsOnlyFront}
+use Rattle.wkb.specs.Reads.{Listed, Item, order_of, LinearRing, ring_seen, ring_encoding, IsFront, IsOnlyFront}
 use Rattle.wkb.specs.Laws.{StandsAt, ring_start}
 
 -- A ring of a polygon, by what its view lends: the ring's bytes spell its coordinates in the polygon's order and

@@ -147,9 +147,9 @@ pub use Rattle.wkb.specs.Known.{spelled_in_full, size_of_spelled, has_one_encodi
 pub use Rattle.wkb.specs.Known.{coordinate_has_one_encoding, first_start, next_start, first_ring_start, next_ring_start}
 pub use Rattle.wkb.specs.Known.{members_stand, rings_stand, members_in_place, rings_in_place, words_stand}
 pub use Rattle.wkb.specs.Known.{line_string_words_stand, ranks_in_order}
-pub use Rattle.wkb.specs.Bridges.{memory_or, refused_for, part_is_member, member_of, appended, encoding_alone}
-pub use Rattle.wkb.specs.Bridges.{read_before, read_again, front_stands, rest_stands, stands_within, begins_there}
-pub use Rattle.wkb.specs.Bridges.{number_is_read, parts_counted, members_counted, srid_of_options}
+pub use Rattle.wkb.specs.Bridges.{srid_of_options, memory_or, refused_for, part_is_member, member_of, appended}
+pub use Rattle.wkb.specs.Bridges.{encoding_alone, read_before, read_again, front_stands, rest_stands, stands_within}
+pub use Rattle.wkb.specs.Bridges.{begins_there, number_is_read, parts_counted, members_counted}
 pub use Rattle.wkb.specs.Handed.{Handed, handed_kind, kind_handed, not_point, not_line_string, not_polygon}
 pub use Rattle.wkb.specs.Handed.{not_multi_point, not_multi_line_string, not_multi_polygon, not_collection}
 pub use Rattle.wkb.specs.Kept.{Keeps, none, kept, left, KeepsBefore, keeping_starts, keeps_one, leaves_one}
@@ -163,7 +163,7 @@ pub use Rattle.wkb.specs.Lent.{held_ring_stands}
 pub use Rattle.wkb.specs.Members.{item_found, item_missing, no_member, one_member, member_falls, items_lawful}
 pub use Rattle.wkb.specs.Offsets.{BeginsAt, begins_at, none_begins_at, no_word, no_word_there}
 pub use Rattle.wkb.specs.Order.{is_number, not_nan, HasNumbers, IsBetween, stay_numbers, range_has_numbers, between}
-pub use Rattle.wkb.specs.OwnBytes.{own_options, never_refused, memory_alone, one_geometry, read_the_same, only_front}
+pub use Rattle.wkb.specs.OwnBytes.{own_options, only_front, never_refused, memory_alone, one_geometry, read_the_same}
 pub use Rattle.wkb.specs.OwnBytes.{one_item, one_listed, no_longer, no_refusal, not_refused, not_refused_under}
 pub use Rattle.wkb.specs.OwnBytes.{always_compared, own_encoding, own_encoding_with_srid, values_compared}
 pub use Rattle.wkb.specs.Ranges.{IsWithin, BringsWithin, WidenedBefore, stays_within, within_range_of, number_within}

@@ -1,9 +1,8 @@
 -- Inputs that take no memory, by their headers.
 use Rattle.wkb_read.proofs.Prelude.{◌≡◌, ℕ, Bool, List, Ok, Err, refl, subst, arith, WkbType, Endianness, Layout}
 use Rattle.wkb_read.proofs.Prelude.{max_nesting, Item, Reading, and_then, head_at, type_kind, type_dimension, laid}
-use Rattle.wkb_read.proofs.Prelude.{repeated, geometry_at, Agrees}
-use Rattle.wkb_read.proofs.Prelude.{geometry_agrees_lem, HasNoMembers, TypeTakesNone, ReadsWithoutMemory, AsksForNone}
-use Rattle.wkb_read.proofs.Prelude.{BeginsNone, KindTakesNone, TakesNoMemory}
+use Rattle.wkb_read.proofs.Prelude.{repeated, geometry_at, Agrees, geometry_agrees_lem, HasNoMembers, TypeTakesNone}
+use Rattle.wkb_read.proofs.Prelude.{ReadsWithoutMemory, AsksForNone, BeginsNone, KindTakesNone, TakesNoMemory}
 use Rattle.std.proofs.lemmas.Bool.{le-ltb}
 use Rattle.wkb_view.proofs.Algebra.{and_then-least}
 use Rattle.wkb_read.proofs.Bodies.{behind_header, head_opens}

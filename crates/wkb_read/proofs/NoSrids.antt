@@ -3,10 +3,7 @@ use Rattle.wkb_read.proofs.Prelude.{◌≡◌, ◌+◌, ◌-◌, ◌*◌, ◌≤
 use Rattle.wkb_read.proofs.Prelude.{AllByRecursion, Item, spellings, BytesSpell, geometry_seen, Listed, Coordinate}
 use Rattle.wkb_read.proofs.Prelude.{seen_as_it_is}
 use Rattle.std.proofs.Common.{is_some}
-use Rattle.wkb_geom.specs.Encodings.{fault}
-use Rattle.wkb_geom.specs.Numbers.{AreBytes}
-use Rattle.wkb_geom.specs.Refusals.{srid_size}
-use Rattle.wkb_geom.specs.Sizes.{byte_size}
+use Rattle.wkb_laws.specs.Prelude.{fault, AreBytes, srid_size, byte_size}
 use Rattle.wkb_geom.specs.Spellings.{Spelling, node, Spells, srid_count, srid_count_each}
 use Rattle.wkb_laws.proofs.Lengths.{srid_size_is, none_without_members, none_in_points}
 use Rattle.wkb_laws.proofs.Spelled.{in_full_lem, size_of_spelled_lem}

@@ -1,22 +1,20 @@
 -- The members of collections, as a caller of the geometry traits sees them.
+use Rattle.wkb_read.specs.Prelude.{Value, Values, Coordinate, Listed, Geometry, geometries, geometry_of, geometries_of}
+use Rattle.wkb_read.specs.Prelude.{IsGeometry, Item, values, Layout, as_dimensions}
 use Rattle.wkb_read.proofs.Prelude.{◌≡◌, ℕ, List, [], ◌∷◌, map, refl, sym, ap, ◌∙◌, slice_get, Option, option_map, Bor}
-use Rattle.wkb_read.proofs.Prelude.{length, Value, Values, Coordinate, Listed, Geometry, geometries, geometry_of}
-use Rattle.wkb_read.proofs.Prelude.{geometries_of, IsGeometry, Item, values, geometry_seen, members_seen, Layout}
-use Rattle.wkb_read.proofs.Prelude.{parts_in, AreMembers, IsMemberAt, arith}
+use Rattle.wkb_read.proofs.Prelude.{length, geometry_seen, members_seen, parts_in, AreMembers, IsMemberAt, arith}
 use Rattle.wkb_read.proofs.Places.{is_member_at}
 use Rattle.std.proofs.lemmas.Bool.{ltb-true, ltb-false}
 use Rattle.std.proofs.lemmas.List.{length-map}
 use Rattle.std.proofs.lemmas.Option.{slice_get-map, slice_get_past, slice_get_read}
 use Rattle.std.specs.Slice.{IsItemAt}
-use Rattle.wkb_geom.specs.Dimensions.{as_dimensions}
 use Rattle.wkb_geom.specs.declared.geom.GeometryType.{GeometryType}
 use Rattle.wkb_geom.specs.Geometries.{point}
 use Rattle.wkb_geom.specs.Parts.{CollectionMeans}
 use Rattle.wkb_laws.specs.Fits.{fitted_geometry, fitted_geometries}
 use Rattle.wkb_view.specs.Views.{point_seen, point_dimension, seen_coordinate}
 use Rattle.wkb_view.specs.Lawful.{fitted_geometry-same, point_value, point_item_lawful}
-use Rattle.wkb_view.specs.declared.point.Point.{Point}
-use Rattle.wkb_view.specs.declared.line_string.LineString.{LineString}
+use Rattle.wkb_view.specs.declared.{point.Point.Point, line_string.LineString.LineString}
 use Rattle.wkb_view.specs.declared.multi_point.MultiPoint.{MultiPoint}
 use Rattle.wkb_read.specs.Views.{IsViewOf}
 use Rattle.wkb_geom.specs.Values as value

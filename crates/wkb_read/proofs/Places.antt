@@ -1,15 +1,12 @@
 -- The bytes of the members of open collections.
-use Rattle.wkb_read.proofs.Prelude.{collection, member_count, listed_count, list_item, collection_with, Head, ◌≡◌, ℕ}
-use Rattle.wkb_read.proofs.Prelude.{◌+◌, ◌-◌, ◌≤◌, List, [], ◌∷◌, ◌++◌, length, take, drop, Ok, Err, refl, sym, ap}
-use Rattle.wkb_read.proofs.Prelude.{subst, ◌∙◌, append_assoc, append-nil, Option, length-append, length-drop}
-use Rattle.wkb_read.proofs.Prelude.{slice_get, AllByRecursion, ∥∥₁_elim, props, arith, Bor, Layout, any, number}
-use Rattle.wkb_read.proofs.Prelude.{Listed, Values, Item, Reading, body_start, parts_start, consumed, spellings}
-use Rattle.wkb_read.proofs.Prelude.{values, Counts, HasHead, BytesSpell, Wkb, Whole, joined_encodings, parts_in}
-use Rattle.wkb_read.proofs.Prelude.{HoldsMembers, IsCollectionIn, AreMembers, IsMemberAt, geometry_inside, IsFinished}
-use Rattle.wkb_read.proofs.Prelude.{BeginsAs, max_nesting, nest}
-use Rattle.wkb_geom.specs.Numbers.{IsNumber}
-use Rattle.wkb_geom.specs.Spellings.{SpellsEach}
-use Rattle.wkb_geom.specs.Values.{count}
+use Rattle.wkb_read.proofs.Prelude.{collection_with, AllByRecursion, joined_encodings, IsCollectionIn, geometry_inside}
+use Rattle.wkb_read.proofs.Prelude.{member_count, listed_count, append_assoc, length-append, length-drop, HoldsMembers}
+use Rattle.wkb_read.proofs.Prelude.{collection, list_item, append-nil, body_start, parts_start, BytesSpell, max_nesting}
+use Rattle.wkb_read.proofs.Prelude.{subst, slice_get, ∥∥₁_elim, consumed, spellings, AreMembers, IsMemberAt, IsFinished}
+use Rattle.wkb_read.proofs.Prelude.{length, Option, props, Layout, number, Listed, Reading, HasHead, parts_in, BeginsAs}
+use Rattle.wkb_read.proofs.Prelude.{Head, ◌≡◌, List, ◌++◌, take, drop, refl, arith, Values, Item, values, Counts, Whole}
+use Rattle.wkb_read.proofs.Prelude.{ℕ, ◌+◌, ◌-◌, ◌≤◌, [], ◌∷◌, Ok, Err, sym, ap, ◌∙◌, Bor, any, Wkb, nest}
+use Rattle.wkb_laws.specs.Prelude.{IsNumber, SpellsEach, count}
 use Rattle.wkb_laws.proofs.Heads.{IsRight, item_is}
 use Rattle.wkb_laws.proofs.Bodies.{parts_encoding}
 use Rattle.wkb_laws.proofs.OneFront.{one_spelling}

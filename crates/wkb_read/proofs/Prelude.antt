@@ -1,9 +1,8 @@
 -- The words that the proofs of this crate share, passed on from one place. Declares nothing.
-pub use Rattle.std.proofs.Common.{◌≡◌, ℕ, suc, ◌+◌, ◌-◌, ◌*◌, ◌<◌, ◌≤◌, List, [], ◌∷◌, ◌++◌, length, take, drop, map}
-pub use Rattle.std.proofs.Common.{reverse, slice_set, slice_index_or, vec_len, Bool, true, false, ltb, Option, Some}
-pub use Rattle.std.proofs.Common.{None, Result, Ok, Err, refl, sym, ap, subst, ◌∙◌, append_assoc, append-nil}
-pub use Rattle.std.proofs.Common.{length-append, length-drop, length-set, take_all, take-suc, take-suc-set, arith}
-pub use Rattle.std.proofs.Common.{rules, sum_by}
+pub use Rattle.std.proofs.Common.{ℕ, slice_index_or, append_assoc, append-nil, length-append, length-drop, take-suc-set}
+pub use Rattle.std.proofs.Common.{length, reverse, slice_set, vec_len, Option, Result, length-set, take_all, take-suc}
+pub use Rattle.std.proofs.Common.{List, ◌++◌, take, drop, Bool, true, false, Some, None, subst, arith, rules, sum_by}
+pub use Rattle.std.proofs.Common.{◌≡◌, suc, ◌+◌, ◌-◌, ◌*◌, ◌<◌, ◌≤◌, [], ◌∷◌, map, ltb, Ok, Err, refl, sym, ap, ◌∙◌}
 pub use Rattle.std.specs.Prelude.{slice_get}
 pub use Rattle.std.specs.Borrow.{Bor}
 pub use Rattle.std.specs.List.{AllByRecursion}
@@ -14,26 +13,23 @@ pub use Rattle.std.proofs.Props.{props}
 pub use Rattle.wkb_geom.specs.declared.common.Endianness.TheVariants.{LittleEndian}
 pub use Rattle.wkb_geom.specs.Reading.{◌⊕◌, slots_of, then_body, cause_of, geometry_inside}
 pub use Rattle.wkb_read.specs.Prelude.{WkbType, Endianness, Cause, ReadError, WkbError, Head, Layout, max_nesting}
-pub use Rattle.wkb_read.specs.Prelude.{Geometry, geometries, geometry_of, geometries_of, IsGeometry, number, Item}
-pub use Rattle.wkb_read.specs.Prelude.{Cost, one_turn, Outcome, Reading, costs, done, list_item, collection_with}
+pub use Rattle.wkb_read.specs.Prelude.{Geometry, geometries, geometry_of, geometries_of, IsGeometry, number, Item, Cost}
+pub use Rattle.wkb_read.specs.Prelude.{one_turn, Outcome, Reading, costs, done, list_item, collection_with}
 pub use Rattle.wkb_read.specs.Prelude.{collection_within, layout_of, laid, at_no_cost, and_then, consumed, body_start}
-pub use Rattle.wkb_read.specs.Prelude.{parts_start, type_kind, type_dimension, body_at, values, spellings, Refuses}
-pub use Rattle.wkb_read.specs.Prelude.{any, Listed, Tells, TellsReadError, Coordinate, Value, Values, collection}
+pub use Rattle.wkb_read.specs.Prelude.{parts_start, type_kind, type_dimension, body_at, values, spellings, Refuses, any}
+pub use Rattle.wkb_read.specs.Prelude.{Listed, Tells, TellsReadError, Coordinate, Value, Values, collection}
 pub use Rattle.wkb_read.specs.Prelude.{member_count, listed_count, Counts, HasHead, IsCause, Spent, AtMost, CanCount}
 pub use Rattle.wkb_read.specs.Prelude.{Stops, BytesSpell, cost_of, nest, nest_each}
 unfoldable pub use Rattle.wkb_read.specs.Prelude.{repeated, head_at, geometry_at}
 pub use Rattle.wkb_laws.specs.Laws.{Agrees}
 pub use Rattle.wkb_laws.proofs.GeometryAt.{geometry_agrees_lem}
-pub use Rattle.wkb_read.specs.declared.geometry.Wkb.{Wkb}
-pub use Rattle.wkb_read.specs.declared.read.stack.Begun.TheVariants.{Whole}
-pub use Rattle.wkb_read.specs.declared.read.stack.Open.{Open}
+pub use Rattle.wkb_read.specs.declared.{geometry.Wkb.Wkb, read.stack.Begun.TheVariants.Whole, read.stack.Open.Open}
 pub use Rattle.wkb_read.specs.Memory.{IsNotMemory, HasNoMembers, TypeTakesNone, ReadsWithoutMemory}
 pub use Rattle.wkb_read.specs.Places.{joined_encodings, parts_in, closing, HoldsMembers, IsCollectionIn, AreMembers}
 pub use Rattle.wkb_read.specs.Places.{IsMemberAt}
 pub use Rattle.wkb_geom.specs.Fronts.{HasNoFront}
 pub use Rattle.wkb_read.specs.Reads.{IsFront, IsOnlyFront, IsRefusal, TellsEach, IfRefused, IfMemory, CountsValue}
-pub use Rattle.wkb_read.specs.Reads.{CountsRefusal, CountsAtMost, AsksForNone, BeginsNone, KindTakesNone}
-pub use Rattle.wkb_read.specs.Reads.{TakesNoMemory}
+pub use Rattle.wkb_read.specs.Reads.{CountsRefusal, CountsAtMost, AsksForNone, BeginsNone, KindTakesNone, TakesNoMemory}
 pub use Rattle.wkb_read.specs.Meanings.{geometry_seen, members_seen}
 pub use Rattle.wkb_read.specs.Lawful.{seen_as_it_is}
 pub use Rattle.wkb_read.specs.Stack.{after_member, in_collection, outward, first_member, IsOpen, AreOpen, IsFinished}

@@ -35,8 +35,9 @@ pub record IsAtStart (buf : List ℕ) (w : Item) (new : Counts) : Type 0 where
   pub one_front : IsOnlyFront buf w
   pub counts : CountsValue w.value new
 
-only_front : (buf : List ℕ) (w : Item) → IsFront buf w → IsOnlyFront buf w
-only_front buf w p = λ s t rest f.
+-- Whatever geometry bytes begin with is the one that they begin with.
+pub only_front : {buf : List ℕ} {w : Item} → IsFront buf w → IsOnlyFront buf w
+only_front {buf = buf} {w = w} p = λ s t rest f.
     let one = one_front_lem buf s w.spelled t w.value rest p.rest f p.front in
     (one.0 ∙ p.encoding_is, one.1, one.2)
 
@@ -49,7 +50,7 @@ read_by buf (c, Ok x) h w rest new is spent =
     subst (λ (i : Item). IsAtStart buf i new) item
     (record {
       front = front;
-      one_front = only_front buf x.0 front;
+      one_front = only_front front;
       counts = (omega arith, omega arith);
     })
 read_by buf (c, Err f) h w rest new is spent = absurd cc

@@ -1,7 +1,6 @@
 -- Sums over parts are below the number of bytes.
 use Rattle.wkb_read.proofs.Prelude.{◌≡◌, ℕ, ◌+◌, ◌≤◌, List, [], ◌∷◌, length, refl, arith, Item, values, BytesSpell}
-use Rattle.wkb_read.proofs.Prelude.{Layout, list_item, collection_with, rules, sum_by, coordinates_inside}
-use Rattle.wkb_read.proofs.Prelude.{parts_inside}
+use Rattle.wkb_read.proofs.Prelude.{Layout, list_item, collection_with, rules, sum_by, coordinates_inside, parts_inside}
 use Rattle.std.proofs.lemmas.List.Sums.{sum_by-cons}
 use Rattle.wkb_geom.specs.Counted.{coordinate_count, coordinate_count_each}
 use Rattle.wkb_geom.specs.Values.{member_count, member_count_each}

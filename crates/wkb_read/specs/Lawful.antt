@@ -1,9 +1,8 @@
 -- Lemmas: what a geometry means to a caller of the traits is lawful, has the dimensions of its value, and is the
 -- geometry of its value where that is lawful.
-use Rattle.std.specs.Prelude.{◌≡◌}
-use Rattle.wkb_read.specs.Prelude.{as_dimensions, Value, Values, geometries, geometry_of}
-use Rattle.wkb_read.specs.Prelude.{IsGeometry, AreGeometries, Item}
-use Rattle.std.proofs.Common.{refl}
+use Rattle.wkb_read.specs.Prelude.{as_dimensions, Value, Values, geometries, geometry_of, IsGeometry, AreGeometries}
+use Rattle.wkb_read.specs.Prelude.{Item}
+use Rattle.std.proofs.Common.{refl, ◌≡◌}
 use Rattle.wkb_geom.specs.Values as value
 use Rattle.wkb_geom.specs.Geometries.{dimensions_of}
 use Rattle.wkb_laws.specs.Fits.{fitted_geometry}

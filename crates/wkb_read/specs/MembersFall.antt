@@ -1,7 +1,6 @@
 -- Lemmas: each member is smaller than its collection, so that a recursion over members ends.
-use Rattle.std.specs.Prelude.{max, ◌+◌, ◌*◌, ◌≤◌, List, [], ◌∷◌}
 use Rattle.wkb_read.specs.Prelude.{Item, values}
-use Rattle.std.proofs.Common.{arith}
+use Rattle.std.proofs.Common.{arith, max, ◌+◌, ◌*◌, ◌≤◌, List, [], ◌∷◌}
 use denote.Param.Weighed.{most}
 use Rattle.wkb_read.specs.Nodes.{nodes_all, size_outside}
 

@@ -2,8 +2,7 @@
 use Rattle.std.specs.Prelude.{◌≡◌, List, Bool, nat_lt}
 use Rattle.std.specs.List.{AllByRecursion}
 use Rattle.wkb_read.specs.Prelude.{Item, Value, BytesSpell, members_spelled}
-use Rattle.wkb_geom.specs.Spellings.{srid_count, srid_count_each}
-use Rattle.wkb_geom.specs.Values.{kind}
+use Rattle.wkb_laws.specs.Prelude.{srid_count, srid_count_each, kind}
 
 -- whether it is a point, a line string, a polygon or a multi point: no member of these has an SRID
 abbrev pub tells_size : Value → Bool

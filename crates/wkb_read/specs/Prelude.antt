@@ -1,14 +1,8 @@
 -- The names of the field, passed on from one place. Declares nothing.
-pub use Rattle.wkb_geom.specs.declared.code.WkbType.{WkbType}
-pub use Rattle.wkb_geom.specs.declared.common.Dimension.{Dimension}
-pub use Rattle.wkb_geom.specs.declared.common.Endianness.{Endianness}
-pub use Rattle.wkb_geom.specs.declared.common.Form.TheVariants.{Iso}
-pub use Rattle.wkb_geom.specs.declared.error.Cause.{Cause}
-pub use Rattle.wkb_geom.specs.declared.error.ReadError.{ReadError}
+pub use Rattle.wkb_geom.specs.declared.{code.WkbType.WkbType, common.Dimension.Dimension, common.Endianness.Endianness}
+pub use Rattle.wkb_geom.specs.declared.{common.Form.TheVariants.Iso, error.Cause.Cause, error.ReadError.ReadError}
+pub use Rattle.wkb_geom.specs.declared.{error.WkbError.WkbError, header.Head.Head, header.Layout.Layout}
 pub use Rattle.wkb_geom.specs.declared.error.ReadError.TheVariants as read_errors
-pub use Rattle.wkb_geom.specs.declared.error.WkbError.{WkbError}
-pub use Rattle.wkb_geom.specs.declared.header.Head.{Head}
-pub use Rattle.wkb_geom.specs.declared.header.Layout.{Layout}
 pub use Rattle.wkb_geom.specs.Dimensions.{as_dimensions}
 pub use Rattle.wkb_geom.specs.Fronts.{Front, HasNoFront, max_nesting}
 pub use Rattle.wkb_geom.specs.Geometries.{Geometry, Geometries, geometries, geometry_of, geometries_of, normal}

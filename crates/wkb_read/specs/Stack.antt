@@ -9,10 +9,8 @@ use Rattle.wkb_read.specs.Prelude.{Counts, HasHead, Spent, Stops, BytesSpell, ne
 use Rattle.wkb_geom.specs.Reading.{geometry_inside}
 use Rattle.wkb_view.specs.Entries.{entries, capacity}
 use Rattle.wkb_geom.specs.declared.code.WkbType.TheVariants as kinds
-use Rattle.wkb_read.specs.declared.geometry.Wkb.{Wkb}
-use Rattle.wkb_read.specs.declared.read.stack.Open.{Open}
-use Rattle.wkb_read.specs.declared.read.stack.Begun.{Begun}
-use Rattle.wkb_read.specs.declared.read.stack.Begun.TheVariants.{Whole, Opened}
+use Rattle.wkb_read.specs.declared.{geometry.Wkb.Wkb, read.stack.Open.Open, read.stack.Begun.Begun}
+use Rattle.wkb_read.specs.declared.{read.stack.Begun.TheVariants.Whole, read.stack.Begun.TheVariants.Opened}
 use Rattle.wkb_read.specs.Places.{joined_encodings, closing}
 
 -- the reading of a collection's count and members, inside this number of open collections

@@ -2,9 +2,8 @@
 use Rattle.wkb_read.specs.Prelude.{Value, polygon, multi_line_string, multi_polygon, collection}
 use Rattle.wkb_geom.specs.Values.{point, line_string, multi_point}
 use Rattle.wkb_read.specs.declared.geometry_type.GeometryType.{GeometryType}
-use Rattle.wkb_read.specs.declared.geometry_type.GeometryType.TheVariants.{Point, LineString, Polygon, MultiPoint}
-use Rattle.wkb_read.specs.declared.geometry_type.GeometryType.TheVariants.{MultiLineString, MultiPolygon}
-use Rattle.wkb_read.specs.declared.geometry_type.GeometryType.TheVariants.{GeometryCollection}
+use Rattle.wkb_read.specs.declared.geometry_type.GeometryType.TheVariants.{Polygon, MultiLineString, GeometryCollection}
+use Rattle.wkb_read.specs.declared.geometry_type.GeometryType.TheVariants.{Point, LineString, MultiPoint, MultiPolygon}
 
 -- the kind that a value has, as the reader names it
 abbrev pub geometry_type_of : Value → GeometryType
