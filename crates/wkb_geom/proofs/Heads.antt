@@ -2,10 +2,9 @@
 use Rattle.std.proofs.Common.{◌≡◌, ℕ, ◌≤◌, List, length, drop, Some, Ok, Bool, false, slice_index_or}
 use Rattle.std.proofs.Common.{refl, arith, le-ltb}
 use Rattle.std.proofs.lemmas.Bool.{cond-false}
-use Rattle.wkb_geom.specs.declared.code.WkbType.{WkbType}
+use Rattle.wkb_geom.specs.declared.{code.WkbType.WkbType, common.Endianness.Endianness}
 use Rattle.wkb_geom.specs.declared.code.WkbType.TheVariants as kinds
 use Rattle.wkb_geom.specs.declared.common.Dimension.TheVariants as dimensions
-use Rattle.wkb_geom.specs.declared.common.Endianness.{Endianness}
 use Rattle.wkb_geom.specs.Numbers.{number}
 use Rattle.wkb_geom.specs.Codes.{iso_code}
 use Rattle.wkb_geom.specs.Reading.{order_of_byte, meaning, type_kind, type_dimension}

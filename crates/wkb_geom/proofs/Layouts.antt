@@ -1,18 +1,14 @@
 -- The layout of a member that is known to stand at the start of the bytes, by its first byte and the flag of its code.
-use Rattle.std.proofs.Common.{◌≡◌, ℕ, ◌≤◌, List, length, drop, Option, Some, None, Bool, true, false}
-use Rattle.std.proofs.Common.{sym, ap, ◌∙◌, arith, length-drop, Result, Ok, Err}
-use Rattle.std.specs.Prelude.{IsOk, nat_lt, ◌==◌, if◌then◌else◌, slice_index_or, not}
+use Rattle.std.proofs.Common.{length, Option, false, arith, length-drop, Result, nat_lt, if◌then◌else◌, slice_index_or}
+use Rattle.std.proofs.Common.{◌≡◌, ℕ, ◌≤◌, List, drop, Some, None, Bool, true, sym, ap, ◌∙◌, Ok, Err, IsOk, ◌==◌, not}
 use Rattle.std.proofs.lemmas.Bool.{ltb-false}
-use Rattle.wkb_geom.specs.declared.common.Dimension.{Dimension}
-use Rattle.wkb_geom.specs.declared.common.Endianness.{Endianness}
+use Rattle.wkb_geom.specs.declared.{common.Dimension.Dimension, common.Endianness.Endianness, header.Head.Head}
+use Rattle.wkb_geom.specs.declared.{header.Layout.Layout, error.Cause.Cause}
 use Rattle.wkb_geom.specs.declared.error.Cause.TheVariants.{EndOfInput as end_of_input}
-use Rattle.wkb_geom.specs.declared.header.Head.{Head}
-use Rattle.wkb_geom.specs.declared.header.Layout.{Layout}
-use Rattle.wkb_geom.specs.declared.error.Cause.{Cause}
 use Rattle.wkb_geom.specs.Meanings.{has_srid_flag}
 use Rattle.wkb_geom.specs.Numbers.{number}
-use Rattle.wkb_geom.specs.Reading.{Meaning, meaning_of, head_by_code}
-use Rattle.wkb_geom.specs.Reading.{head_by_order, head_at, order_of_byte, laid, layout_wanted, member_layout}
+use Rattle.wkb_geom.specs.Reading.{Meaning, meaning_of, head_by_code, head_by_order, head_at, order_of_byte, laid}
+use Rattle.wkb_geom.specs.Reading.{layout_wanted, member_layout}
 
 -- the layout of a member of this order and code
 abbrev layout_by : ℕ → Dimension → Endianness → ℕ → Layout

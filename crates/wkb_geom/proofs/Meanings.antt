@@ -1,10 +1,8 @@
 -- What codes stand for: the number is taken apart flag by flag, and what is read is the one meaning.
-use Rattle.std.proofs.Common.{◌≡◌, ◌⊎◌, ℕ, ◌+◌, ◌*◌, ◌/◌, ◌%◌, ◌<◌, ◌≤◌, Option, Some, None, Bool, true}
-use Rattle.std.proofs.Common.{false, sym, ap, subst, arith}
-use Rattle.std.specs.Prelude.{nat_le, ◌||◌, if◌then◌else◌}
+use Rattle.std.proofs.Common.{◌≡◌, ◌⊎◌, ℕ, ◌+◌, ◌*◌, ◌/◌, ◌%◌, ◌<◌, ◌≤◌, Option, Some, None, Bool, true, false, sym, ap}
+use Rattle.std.proofs.Common.{subst, arith, nat_le, ◌||◌, if◌then◌else◌}
 use Rattle.std.proofs.lemmas.Bool.Decides.{nat_tests}
-use Rattle.wkb_geom.specs.declared.common.Dimension.{Dimension}
-use Rattle.wkb_geom.specs.declared.code.WkbType.{WkbType}
+use Rattle.wkb_geom.specs.declared.{common.Dimension.Dimension, code.WkbType.WkbType}
 use Rattle.wkb_geom.specs.Dimensions.{has_z, has_m}
 use Rattle.wkb_geom.specs.Codes.{Code, flag, thousands, dimension_of_thousands, z_flag, m_flag, srid_flag}
 use Rattle.wkb_geom.specs.Reading.{Meaning, type_kind, type_dimension, meaning_of, meaning_with, without, in_table}
