@@ -1,16 +1,10 @@
 -- What each plain kind but the collection shows: its dimensions and its words.
 use Rattle.std.specs.Prelude.{◌≡◌, ℕ, ◌<◌, List, All, map, Option, IfSome}
 use Rattle.std.specs.Option.{option_map}
-use Rattle.wkb_plain.specs.declared.coord.Coord.{Coord}
-use Rattle.wkb_plain.specs.declared.line.Line.{Line}
-use Rattle.wkb_plain.specs.declared.line_string.LineString.{LineString}
-use Rattle.wkb_plain.specs.declared.multi_line_string.MultiLineString.{MultiLineString}
-use Rattle.wkb_plain.specs.declared.multi_point.MultiPoint.{MultiPoint}
-use Rattle.wkb_plain.specs.declared.multi_polygon.MultiPolygon.{MultiPolygon}
-use Rattle.wkb_plain.specs.declared.point.Point.{Point}
-use Rattle.wkb_plain.specs.declared.polygon.Polygon.{Polygon}
-use Rattle.wkb_plain.specs.declared.rect.Rect.{Rect}
-use Rattle.wkb_plain.specs.declared.triangle.Triangle.{Triangle}
+use Rattle.wkb_plain.specs.declared.{multi_line_string.MultiLineString.MultiLineString, triangle.Triangle.Triangle}
+use Rattle.wkb_plain.specs.declared.{line_string.LineString.LineString, multi_polygon.MultiPolygon.MultiPolygon}
+use Rattle.wkb_plain.specs.declared.{coord.Coord.Coord, multi_point.MultiPoint.MultiPoint, polygon.Polygon.Polygon}
+use Rattle.wkb_plain.specs.declared.{line.Line.Line, point.Point.Point, rect.Rect.Rect}
 use Rattle.wkb_geom.specs.declared.common.Dimensions.{Dimensions}
 use Rattle.wkb_geom.specs.Dimensions.{size}
 use Rattle.wkb_plain.specs.Runs.{coordinates_in}

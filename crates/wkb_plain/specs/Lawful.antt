@@ -9,16 +9,10 @@ use Rattle.wkb_geom.specs.declared.common.Dimensions.{Dimensions}
 use Rattle.wkb_geom.specs.Dimensions.{size}
 use Rattle.wkb_geom.specs.Geometries.{IsCoordinate, IsPoint, AreCoordinates}
 use Rattle.wkb_geom.specs.Lawful.{lawful_coordinate, lawful_point, each_part, at_dimension}
-use Rattle.wkb_plain.specs.declared.coord.Coord.{Coord}
-use Rattle.wkb_plain.specs.declared.line.Line.{Line}
-use Rattle.wkb_plain.specs.declared.line_string.LineString.{LineString}
-use Rattle.wkb_plain.specs.declared.multi_line_string.MultiLineString.{MultiLineString}
-use Rattle.wkb_plain.specs.declared.multi_point.MultiPoint.{MultiPoint}
-use Rattle.wkb_plain.specs.declared.multi_polygon.MultiPolygon.{MultiPolygon}
-use Rattle.wkb_plain.specs.declared.point.Point.{Point}
-use Rattle.wkb_plain.specs.declared.polygon.Polygon.{Polygon}
-use Rattle.wkb_plain.specs.declared.rect.Rect.{Rect}
-use Rattle.wkb_plain.specs.declared.triangle.Triangle.{Triangle}
+use Rattle.wkb_plain.specs.declared.{multi_line_string.MultiLineString.MultiLineString, triangle.Triangle.Triangle}
+use Rattle.wkb_plain.specs.declared.{line_string.LineString.LineString, multi_polygon.MultiPolygon.MultiPolygon}
+use Rattle.wkb_plain.specs.declared.{coord.Coord.Coord, multi_point.MultiPoint.MultiPoint, polygon.Polygon.Polygon}
+use Rattle.wkb_plain.specs.declared.{line.Line.Line, point.Point.Point, rect.Rect.Rect}
 use Rattle.wkb_plain.specs.Runs.{runs, coordinates_in}
 use Rattle.wkb_plain.specs.Kinds.{coord_dimensions, coord_words, point_dimensions, point_coordinate}
 use Rattle.wkb_plain.specs.Kinds.{line_string_dimensions, line_string_coordinates, polygon_dimensions, polygon_rings}
