@@ -1,6 +1,5 @@
 -- A number of coordinates at the origin.
-use Rattle.std.proofs.Common.{ℕ, zero, suc, List, [], ◌∷◌, refl, lit<}
-use Rattle.std.specs.Prelude.{replicate}
+use Rattle.std.proofs.Common.{ℕ, zero, suc, List, [], ◌∷◌, refl, lit<, replicate}
 use Rattle.wkb_geom.specs.declared.common.Dimensions.TheVariants.{Xy}
 use Rattle.wkb_geom.specs.Geometries.{AreCoordinates}
 
