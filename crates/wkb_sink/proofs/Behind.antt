@@ -1,8 +1,7 @@
 -- Encodings that follow one another in a block.
-use Rattle.wkb_sink.proofs.Prelude.{ℕ, List, [], ◌++◌, sym, append_assoc, append-nil, ◌≡◌, ◌+◌, refl}
-use Rattle.wkb_sink.proofs.Prelude.{arith, length-append, subst, take}
-use Rattle.wkb_sink.proofs.Prelude.{replicate, replicate_more, flat_map-append, Endianness, number_bytes}
-use Rattle.wkb_sink.proofs.Prelude.{words_encoding, LaysAt}
+use Rattle.wkb_sink.proofs.Prelude.{ℕ, List, [], ◌++◌, sym, append_assoc, append-nil, ◌≡◌, ◌+◌, refl, arith}
+use Rattle.wkb_sink.proofs.Prelude.{length-append, subst, take, replicate, replicate_more, flat_map-append, Endianness}
+use Rattle.wkb_sink.proofs.Prelude.{number_bytes, words_encoding, LaysAt}
 
 pub behind : {a b c : ℕ} {x y z s t : List ℕ} → LaysAt a b x y s → LaysAt b c y z t → LaysAt a c x z (s ++ t)
 behind {a = a} {x = x} {s = s} {t = t} p q = grind (arith, length-append, append_assoc)

@@ -1,15 +1,12 @@
 -- Encodings that are laid one after another.
-use Rattle.std.proofs.Common.{rules}
+use Rattle.std.proofs.Common.{rules, IsErrAnd, IfOk, MatchResult}
 use Rattle.wkb_sink.proofs.Prelude.{◌≡◌, ℕ, ◌+◌, ◌≤◌, ◌<◌, List, [], ◌++◌, Option, refl, sym, ap, ◌∙◌, subst, length}
 use Rattle.wkb_sink.proofs.Prelude.{append_assoc, append-nil, arith, length-append, Bool, true, false, Result, Ok, Err}
 use Rattle.wkb_sink.proofs.Prelude.{Appends, Stopped, LaysAt, Waiting, block_size, Progress, IsReady, IsLaid, IsShort}
-use Rattle.wkb_sink.proofs.Prelude.{Moves, RunsOut, IsBroken, IsCut, Advances, progress, IsBegun, IsWritten}
-use Rattle.wkb_sink.proofs.Prelude.{MIN_BLOCK, take, take_all}
-use Rattle.wkb_sink.proofs.Prelude.{length-take-le, ◌-◌}
-use Rattle.std.specs.Prelude.{IsErrAnd, IfOk, MatchResult}
+use Rattle.wkb_sink.proofs.Prelude.{Moves, RunsOut, IsBroken, IsCut, Advances, progress, IsBegun, IsWritten, MIN_BLOCK}
+use Rattle.wkb_sink.proofs.Prelude.{take, take_all, length-take-le, ◌-◌}
 use Rattle.std.proofs.lemmas.Result.{err_from_is_err_and}
-use Rattle.wkb_sink.specs.declared.buffered.Buffered.{Buffered}
-use Rattle.wkb_sink.specs.declared.sink.Sink.{Ghosts}
+use Rattle.wkb_sink.specs.declared.{buffered.Buffered.Buffered, sink.Sink.Ghosts}
 use Rattle.std.proofs.KnownBytes.{Appends-trans}
 
 -- nothing is to be done

@@ -2,9 +2,8 @@
 use Rattle.wkb_sink.proofs.Prelude.{◌≡◌, ℕ, ◌+◌, ◌≤◌, ◌++◌, length, arith, length-append}
 use Rattle.wkb_sink.proofs.Prelude.{Endianness, header_encoding, srid_encoding}
 use Rattle.byteorder.specs.Numbers.{length-bytes_high_first, length-bytes_low_first}
-use Rattle.wkb_geom.specs.declared.common.Dimension.{Dimension}
-use Rattle.wkb_geom.specs.declared.common.Endianness.TheVariants.{BigEndian, LittleEndian}
-use Rattle.wkb_geom.specs.declared.common.Form.{Form}
+use Rattle.wkb_geom.specs.declared.{common.Dimension.Dimension, common.Endianness.TheVariants.BigEndian}
+use Rattle.wkb_geom.specs.declared.{common.Endianness.TheVariants.LittleEndian, common.Form.Form}
 use Rattle.wkb_geom.specs.Numbers.{number_bytes}
 use Rattle.wkb_sink.specs.Options.{header_size}
 

@@ -13,6 +13,5 @@ unfoldable pub use Rattle.wkb_geom.specs.Encodings.{words_encoding, header_encod
 pub use Rattle.wkb_sink.specs.Blocks.{LaysAt, Waiting, block_size}
 pub use Rattle.wkb_sink.specs.Progress.{Progress, Moves, RunsOut, Advances, IsReady, IsLaid, IsShort, IsBroken, IsCut}
 pub use Rattle.wkb_sink.specs.Progress.{held, progress}
-pub use Rattle.wkb_sink.specs.declared.block.TheConstants.{MIN_BLOCK}
+pub use Rattle.wkb_sink.specs.declared.{block.TheConstants.MIN_BLOCK, buffered.Stopped.Stopped}
 pub use Rattle.wkb_sink.specs.Sinks.{IsWritten, IsBegun}
-pub use Rattle.wkb_sink.specs.declared.buffered.Stopped.{Stopped}

@@ -3,9 +3,8 @@ use Rattle.std.specs.Prelude.{ℕ, ◌+◌, List, ◌++◌, is_some}
 use Rattle.wkb_geom.specs.Encodings.{form_srid, header_encoding, inner}
 use Rattle.wkb_geom.specs.Numbers.{number_bytes}
 use Rattle.wkb_geom.specs.Refusals.{srid_size}
-use Rattle.wkb_geom.specs.declared.common.Form.{Form}
+use Rattle.wkb_geom.specs.declared.{common.Form.Form, code.WkbType.WkbType}
 use Rattle.wkb_geom.specs.Reading.{type_dimension, type_kind}
-use Rattle.wkb_geom.specs.declared.code.WkbType.{WkbType}
 use Rattle.wkb_sink.specs.declared.options.WriteOptions.{WriteOptions}
 
 -- the options of a geometry inside another one

@@ -3,9 +3,7 @@ use Rattle.std.specs.Prelude.{◌≡◌, ℕ, ◌<◌, ◌≤◌, Bool, true, fa
 use Rattle.std.specs.Prelude.{Option, Result, MatchResult}
 use Rattle.std.specs.Io.KnownBytes.{Appends}
 use Rattle.wkb_sink.specs.Blocks.{Waiting, block_size}
-use Rattle.wkb_sink.specs.declared.block.TheConstants.{MIN_BLOCK}
-use Rattle.wkb_sink.specs.declared.buffered.Buffered.{Buffered}
-use Rattle.wkb_sink.specs.declared.buffered.Stopped.{Stopped}
+use Rattle.wkb_sink.specs.declared.{block.TheConstants.MIN_BLOCK, buffered.Buffered.Buffered, buffered.Stopped.Stopped}
 use Rattle.wkb_sink.specs.declared.sink.Sink.{Ghosts}
 
 -- which sink it is, the bytes that were appended, where it tells them, whether it has failed, what is known of the

@@ -1,9 +1,8 @@
 -- Coordinates, and runs of them: those of a line from an index up to another one.
 use Rattle.std.specs.Prelude.{◌≡◌, ℕ, ◌≤◌, ◌-◌, ◌*◌, List, ◌++◌, length, take, drop, replicate, slice_index}
 use Rattle.std.specs.List.{AllByRecursion, flat_map}
-use Rattle.wkb_geom.specs.declared.common.Dimensions.{Dimensions}
-use Rattle.wkb_geom.specs.declared.common.Endianness.{Endianness}
-use Rattle.wkb_geom.specs.declared.common.Endianness.TheVariants.{BigEndian, LittleEndian}
+use Rattle.wkb_geom.specs.declared.{common.Dimensions.Dimensions, common.Endianness.Endianness}
+use Rattle.wkb_geom.specs.declared.{common.Endianness.TheVariants.BigEndian, common.Endianness.TheVariants.LittleEndian}
 use Rattle.wkb_geom.specs.Dimensions.{size}
 use Rattle.wkb_geom.specs.Encodings.{words_encoding}
 use Rattle.wkb_geom.specs.Numbers.{IsWord, number_bytes, empty_word}

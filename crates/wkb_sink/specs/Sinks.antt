@@ -1,8 +1,7 @@
 -- What was appended to a sink, where it tells its bytes, and whether it has failed.
 use Rattle.std.specs.Prelude.{◌≡◌, ◌==◌, ◌&&◌, nat_lt, ℕ, ◌<◌, Bool, true, false, List, [], ◌++◌, length, Option}
 use Rattle.std.specs.Prelude.{Some, None, IsSomeAnd, Result, Ok, Err, MatchResult}
-use Rattle.std.specs.declared.io.Error.{Error}
-use Rattle.std.specs.declared.io.ErrorKind.TheVariants.{OutOfMemory, WriteZero}
+use Rattle.std.specs.declared.{io.Error.Error, io.ErrorKind.TheVariants.OutOfMemory, io.ErrorKind.TheVariants.WriteZero}
 use Rattle.std.specs.IoError.{error_kind}
 use Rattle.std.specs.Io.KnownBytes.{Appends}
 use Rattle.wkb_geom.specs.declared.error.WkbError.{WkbError}
