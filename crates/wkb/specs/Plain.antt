@@ -16,18 +16,16 @@ pub use Rattle.wkb_plain.specs.declared.triangle.Triangle.{Triangle}
 pub use Rattle.wkb_plain.specs.declared.line.Line.{Line}
 pub use Rattle.wkb_plain.specs.Runs.{runs, coordinates_in}
 pub use Rattle.wkb_plain.specs.Kinds.{ArePartsFor, HaveOneDimension, ShowsParts, coord_dimensions, coord_words}
-pub use Rattle.wkb_plain.specs.Kinds.{point_dimensions}
-pub use Rattle.wkb_plain.specs.Kinds.{point_coordinate, line_string_dimensions, line_string_coordinates}
-pub use Rattle.wkb_plain.specs.Kinds.{polygon_dimensions, polygon_rings, multi_point_dimensions, multi_point_points}
-pub use Rattle.wkb_plain.specs.Kinds.{multi_line_string_dimensions, multi_line_string_line_strings}
-pub use Rattle.wkb_plain.specs.Kinds.{multi_polygon_dimensions, multi_polygon_polygons, line_dimensions, line_start}
-pub use Rattle.wkb_plain.specs.Kinds.{line_end, rect_dimensions, rect_min, rect_max, triangle_dimensions}
-pub use Rattle.wkb_plain.specs.Kinds.{triangle_first, triangle_second, triangle_third}
+pub use Rattle.wkb_plain.specs.Kinds.{point_dimensions, point_coordinate, line_string_dimensions}
+pub use Rattle.wkb_plain.specs.Kinds.{line_string_coordinates, polygon_dimensions, polygon_rings}
+pub use Rattle.wkb_plain.specs.Kinds.{multi_point_dimensions, multi_point_points, multi_line_string_dimensions}
+pub use Rattle.wkb_plain.specs.Kinds.{multi_line_string_line_strings, multi_polygon_dimensions, multi_polygon_polygons}
+pub use Rattle.wkb_plain.specs.Kinds.{line_dimensions, line_start, line_end, rect_dimensions, rect_min, rect_max}
+pub use Rattle.wkb_plain.specs.Kinds.{triangle_dimensions, triangle_first, triangle_second, triangle_third}
 pub use Rattle.wkb_plain.specs.Lawful.{coord_lawful, point_lawful, line_string_lawful, polygon_lawful}
 pub use Rattle.wkb_plain.specs.Lawful.{multi_point_lawful, multi_line_string_lawful, multi_polygon_lawful, line_lawful}
 pub use Rattle.wkb_plain.specs.Lawful.{rect_lawful, triangle_lawful}
-pub use Rattle.wkb.specs.PlainGeometry.{plain_geometry, plain_dimensions, collection_dimensions}
-pub use Rattle.wkb.specs.PlainGeometry.{collection_members}
+pub use Rattle.wkb.specs.PlainGeometry.{plain_geometry, plain_dimensions, collection_dimensions, collection_members}
 pub use Rattle.wkb.specs.LawfulPlain.{collection_lawful, IsGeometry-plain_geometry}
 
 -- a plain geometry of any kind

@@ -9,9 +9,8 @@ pub use Rattle.wkb_write.specs.Answers.{WritesTo, WritesToVec, IsVecError, Write
 pub use Rattle.wkb_write.specs.Answers.{OutgrowsSlice}
 pub use Rattle.wkb_write.specs.Measures.{Reports}
 pub use Rattle.wkb_sink.specs.Sinks.{FailsBy, TellsFailure, IsOutOfMemory, IsIOError, IsOwnError, IsWritten, IsBegun}
-pub use Rattle.wkb_sink.specs.Sinks.{Puts}
+pub use Rattle.wkb_sink.specs.Sinks.{Puts, put_fails, put_whole, PutsWhole, KnownOfFailure, IsShortOfMemory}
 pub use Rattle.wkb_sink.specs.declared.options.WriteOptions.{WriteOptions}
-pub use Rattle.wkb_sink.specs.Sinks.{put_fails, put_whole, PutsWhole, KnownOfFailure, IsShortOfMemory}
 pub use Rattle.wkb_sink.specs.declared.sink.Sink.{Ghosts}
 pub use Rattle.wkb_sink.specs.Held.{Outward, Growing, FitsCapacity, Lent}
 

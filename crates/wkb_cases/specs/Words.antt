@@ -119,8 +119,8 @@ pub use Rattle.wkb.specs.Reads.{tells_size, geometry_type_of, IsListed, Geometry
 pub use Rattle.wkb.specs.Writes.{IsSizeOf, IsRefusedAs, IsWrittenAs, IsSpelled, IsSpelledAs, IsFailedAs, Writes}
 pub use Rattle.wkb.specs.Writes.{WritesTo, WritesToVec, IsVecError, WritesToSlice, IsInFront, IsSliceError}
 pub use Rattle.wkb.specs.Writes.{OutgrowsSlice, Reports, FailsBy, TellsFailure, IsOutOfMemory, IsIOError, IsOwnError}
-pub use Rattle.wkb.specs.Writes.{IsWritten, IsBegun, Puts, WriteOptions, put_fails, put_whole, PutsWhole}
-pub use Rattle.wkb.specs.Writes.{KnownOfFailure, IsShortOfMemory, Ghosts, Outward, Growing, FitsCapacity, Lent}
+pub use Rattle.wkb.specs.Writes.{IsWritten, IsBegun, Puts, put_fails, put_whole, PutsWhole, KnownOfFailure}
+pub use Rattle.wkb.specs.Writes.{IsShortOfMemory, WriteOptions, Ghosts, Outward, Growing, FitsCapacity, Lent}
 pub use Rattle.wkb.specs.Writes.{IsEncodingOf}
 pub use Rattle.wkb.specs.Laws.{HasOneFront, RestIsFree, BytesAreRead, HasFront, HasRefusal, ReadOrRefused, NeverBoth}
 pub use Rattle.wkb.specs.Laws.{OneRefusal, WritableIsRead, listed_inside, RefusedOutward, EndsTooEarly, CutIsRefused}
