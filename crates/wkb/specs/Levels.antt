@@ -1,19 +1,11 @@
 -- What columns of coordinates mean: their levels, their rows, and what becomes of a row that is written.
-pub use Rattle.wkb_levels.specs.declared.ends.Ends.{Ends}
+pub use Rattle.wkb_levels.specs.declared.{ends.Ends.Ends, levels.Levels.Levels, levels.Place.Place, rings.Rings.Rings}
+pub use Rattle.wkb_levels.specs.declared.{points.Points.Points, polygons.Polygons.Polygons, single.Single.Single}
+pub use Rattle.wkb_levels.specs.declared.{row.Row.Row, row.Kind.Kind, rows.Rows.Rows, write.Written.Written}
 pub use Rattle.wkb_levels.specs.declared.ends.Ends.TheVariants as ends
-pub use Rattle.wkb_levels.specs.declared.levels.Levels.{Levels}
-pub use Rattle.wkb_levels.specs.declared.levels.Place.{Place}
-pub use Rattle.wkb_levels.specs.declared.rings.Rings.{Rings}
-pub use Rattle.wkb_levels.specs.declared.points.Points.{Points}
-pub use Rattle.wkb_levels.specs.declared.polygons.Polygons.{Polygons}
-pub use Rattle.wkb_levels.specs.declared.single.Single.{Single}
 pub use Rattle.wkb_levels.specs.declared.single.Single.TheVariants as singles
-pub use Rattle.wkb_levels.specs.declared.row.Row.{Row}
 pub use Rattle.wkb_levels.specs.declared.row.Row.TheVariants as rows
-pub use Rattle.wkb_levels.specs.declared.row.Kind.{Kind}
 pub use Rattle.wkb_levels.specs.declared.row.Kind.TheVariants as column_kinds
-pub use Rattle.wkb_levels.specs.declared.rows.Rows.{Rows}
-pub use Rattle.wkb_levels.specs.declared.write.Written.{Written}
 pub use Rattle.wkb_levels.specs.declared.write.Written.TheVariants as written
 pub use Rattle.wkb_levels.specs.Cuts.{start_at, AreEnds, AreOnes, pieces_from, only, only_each}
 pub use Rattle.wkb_levels.specs.EndLists.{start_of, ends_of, begin_of, AreEndsWithin}

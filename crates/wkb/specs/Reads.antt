@@ -33,15 +33,11 @@ pub use Rattle.wkb_laws.specs.Fits.{fitted_geometry, fitted_geometries, fitted_p
 pub use Rattle.wkb_laws.specs.Fits.{fitted_rings_size}
 pub use Rattle.wkb_view.specs.Lawful.{point_value, fitted_geometry-same}
 pub use Rattle.wkb_read.specs.declared.geometry.Wkb.{Wkb}
-pub use Rattle.wkb_view.specs.declared.coord.Coord.{Coord}
-pub use Rattle.wkb_view.specs.declared.counts.Counts.{Counts}
-pub use Rattle.wkb_view.specs.declared.line_string.LineString.{LineString}
-pub use Rattle.wkb_view.specs.declared.linear_ring.LinearRing.{LinearRing}
-pub use Rattle.wkb_view.specs.declared.multi_point.MultiPoint.{MultiPoint}
+pub use Rattle.wkb_view.specs.declared.{coord.Coord.Coord, counts.Counts.Counts, line_string.LineString.LineString}
+pub use Rattle.wkb_view.specs.declared.{linear_ring.LinearRing.LinearRing, multi_point.MultiPoint.MultiPoint}
 pub use Rattle.wkb_view.specs.declared.point.Point.{Point}
-pub use Rattle.wkb_geom.specs.declared.geom.GeometryType.{GeometryType}
+pub use Rattle.wkb_geom.specs.declared.{geom.GeometryType.GeometryType, header.Layout.Layout}
 pub use Rattle.wkb_geom.specs.declared.geom.GeometryType.TheVariants as handed
-pub use Rattle.wkb_geom.specs.declared.header.Layout.{Layout}
 pub use Rattle.wkb_geom.specs.Reading.{Reading, Cost, rejection}
 pub use Rattle.wkb_read.specs.Memory.{IsNotMemory}
 pub use Rattle.wkb_read.specs.NoSrids.{tells_size}

@@ -10,8 +10,7 @@ pub use Rattle.wkb_write.specs.Answers.{OutgrowsSlice}
 pub use Rattle.wkb_write.specs.Measures.{Reports}
 pub use Rattle.wkb_sink.specs.Sinks.{FailsBy, TellsFailure, IsOutOfMemory, IsIOError, IsOwnError, IsWritten, IsBegun}
 pub use Rattle.wkb_sink.specs.Sinks.{Puts, put_fails, put_whole, PutsWhole, KnownOfFailure, IsShortOfMemory}
-pub use Rattle.wkb_sink.specs.declared.options.WriteOptions.{WriteOptions}
-pub use Rattle.wkb_sink.specs.declared.sink.Sink.{Ghosts}
+pub use Rattle.wkb_sink.specs.declared.{options.WriteOptions.WriteOptions, sink.Sink.Ghosts}
 pub use Rattle.wkb_sink.specs.Held.{Outward, Growing, FitsCapacity, Lent}
 
 -- the bytes that are returned at Ok are the geometry's encoding under the options
