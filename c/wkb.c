@@ -213,6 +213,10 @@ wkb_status wkb_parts(const void *buf, size_t len, wkb_part *parts, size_t room, 
   return status;
 }
 
+uint32_t wkb_next_part(const void *buf, size_t len, wkb_part *part) {
+  return wkb_raw_next_part(bytes_of(buf, len), len, part);
+}
+
 /* Returns the bytes of all offsets of a column; none if no row has an offset. */
 static size_t offsets_len(const wkb_column *column) {
   size_t size = column->offset_size;

@@ -7,8 +7,8 @@
  * proved one: it replaces null pointers, passes structs on, and returns what it has found.
  *
  * An input may contain arbitrary bytes, in either byte order. They may be at any alignment (tested). Structs have the
- * machine's byte order and alignment. Every call rejects an input as wkb_check() does, with the same status and fault.
- * Bytes after the geometry are ignored.
+ * machine's byte order and alignment. Every call but wkb_next_part() rejects an input as wkb_check() does, with the same
+ * status and fault. Bytes after the geometry are ignored.
  *
  * What wkb_collect() and the calls for one geometry write, by the status that they return:
  *
@@ -327,6 +327,21 @@ wkb_status wkb_same(const void *a, size_t a_len, const void *b, size_t b_len, ui
  *         is rejected
  * @since 1.0 */
 wkb_status wkb_parts(const void *buf, size_t len, wkb_part *parts, size_t room, size_t *count, wkb_fault *fault);
+
+/** Moves on to the next part of any bytes, in preorder, also of an input that is rejected.
+ *
+ * The call doesn't tell which part is the last. An accepted input has as many as wkb_found says. Before a rejected part
+ * come as many as wkb_fault says, and the last of these ends at that part's offset (tested).
+ *
+ * @param buf           the input; may be null if len is 0
+ * @param len           its length in bytes
+ * @param[in,out] part  all zeros at first, but that end may be where the geometry starts; then what the last call has
+ *                      written: the part as in wkb_parts(), but end is where its own coordinates end, or its rings or
+ *                      members start, and next is how many rings of a polygon come directly after it; any numbers are
+ *                      safe; not null
+ * @return 1 if the next part is there up to its rings or members; else 0, and part is unchanged
+ * @since 1.0 */
+uint32_t wkb_next_part(const void *buf, size_t len, wkb_part *part);
 
 /** Validates each row as wkb_check() does. No row stops the others.
  *

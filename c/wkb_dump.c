@@ -1,5 +1,5 @@
 /* SPDX-License-Identifier: MIT OR Apache-2.0 */
-/* Walks over the bytes that wkb_check has checked, and puts the lines. See wkb_dump.h. */
+/* Puts lines for the parts that wkb_next_part finds, up to that which wkb_check rejects. See wkb_dump.h. */
 #include "wkb_dump.h"
 
 #include <inttypes.h>
@@ -11,22 +11,23 @@
 /* A collection is inside at most 128 others; below it are a multi polygon's polygons and their rings. */
 enum { DEEPEST = 132, IN_A_LINE = 8, LINE_ROOM = 512, SAYS_ROOM = 320, NUMBER_ROOM = 40, PATH_NAMES = 8 };
 enum { INDENT = 2, MOST_INDENT = 32, INDENT_BESIDE_BYTES = 14 };
-static const uint32_t SRID_FLAG = 0x20000000, FLAGS = 0xe0000000;
+enum { CODE_END = 5, LONGEST_POINT = 41 };
+static const uint32_t FLAGS = 0xe0000000;
 static const uint64_t NO_PART = UINT64_MAX;
-static const char *const DIMENSIONS[] = {"xy", "xyz", "xym", "xyzm"};
+static const char *const DIMENSIONS[] = {"xy", "xyz", "xym", "xyzm"}, *const ORDERS[] = {"big endian", "little endian"};
 
-/* Rings or members of which one is walked over. */
+/* Rings or members of which one is shown. */
 typedef struct list {
-  uint32_t count;      /* how many there are */
-  uint32_t begun;      /* how many have begun */
-  uint32_t left_out;   /* how many of these were left out */
-  uint32_t dimension;  /* that of rings */
-  bool is_of_rings, is_big;
+  uint32_t count;     /* how many there are */
+  uint32_t begun;     /* how many have begun */
+  uint32_t left_out;  /* how many of these were left out */
+  bool is_of_rings;
 } list;
 
 typedef struct dump {
   const uint8_t *bytes;
-  size_t len, front, at;       /* the input, where the geometry begins in it, and the next byte */
+  size_t len, front, at;       /* the input, where the geometry begins in it, and the next byte that is shown */
+  wkb_part part;               /* the one that is shown; of the rejected one what its byte order and code say */
   wkb_dump_options options;
   wkb_dump_put *put;
   void *to;
@@ -89,26 +90,18 @@ static bool put_bytes(dump *it, size_t count, const char *format, ...) {
   return there == count;
 }
 
-/* Returns the next four bytes as a number, or 0 if there are fewer. */
-static uint32_t next_number(const dump *it, bool is_big) {
+/* Returns the next four bytes as a number in the part's order, or 0 if there are fewer. */
+static uint32_t next_number(const dump *it) {
+  const bool is_big = it->part.order == WKB_ORDER_BIG;
   uint32_t number = 0;
   if (it->len - it->at < 4) return 0;
   for (int i = 0; i < 4; i++) number = number << 8 | it->bytes[it->at + (size_t)(is_big ? i : 3 - i)];
   return number;
 }
 
-/* Goes past a count of coordinates, rings or members. Returns whether all of it is there. */
-static bool put_count(dump *it, bool is_big, const char *what, uint32_t *count) {
-  *count = next_number(it, is_big);
-  return put_bytes(it, 4, "%" PRIu32 " %s%s", *count, what, *count == 1 ? "" : "s");
-}
-
-static double next_double(const dump *it, bool is_big) {
-  uint64_t word = 0;
-  double value;
-  if (it->len - it->at >= 8) word = is_big ? wkb_big_word(it->bytes + it->at) : wkb_little_word(it->bytes + it->at);
-  memcpy(&value, &word, sizeof value);
-  return value;
+static double next_double(const dump *it) {
+  const wkb_part at = {.offset = it->at, .width = 1, .order = it->part.order};
+  return it->len - it->at < 8 ? 0 : wkb_word(it->bytes, &at, 0, 0);
 }
 
 /* The fewest digits that are read as the same number, with a point in any locale. */
@@ -145,29 +138,29 @@ static bool is_left_out(const dump *it, uint64_t item, uint64_t count) {
   return most > 0 && count > most && item + 1 >= most && item + 1 < count;
 }
 
-static bool put_coordinate(dump *it, uint32_t dimension, bool is_big) {
+static bool put_coordinate(dump *it) {
   char text[NUMBER_ROOM];
-  for (const char *name = DIMENSIONS[dimension]; *name != 0; name++) {
-    if (is_shown(it)) spell(next_double(it, is_big), text);
+  for (const char *name = DIMENSIONS[it->part.dimension]; *name != 0; name++) {
+    if (is_shown(it)) spell(next_double(it), text);
     if (!put_bytes(it, 8, "%c %s", *name, text)) return false;
   }
   return true;
 }
 
 /* Shows the coordinates of a point, a line string or a ring, as many as there are. Returns whether all are there. */
-static bool put_coordinates(dump *it, uint32_t dimension, bool is_big, uint64_t count) {
-  size_t size = 8 * strlen(DIMENSIONS[dimension]);
+static bool put_coordinates(dump *it, uint64_t count) {
+  size_t size = 8 * it->part.width;
   uint64_t held = (it->len - it->at) / size, whole = count < held ? count : held;
   for (uint64_t i = 0; i < whole; i++) {
     if (is_shown(it) && !is_left_out(it, i, count)) {
-      put_coordinate(it, dimension, is_big);
+      put_coordinate(it);
       continue;
     }
     uint64_t more = (is_shown(it) && whole == count ? count - 1 : whole) - i;
     if (is_shown(it)) put_left_out(it, more, "coordinate");
     it->at += size * more, i += more - 1;
   }
-  return whole == count || put_coordinate(it, dimension, is_big);
+  return whole == count || put_coordinate(it);
 }
 
 static const char *name_of(const list *items) { return items->is_of_rings ? "ring" : "member"; }
@@ -199,10 +192,24 @@ static void begin_item(dump *it) {
     put_headings(it, it->depth);
 }
 
+/* Takes of the rejected part, which may be cut off, byte order and code alone. The kind is that of a ring if it is one,
+ * or if no geometry has this code. */
+static void take_refused(dump *it) {
+  const wkb_part start = {0};
+  uint8_t alone[LONGEST_POINT] = {0};
+  it->part.kind = WKB_KIND_RING;
+  if (it->part.next > 0) return;
+  for (size_t i = 0; i < CODE_END && i < it->len - it->at; i++) alone[i] = it->bytes[it->at + i];
+  it->part = start;
+  if (!wkb_next_part(alone, sizeof alone, &it->part)) it->part.order = alone[0];
+}
+
 /* Begins a part. The rejected one is shown wherever it is. */
 static void begin_part(dump *it) {
+  it->at = (size_t)it->part.end;
   it->walk.begin = it->at - it->front;
-  it->is_at_refused = it->walk.parts++ == it->refused;
+  it->is_at_refused = it->walk.parts++ == it->refused || !wkb_next_part(it->bytes, it->len, &it->part);
+  if (it->is_at_refused) take_refused(it);
   if (!it->is_at_refused || it->hidden == 0) return;
   for (uint32_t i = it->hidden; i <= it->depth; i++) it->lists[i - 1].left_out--;
   uint32_t from = it->hidden;
@@ -210,58 +217,44 @@ static void begin_part(dump *it) {
   put_headings(it, from);
 }
 
-static bool put_ring(dump *it) {
-  const list *rings = &it->lists[it->depth - 1];
-  begin_part(it);
-  uint32_t count;
-  return put_count(it, rings->is_big, "coordinate", &count) &&
-         put_coordinates(it, rings->dimension, rings->is_big, count);
-}
-
-/* Shows the code of a geometry, in the digits of its standard, and its meaning. Returns whether it has a kind. */
-static bool put_code(dump *it, bool is_big, uint32_t *code, uint32_t *kind, uint32_t *dimension) {
-  *code = next_number(it, is_big);
-  *kind = (*code & ~FLAGS) % 1000, *dimension = (*code & ~FLAGS) / 1000;
-  const char *format = *code & FLAGS ? "code 0x%08" PRIx32 "%s%s%s%s" : "code %" PRIu32 "%s%s%s%s";
-  if (*dimension > WKB_DIM_XYZM || *kind < WKB_KIND_POINT || *kind > WKB_KIND_GEOMETRY_COLLECTION) {
-    put_bytes(it, 4, format, *code, ", which no geometry here has", "", "", "");
+/* Shows the header of a geometry: its code in the digits of its standard. Returns whether the bytes after it are its
+ * body. */
+static bool put_front(dump *it) {
+  const wkb_part *part = &it->part;
+  if (it->at == it->len) return false;
+  put_bytes(it, 1, "%s", part->order > WKB_ORDER_LITTLE ? "no byte order" : ORDERS[part->order]);
+  if (part->order > WKB_ORDER_LITTLE) return false;
+  uint32_t code = next_number(it);
+  const char *format = code & FLAGS ? "code 0x%08" PRIx32 "%s%s%s%s" : "code %" PRIu32 "%s%s%s%s";
+  if (part->kind == WKB_KIND_RING) {
+    put_bytes(it, 4, format, code, ", which no geometry here has", "", "", "");
     return false;
   }
-  *dimension |= *code >> 31 | (*code >> 29 & 2);
-  return put_bytes(it, 4, format, *code, ": ", wkb_kind_text(*kind), ", ", DIMENSIONS[*dimension]);
+  return put_bytes(it, 4, format, code, ": ", wkb_kind_text(part->kind), ", ", DIMENSIONS[part->dimension]) &&
+         (!part->has_srid || put_bytes(it, 4, "SRID %" PRIu32, next_number(it)));
 }
 
-/* Shows the header of a geometry. Returns whether the bytes after it are its body. */
-static bool put_front(dump *it, bool *is_big, uint32_t *kind, uint32_t *dimension) {
-  uint32_t code;
-  if (it->at == it->len) return false;
-  uint8_t order = it->bytes[it->at];
-  *is_big = order == WKB_ORDER_BIG;
-  put_bytes(it, 1, "%s", *is_big ? "big endian" : order == WKB_ORDER_LITTLE ? "little endian" : "no byte order");
-  if (order > WKB_ORDER_LITTLE || !put_code(it, *is_big, &code, kind, dimension)) return false;
-  return (code & SRID_FLAG) == 0 || put_bytes(it, 4, "SRID %" PRIu32, next_number(it, *is_big));
-}
-
-/* Shows a geometry up to its own coordinates, or up to its rings or members, which are then the innermost list. Returns
+/* Shows a part up to its own coordinates, or up to its rings or members, which are then the innermost list. Returns
  * whether all of it is there. */
-static bool put_geometry(dump *it) {
-  uint32_t kind, dimension, count;
-  bool is_big;
+static bool put_part(dump *it) {
+  const bool is_ring = it->part.next > 0;
   begin_part(it);
-  if (!put_front(it, &is_big, &kind, &dimension)) return false;
-  if (kind == WKB_KIND_POINT) return put_coordinates(it, dimension, is_big, 1);
-  const char *what = kind == WKB_KIND_LINE_STRING ? "coordinate" : kind == WKB_KIND_POLYGON ? "ring" : "member";
-  if (!put_count(it, is_big, what, &count)) return false;
-  if (kind == WKB_KIND_LINE_STRING) return put_coordinates(it, dimension, is_big, count);
+  if (!is_ring && !put_front(it)) return false;
+  const uint32_t kind = it->part.kind;
+  if (kind == WKB_KIND_POINT) return put_coordinates(it, 1);
+  const uint32_t count = it->is_at_refused ? next_number(it) : (uint32_t)it->part.count;
+  const char *what = kind == WKB_KIND_POLYGON ? "ring" : kind > WKB_KIND_POLYGON ? "member" : "coordinate";
+  if (!put_bytes(it, 4, "%" PRIu32 " %s%s", count, what, count == 1 ? "" : "s")) return false;
+  if (kind < WKB_KIND_POLYGON) return put_coordinates(it, count);
   if (it->is_at_refused || it->depth == DEEPEST) return false;
-  const list items = {count, 0, 0, dimension, kind == WKB_KIND_POLYGON, is_big};
+  const list items = {count, 0, 0, kind == WKB_KIND_POLYGON};
   it->lists[it->depth++] = items;
   return true;
 }
 
-/* Walks over the parts, up to the end or to that of the rejected part. */
+/* Goes over the parts, up to the end or to that of the rejected part. */
 static void put_parts(dump *it) {
-  bool is_all_there = put_geometry(it);
+  bool is_all_there = put_part(it);
   while (is_all_there && !it->is_at_refused && it->depth > 0 && !it->has_stopped) {
     const list *items = &it->lists[it->depth - 1];
     if (it->is_full && it->refused == NO_PART) return;
@@ -269,7 +262,7 @@ static void put_parts(dump *it) {
       it->depth--;
     } else {
       begin_item(it);
-      is_all_there = items->is_of_rings ? put_ring(it) : put_geometry(it);
+      is_all_there = put_part(it);
     }
     if (it->depth < it->hidden) it->hidden = 0;
   }
@@ -293,7 +286,7 @@ static void put_path(dump *it) {
 static bool put_whole(dump *it) {
   wkb_found found;
   wkb_fault fault;
-  it->front = it->at;
+  it->part.end = it->front = it->at;
   bool is_good = wkb_check(it->bytes + it->at, it->len - it->at, &found, &fault) == WKB_STATUS_OK;
   it->refused = is_good ? NO_PART : fault.part;
   put_parts(it);
@@ -328,8 +321,8 @@ const char *wkb_dump_read_header(const void *buf, size_t len, wkb_dump_header *h
   if (len < 2 || memcmp(buf, "GP", 2) != 0) return NULL;
   if (len < FRONT) return CUT;
   uint8_t version = it.bytes[2], flags = it.bytes[3];
-  bool is_big = (flags & LITTLE) == 0;
-  header->srs_id = (int32_t)next_number(&it, is_big);
+  it.part.order = flags & LITTLE;
+  header->srs_id = (int32_t)next_number(&it);
   if (version != 0) return "unknown version of a GeoPackage header";
   if (flags & EXTENDED) return "an extended GeoPackage geometry, which is not WKB";
   if (flags & LATER) return "unknown flags in a GeoPackage header";
@@ -338,7 +331,7 @@ const char *wkb_dump_read_header(const void *buf, size_t len, wkb_dump_header *h
   it.at = FRONT;
   for (size_t i = 0; i < 2 * strlen(header->axes); i++, it.at += 8) {
     if (len - it.at < 8) return CUT;
-    header->envelope[i] = next_double(&it, is_big);
+    header->envelope[i] = next_double(&it);
   }
   header->size = it.at;
   return NULL;

@@ -4,8 +4,9 @@
  * too. It is tested, and not proved.
  *
  * The dump decides nothing itself. It calls wkb_check, and ends at the geometry's end that this finds, or with the part
- * that it rejects. It doesn't allocate, has no global state, and takes at most 8 KB of stack besides that of printf.
- * As for each call of wkb.h, the input must not change during a call. */
+ * that it rejects. wkb_next_part finds where each part begins, and what it is. The dump doesn't allocate, has no global
+ * state, and takes at most 8 KB of stack besides that of printf. As for each call of wkb.h, the input must not change
+ * during a call. */
 #ifndef WKB_DUMP_H
 #define WKB_DUMP_H
 

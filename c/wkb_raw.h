@@ -62,6 +62,7 @@ wkb_status wkb_raw_same(const uint8_t *a, size_t a_len, const uint8_t *b, size_t
                         wkb_fault *fault, uint32_t *which);
 wkb_status wkb_raw_parts(const uint8_t *buf, size_t len, wkb_part *parts, size_t room, uint64_t *count,
                          wkb_fault *fault);
+uint32_t wkb_raw_next_part(const uint8_t *buf, size_t len, wkb_part *part);
 
 void wkb_raw_column_check(const wkb_raw_column *column, uint8_t *statuses, size_t rows);
 void wkb_raw_column_found(const wkb_raw_column *column, wkb_found *found, size_t found_count, uint8_t *statuses,

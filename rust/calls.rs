@@ -125,6 +125,9 @@ calls! {
     ) -> u32 {
         raw::wkb_raw_parts(slice(buf, len), slice_mut(parts, room), count, fault)
     }
+    wkb_raw_next_part(buf: *const u8, len: usize, part: &mut Part) -> u32 {
+        raw::wkb_raw_next_part(slice(buf, len), part)
+    }
     wkb_raw_column_check(column: &RawColumn, statuses: *mut u8, rows: usize) {
         raw::wkb_raw_column_check(&column.column(), slice_mut(statuses, rows))
     }

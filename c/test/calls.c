@@ -117,6 +117,10 @@ static void null_is_allowed(void) {
   expect(wkb_parts(NULL, 0, NULL, 0, NULL, NULL) == ended, "null", "parts");
   expect(wkb_parts(point, len, NULL, 0, NULL, NULL) == no_room, "null", "parts, no room");
   wkb_words(NULL, &(wkb_part){.width = 2}, 0, 0, NULL);
+  wkb_part any, before;
+  memset(&any, 0xff, sizeof any), memset(&before, 0xff, sizeof before);
+  expect(wkb_next_part(NULL, 0, &any) == 0 && wkb_next_part(point, len, &any) == 0, "any numbers", "no part");
+  expect(memcmp(&any, &before, sizeof any) == 0, "any numbers", "the part is written");
   spelled("W", point);
   expect(wkb_little_word(point) == 0x3ff0000000000000 && wkb_big_word(point) == 0xf03f, "the number in a word", "");
 }

@@ -3,7 +3,8 @@
 
 const char *const EVERY_NAMES[] = {
     "check", "bounds", "write", "same", "parts", "column_check", "column_found", "column_bounds", "column_parts",
-    "column_write", "collect", "column_coordinates", "column_from_coordinates", "words", "fault_text", "nothing"};
+    "column_write", "collect", "column_coordinates", "column_from_coordinates", "words", "fault_text", "next_part",
+    "nothing"};
 
 static void put_coordinates(every *to, const wkb_column *column) {
   wkb_coordinates levels = {to->words, 2 * EVERY_ROOM, to->ring_ends, EVERY_ROOM, to->single_ends, EVERY_ROOM,
@@ -43,6 +44,7 @@ wkb_status every_call(int which, const uint8_t *bytes, size_t len, every *to) {
     case EVERY_LEVELS: put_levels(to); break;
     case 13: if (len >= 21) wkb_words(bytes, &point, 0, 1, to->own_words); break;
     case 14: wkb_fault_text(fault, to->text, sizeof to->text); break;
+    case 15: memset(to->parts, 0, sizeof to->parts[0]), wkb_next_part(bytes, len, to->parts); break;
   }
   return to->row;
 }

@@ -5,7 +5,7 @@
 
 #include "wkb.h"
 
-enum { EVERY_COUNT = 15, EVERY_PARTS = 4, EVERY_COLUMN_PARTS = 8, EVERY_LEVELS = 12 };
+enum { EVERY_COUNT = 16, EVERY_PARTS = 4, EVERY_COLUMN_PARTS = 8, EVERY_LEVELS = 12 };
 enum { EVERY_ROOM = 512, EVERY_BYTES = 8192 };
 
 /* All that they write. */

@@ -188,6 +188,23 @@ static const char *wrong_words(const lasting *r, const wkb_part *parts, size_t c
   return !wrong && sum != r->sums[OF_LEVELS] ? "a word changes" : wrong;
 }
 
+/* What is wrong with the parts of a row one after another, or NULL: those of its table but for what is inside them, or
+ * those before the rejected one. */
+static const char *wrong_next_parts(const lasting *r, const wkb_part *parts) {
+  const bool is_refused = r->status != WKB_STATUS_OK;
+  wkb_part part = {0};
+  uint64_t rings = 0;
+  for (uint64_t i = 0; i < r->fields[is_refused ? 0 : 1]; i++) {
+    if (wkb_next_part(r->bytes, r->len, &part) != 1) return "a part is not the next one";
+    wkb_part wanted = is_refused ? part : parts[i];
+    rings = wanted.kind == WKB_KIND_POLYGON ? wanted.count : rings > 0 ? rings - 1 : 0;
+    wanted.next = rings;
+    if (wanted.kind > WKB_KIND_LINE_STRING) wanted.end = wanted.offset;
+    if (memcmp(&part, &wanted, sizeof part) != 0) return "the next part is another one";
+  }
+  return part.end == r->fields[is_refused ? 1 : 0] ? NULL : "the last of the next parts ends elsewhere";
+}
+
 /* What is wrong with the table of a row, or NULL. */
 static const char *wrong_parts(const lasting *r) {
   wkb_part parts[ROW_PARTS_MOST + 1];
@@ -197,13 +214,15 @@ static const char *wrong_parts(const lasting *r) {
   uint32_t status = wkb_parts(r->bytes, r->len, parts, wanted, &count, &fault);
   if (status != r->status) return "wkb_parts has another status than wkb_check";
   if (!is_kept(parts + count, sizeof parts - count * sizeof parts[0])) return "more parts are written";
-  if (status != WKB_STATUS_OK)
-    return count == 0 && is_fault(r, &fault) ? NULL : "wkb_parts has another fault than wkb_check";
+  if (status != WKB_STATUS_OK && (count != 0 || !is_fault(r, &fault)))
+    return "wkb_parts has another fault than wkb_check";
+  const char *wrong = wrong_next_parts(r, parts);
+  if (wrong || status != WKB_STATUS_OK) return wrong;
   const uint32_t sum = summed(NO_SUM, parts, count * sizeof parts[0], sizeof parts[0]);
   if (count != wanted || sum != r->sums[OF_PARTS]) return "a part changes";
   for (size_t i = 0; i < count; i++)
     if (!is_slice(r->bytes, &parts[i])) return "the bytes of a part are another geometry";
-  const char *wrong = wrong_words(r, parts, count);
+  wrong = wrong_words(r, parts, count);
   if (wrong) return wrong;
   wkb_found found;
   wkb_check(r->bytes, r->len, &found, NULL);

@@ -40,6 +40,7 @@ CASTS = {
         let count = count as usize;
         (count as usize).min(remaining / least)
         NAMES.get(kind as usize).copied()
+        *part = Part::of(&piece, place.at, place.rings as usize);
         let it = column(inputs, size, first)?.coordinates(dimensions[dimension as usize])?;
         let srid = [None, own, Some(srid), None][form as usize];""",
     "any width or order is right": """

@@ -116,7 +116,7 @@ def wrong_calls():
     yield from (f"{RAW}: {it} is declared or exported alone" for it in sorted(ours.keys() ^ theirs.keys()))
     for name in sorted(ours.keys() & theirs.keys()):
         (result, given), (proved_result, wanted) = ours[name], theirs[name]
-        if (result, proved_result) not in {("void", None), ("wkb_status", "u32")}:
+        if (result, proved_result) not in {("void", None), ("wkb_status", "u32"), ("uint32_t", "u32")}:
             yield f"{RAW}: {name} returns {result}, and {proved_result or 'nothing'} in the crate"
         if len(given) != len(wanted):
             yield f"{RAW}: {name} has {len(given)} parameters, and {len(wanted)} in the crate"

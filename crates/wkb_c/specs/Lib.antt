@@ -1,1 +1,2 @@
 pub mod Collections
+pub mod NextPart

@@ -14,6 +14,7 @@ mod column_found;
 mod column_parts;
 mod column_write;
 mod from_coordinates;
+mod next_part;
 mod parts;
 mod same;
 mod write;
