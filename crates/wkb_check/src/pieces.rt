@@ -11,8 +11,8 @@ ghost use Rattle.wkb_check.specs.Pieces.{bytes_left};
 ghost use Rattle.wkb_check.specs.Public.{DescribesFront};
 
 use crate::answer::Summary;
-use crate::head::{bare_kind, size_of_srid};
-use wkb_geom::code::{POINT, POLYGON};
+use crate::head::size_of_srid;
+use wkb_geom::code::{GEOMETRY_COLLECTION, POINT, POLYGON};
 use wkb_geom::header::MEMBER_HEADER_SIZE;
 use wkb_geom::words::{COUNT_SIZE, rest_from, u32_at};
 use wkb_geom::{Dimension, Endianness, Head};
@@ -288,7 +288,11 @@ impl<'a> Pieces<'a> {
         if self.rings > 0 || self.geometries == 0 {
             return None;
         }
-        let kind = bare_kind(rest_from(self.bytes, self.at), order)?;
+        let here = rest_from(self.bytes, self.at);
+        let kind = u32_at(here, 1, order);
+        if here[0] != order.byte() || kind < POINT || GEOMETRY_COLLECTION < kind {
+            return None;
+        }
         let piece = Piece::of_header(self.bytes, self.at, kind, Dimension::Xy, order, None);
         self.pass_geometry(&piece);
         Some(piece)
