@@ -4,13 +4,13 @@
 //! tests in rust/cases are not proved.
 
 /// A line of what the program prints.
-macro_rules! say {
-    ($rt:ident; $($words:tt)*) => { $rt.print(format!($($words)*)) };
+macro_rules! println {
+    ($rt:ident; $($words:tt)*) => { $rt.print(std::format!($($words)*)) };
 }
 
 /// A text, which may take memory.
-macro_rules! try_format {
-    ($($words:tt)*) => { Ok::<_, crate::rt::AllocError>(crate::rt::String(format!($($words)*))) };
+macro_rules! format {
+    ($($words:tt)*) => { Ok::<_, crate::rt::AllocError>(crate::rt::String(std::format!($($words)*))) };
 }
 
 extern crate alloc;
@@ -83,7 +83,7 @@ mod rt {
             Ok(())
         }
 
-        pub fn try_push_str(&mut self, text: &str) -> Result<(), AllocError> {
+        pub fn push_str(&mut self, text: &str) -> Result<(), AllocError> {
             self.0.push_str(text);
             Ok(())
         }
@@ -172,7 +172,7 @@ mod rt {
 
         pub fn encode_to_slice<T: AsRef<[u8]>>(bytes: T, text: &mut [u8]) -> Result<(), FromHexError> {
             for (byte, pair) in bytes.as_ref().iter().zip(text.chunks_mut(2)) {
-                pair.copy_from_slice(format!("{byte:02x}").as_bytes());
+                pair.copy_from_slice(std::format!("{byte:02x}").as_bytes());
             }
             Ok(())
         }

@@ -16,16 +16,16 @@ ERASED = {
     "fn f(alloc: Global, n: u8) -> u8 requires few { n < 2 } ensures { result ≡ n } { g(alloc, n) }":
         "fn f(n: u8) -> u8 { g(n) }",
     "ghost use Rattle.A.{◌≡◌}; use std::io; struct A { /* One. */ a: io::B, ghost b: { a < 2 }, }":
-        "use crate::rt::io; struct A { /* One. */ a: io::B, }",
+        "struct A { /* One. */ a: io::B, }",
     "#[derive(Debug, Drop)] struct A; fn f<T: Drop>(v: V, t: T) -> R<()> { v.push(t)?; s.push(1); }":
         "#[derive(Debug)] struct A; fn f<T>(v: V, t: T) -> R<()> { v.try_push(t)?; s.push(1); }",
     "impl Drop for A { fn drop(self) { let A { a: _ } = self; } } fn f() {}": "fn f() {}",
     "#[macro_export] macro_rules! m { () => {} } impl A { pub fn f(a: L) requires { b } {} pub fn g() {} }":
         "macro_rules! m { () => {} } impl A { pub(crate) fn f(a: L) {} pub fn g() {} }",
     "pub trait CoordTrait: A { fn nth(&self, n: u8) -> B; fn x(&self) -> u64 requires { c } ensures { d }; }":
-        "pub trait CoordTrait: A { fn nth_word(&self, n: u8) -> B; crate::rt::coord_calls! {} }",
-    "impl CoordTrait for A { fn at(&self, n: usize) -> u64 { self.x() } }":
-        "impl CoordTrait for A { fn word_at(&self, n: usize) -> u64 { crate::below!(n, self.dim().size()); self.x_word() } }",
+        "pub trait CoordTrait: A { fn nth_word(&self, n: u8) -> B; coord_calls! {} }",
+    "impl CoordTrait for A { fn at(&self, n: B) { self.x() } }":
+        "impl CoordTrait for A { fn word_at(&self, n: B) { crate::below!(n, self.dim().size()); self.x_word() } }",
     "/// Puts it (docs/A.md). The proof sees it so.\n///\n/// Rejected as `f` does.\nfn g() {}":
         "/// Puts it. /// /// # Errors /// /// Rejected as `f` does. fn g() {}",
     "let Some(a) = b else { return; };": "let a = if let Some(a) = b { a } else { return; };",
