@@ -1,8 +1,8 @@
 // SPDX-License-Identifier: MIT OR Apache-2.0
 //! The core of the C library by rustc, for any processor: the calls of `calls.rs`, with each index tested. A test that
-//! failed would end the program. No call takes memory.
+//! failed would end the program. No call takes memory. Over std the library would call malloc, open and thirty more, with
+//! which a panic is printed; so it is without, by two things that are `unsafe` and a feature, stable since Rust 1.68.
 #![no_std]
-// Stable since Rust 1.68.
 #![feature(default_alloc_error_handler)]
 
 extern crate alloc;
