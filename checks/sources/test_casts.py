@@ -25,6 +25,7 @@ CASTS = {
         *_ends[at.* as usize] = at.*;
         let start = self.*_offset(i as u64) as usize;
         let i = i as usize;
+        at = *end as usize;
         self.statuses[row].is_ok().then(|| &self.data[begin as usize..self.ends[row] as usize])""",
     "the bytes of so many items were found": """
         walk.coordinates += * as usize;

@@ -33,7 +33,7 @@ pub struct Header {
 }
 
 /// Why a blob has no header, or no WKB behind it.
-#[derive(Clone, Copy, Debug, PartialEq, Eq)]
+#[derive(Clone, Copy, Debug, PartialEq, Eq, Hash)]
 pub struct NoHeader(&'static str);
 
 /// Reads the header at the start of a blob.

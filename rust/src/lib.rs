@@ -37,6 +37,12 @@ mod wkb_abi {
     pub mod totals;
 }
 mod wkb_bounds;
+#[allow(clippy::all, unused_imports)]
+mod wkb_c {
+    pub mod column_bounds;
+    pub mod column_check;
+    pub mod column_coordinates;
+}
 mod wkb_check;
 #[allow(clippy::all, unused_imports)]
 mod wkb_clients {

@@ -8,7 +8,7 @@ use crate::wkb_geom::error::{General, Overflow, WkbError};
 use core::fmt;
 
 /// An allocation failed.
-#[derive(Debug, Clone, Copy, PartialEq, Eq)]
+#[derive(Debug, Clone, Copy, PartialEq, Eq, Hash)]
 pub struct AllocError;
 
 impl fmt::Display for AllocError {
@@ -214,7 +214,7 @@ pub mod io {
     use core::fmt;
 
     /// Why a write or a read failed.
-    #[derive(Debug, Clone, Copy, PartialEq, Eq)]
+    #[derive(Debug, Clone, Copy, PartialEq, Eq, Hash)]
     #[non_exhaustive]
     pub enum ErrorKind {
         /// The input ends too early.

@@ -104,6 +104,13 @@ impl Range {
     }
 }
 
+/// The bounds of no coordinate.
+impl Default for Bounds {
+    fn default() -> Self {
+        Bounds::empty()
+    }
+}
+
 impl Bounds {
     /// The bounds of two geometries together.
     #[must_use]

@@ -2,7 +2,7 @@
 //! What users meet first: a program in the manner of the crate `wkb`, errors and their texts, and iterators of views.
 use porchsorrel_wkb::canon::{canonical, same};
 use porchsorrel_wkb::check::{bounds, check, Refused, WkbType};
-use porchsorrel_wkb::columns::{Levels, NotCollected, Status};
+use porchsorrel_wkb::columns::{Encodings, Facts, Levels, NotCollected, Status};
 use porchsorrel_wkb::error::{General, Overflow, WkbError};
 use porchsorrel_wkb::geom::{self, Coord, PointTrait, PolygonTrait};
 use porchsorrel_wkb::geom::{CoordTrait, Dimensioned, Dimensions, GeometryTrait, GeometryType, LineStringTrait};
@@ -59,6 +59,8 @@ fn copies_and_keys() {
 
     let types = [WkbType::Point(Dimension::Xy), WkbType::Point(Dimension::Xyz), WkbType::Point(Dimension::Xy)];
     assert_eq!(types.iter().collect::<std::collections::HashSet<_>>().len(), 2);
+    fn is_key<K: std::hash::Hash + Eq>(_: K) {}
+    is_key((WriteOptions::default(), Facts::default(), Encodings::default(), Status::OK, AllocError));
 
     let point = geom::Point::empty(row.1).unwrap();
     let own = geom::GeometryCollection::new(row.1, vec![geom::Geometry::Point(point)]);
@@ -188,8 +190,7 @@ fn classes_of_statuses() {
 /// The statuses are those of `c/wkb.h`, with the texts of c/test/texts.c, but those that no call of the crate returns.
 #[test]
 fn statuses_are_those_of_the_header() {
-    let ours = include_str!("../src/columns/status.rs").replace(['{', '}'], "");
-    let ours = ours.split_whitespace().collect::<Vec<_>>().join(" ");
+    let ours = include_str!("../src/columns/status.rs").split_whitespace().collect::<Vec<_>>().join(" ");
     let header = include_str!("../../c/wkb.h");
     let mut count = 0;
     let named = TEXTS.split("UNNAMED[]").next().unwrap();
@@ -197,8 +198,7 @@ fn statuses_are_those_of_the_header() {
         let (name, text) = (row.split(',').next().unwrap(), row.split('"').nth(1).unwrap());
         let number = header.split(&format!("  WKB_STATUS_{name} = ")).nth(1).unwrap();
         let number: String = number.chars().take_while(char::is_ascii_digit).collect();
-        let defined = ours.contains(&format!("const {name}: Status = Status({number});"))
-            && ours.contains(&format!("Status::{name} => \"{text}\""));
+        let defined = ours.contains(&format!(" {name} = {number}, \"{text}\";"));
         assert!(defined || ["NO_MEMORY", "NO_ROOM", "UNKNOWN_OPTION"].contains(&name), "{name} = {number}, {text}");
         count += 1;
     }

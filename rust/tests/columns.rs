@@ -183,25 +183,18 @@ fn rows_that_are_no_members() {
 }
 
 #[test]
-#[should_panic(expected = "members of Polygon")]
-fn a_polygon_has_no_geometries_as_members() {
-    let _ = Column::binary(b"", &[]).collect(WkbType::Polygon(Dimension::Xy), &WriteOptions::default());
-}
-
-#[test]
-#[should_panic(expected = "rows of GeometryCollection")]
-fn rows_are_no_collections() {
-    let _ = Levels::default().encode(COLLECTION, &WriteOptions::default());
-}
-
-#[test]
-#[should_panic(expected = "rows 1..2 of 1")]
-fn a_column_has_no_more_rows() {
-    let _ = Column::binary(b"", &[0; 8]).slice(1..2);
-}
-
-#[test]
-#[should_panic(expected = "rows have to be in a column")]
-fn a_column_is_split_into_some() {
-    let _ = Column::binary(b"", &[]).split(0);
+#[cfg(panic = "unwind")]
+fn calls_that_panic() {
+    let (none, options) = (Column::binary(b"", &[]), WriteOptions::default());
+    let calls: [(&str, &dyn Fn()); 4] = [
+        ("members of Polygon(Xy)", &|| drop(none.collect(WkbType::Polygon(Dimension::Xy), &options))),
+        ("rows of GeometryCollection(Xy)", &|| drop(Levels::default().encode(COLLECTION, &options))),
+        ("rows 1..2 of 0", &|| drop(none.slice(1..2).len())),
+        ("rows have to be in a column", &|| drop(none.split(0).len())),
+    ];
+    for (text, call) in calls {
+        let panic = std::panic::catch_unwind(std::panic::AssertUnwindSafe(call)).unwrap_err();
+        let said = panic.downcast_ref::<String>().cloned().or(panic.downcast_ref::<&str>().map(|it| it.to_string()));
+        assert_eq!(said.as_deref(), Some(text));
+    }
 }

@@ -6,17 +6,16 @@ use crate::check::{Bounds, Summary};
 use crate::reader::Dimension;
 use crate::rt::{try_filled, TryVec};
 use crate::wkb_abi::column::{found_in, Column as Raw};
-use crate::wkb_abi::level_slices::{lay_levels, LevelSlices};
+use crate::wkb_abi::level_slices::LevelSlices;
 use crate::wkb_abi::totals::Totals;
-use crate::wkb_bounds::{any_bounds_into, plain_bounds_into};
-use crate::wkb_check::Piece;
+use crate::wkb_c::column_bounds::wkb_raw_column_bounds;
+use crate::wkb_c::column_check::wkb_raw_column_check;
+use crate::wkb_c::column_coordinates::wkb_raw_column_coordinates;
 use crate::wkb_geom::header::SRID_SIZE;
 use crate::writer::{Form, WriteOptions};
 use crate::{AllocError, Endianness};
 use alloc::vec::Vec;
 use core::ops::Range;
-
-type Row<'a> = Result<&'a [u8], Status>;
 
 /// A column as Arrow has it: row i has the bytes of the data from offset i up to offset i + 1. Offsets and validity may
 /// be anything: a row with bad offsets is [`Status::BAD_OFFSETS`].
@@ -25,7 +24,8 @@ pub struct Column<'a> {
     data: &'a [u8],
     offsets: &'a [u8],
     offset_size: usize,
-    validity: Option<(&'a [u8], usize)>,
+    /// The bitmap, and the first row's bit. A row without a bit isn't null.
+    validity: (&'a [u8], usize),
 }
 
 impl<'a> Column<'a> {
@@ -33,13 +33,13 @@ impl<'a> Column<'a> {
     /// There is one offset more than there are rows. Numbers become such bytes by `to_ne_bytes`.
     #[must_use]
     pub fn binary(data: &'a [u8], offsets: &'a [u8]) -> Self {
-        Column { data, offsets, offset_size: 4, validity: None }
+        Column { data, offsets, offset_size: 4, validity: (&[], 0) }
     }
 
     /// A column with offsets of 64 bits.
     #[must_use]
     pub fn large_binary(data: &'a [u8], offsets: &'a [u8]) -> Self {
-        Column { data, offsets, offset_size: 8, validity: None }
+        Column { offset_size: 8, ..Column::binary(data, offsets) }
     }
 
     /// The same column with a validity bitmap, least significant bit first, 0 for a null row. The first row's bit is
@@ -47,7 +47,7 @@ impl<'a> Column<'a> {
     #[must_use]
     pub fn with_validity(self, bits: &'a [u8], first: usize) -> Option<Self> {
         let needed = first.checked_add(self.len())?;
-        (needed <= bits.len().saturating_mul(8)).then_some(Column { validity: Some((bits, first)), ..self })
+        (needed <= bits.len().saturating_mul(8)).then_some(Column { validity: (bits, first), ..self })
     }
 
     /// How many rows there are.
@@ -71,7 +71,7 @@ impl<'a> Column<'a> {
     #[must_use]
     pub fn slice(&self, rows: Range<usize>) -> Column<'a> {
         assert!(rows.start <= rows.end && rows.end <= self.len(), "rows {rows:?} of {}", self.len());
-        let validity = self.validity.map(|(bits, first)| (bits, first + rows.start));
+        let validity = (self.validity.0, self.validity.1 + rows.start);
         // There may be no offset at all, where there is no row.
         let offsets = self.offsets.get(self.offset_size * rows.start..self.offset_size * (rows.end + 1));
         Column { offsets: offsets.unwrap_or_default(), validity, ..*self }
@@ -106,8 +106,7 @@ impl<'a> Column<'a> {
 
     /// The column as the proved calls take it.
     fn raw(&self) -> Raw<'a> {
-        let (validity, validity_offset) = self.validity.unwrap_or_default();
-        let Column { data: bytes, offsets, offset_size, .. } = *self;
+        let Column { data: bytes, offsets, offset_size, validity: (validity, validity_offset) } = *self;
         Raw { bytes, offsets, offset_size, validity, validity_offset }
     }
 
@@ -118,17 +117,6 @@ impl<'a> Column<'a> {
     }
 
     /// What [`check`](crate::check::check) finds of each row, or its status.
-    ///
-    /// ```
-    /// use porchsorrel_wkb::check::WkbType;
-    /// use porchsorrel_wkb::columns::{Rows, Status};
-    /// use porchsorrel_wkb::reader::Dimension;
-    ///
-    /// let rows = Rows::of([Some(b"\x01\x02\0\0\0\0\0\0\0"), None])?;
-    /// let types: Vec<_> = rows.column().found().map(|it| it.map(|it| it.wkb_type)).collect();
-    /// assert_eq!(types, [Ok(WkbType::LineString(Dimension::Xy)), Err(Status::NULL_ROW)]);
-    /// # Ok::<(), porchsorrel_wkb::AllocError>(())
-    /// ```
     pub fn found(&self) -> impl ExactSizeIterator<Item = Result<Summary, Status>> + 'a {
         self.rows().map(|row| row.and_then(geometry).map(|(_, found)| found))
     }
@@ -139,7 +127,9 @@ impl<'a> Column<'a> {
     ///
     /// Memory is refused.
     pub fn check(&self) -> Result<Vec<Status>, AllocError> {
-        self.each(|_, row| found_in(row?).map(drop).map_err(Status::of))
+        let mut statuses = try_filled(0, self.len())?;
+        wkb_raw_column_check(&self.raw(), &mut statuses);
+        Ok(Status::all(statuses))
     }
 
     /// What [`bounds`](crate::check::bounds) finds of each row: the bounds of no coordinate where it has none.
@@ -148,15 +138,9 @@ impl<'a> Column<'a> {
     ///
     /// Memory is refused.
     pub fn bounds(&self) -> Result<(Vec<Bounds>, Vec<Status>), AllocError> {
-        let mut boxes = try_filled(Bounds::empty(), self.len())?;
-        let statuses = self.each(|i, row| {
-            let (bytes, found) = (row?, &mut boxes[i]);
-            if plain_bounds_into(bytes, found) {
-                return Ok(());
-            }
-            any_bounds_into(bytes, found).map_err(|why| why.status())
-        })?;
-        Ok((boxes, statuses))
+        let (mut boxes, mut statuses) = (try_filled(Bounds::empty(), self.len())?, try_filled(0, self.len())?);
+        wkb_raw_column_bounds(&self.raw(), &mut boxes, &mut statuses);
+        Ok((boxes, Status::all(statuses)))
     }
 
     /// What [`canonical`](crate::canon::canonical) makes of each row.
@@ -180,28 +164,17 @@ impl<'a> Column<'a> {
     fn write_by(&self, options: impl Fn(&Summary) -> WriteOptions) -> Result<Encodings, AllocError> {
         // An encoding is at most an SRID longer than its row, and rows with bytes don't overlap.
         let room = self.rows().filter_map(Result::ok).map(|it| it.len() + SRID_SIZE).sum();
-        let (mut data, mut ends, mut at) = (try_filled(0, room)?, Vec::try_with_room(self.len())?, 0);
-        let statuses = self.each(|_, row| {
-            let written = row.and_then(geometry);
-            let written = written.map(|(bytes, found)| at += lay(bytes, &found, options(&found), &mut data[at..]));
-            ends.push_reserved(at as u64);
-            written
-        })?;
+        let (mut data, mut at, mut reach) = (try_filled(0, room)?, 0, 0);
+        let (mut ends, mut statuses) = (try_filled(0, self.len())?, try_filled(Status::OK, self.len())?);
+        for (i, (end, status)) in ends.iter_mut().zip(&mut statuses).enumerate() {
+            match self.raw().row(i, &mut reach).map_err(Status::of).and_then(geometry) {
+                Ok((bytes, found)) => at += lay(bytes, &found, options(&found), &mut data[at..]),
+                Err(why) => *status = why,
+            }
+            *end = at as u64;
+        }
         data.truncate(at);
         Ok(Encodings { data, ends, statuses })
-    }
-
-    /// What becomes of each row by a call with its number. The loop is compiled anew for each call, without one inside.
-    #[inline(always)]
-    fn each(&self, mut call: impl FnMut(usize, Row<'a>) -> Result<(), Status>) -> Result<Vec<Status>, AllocError> {
-        let (column, mut reach) = (self.raw(), 0);
-        let mut statuses = try_filled(Status::OK, self.len())?;
-        for (i, status) in statuses.iter_mut().enumerate() {
-            if let Err(why) = call(i, column.row(i, &mut reach).map_err(Status::of)) {
-                *status = why;
-            }
-        }
-        Ok(statuses)
     }
 
     /// The coordinates of each row. Words that the dimension doesn't name are left out, and a word that a geometry
@@ -211,28 +184,23 @@ impl<'a> Column<'a> {
     ///
     /// Memory is refused.
     pub fn coordinates(&self, dimension: Dimension) -> Result<Coordinates, AllocError> {
-        let mut row_ends = Vec::try_with_room(self.len())?;
-        let mut totals = Totals { coordinates: 0, rings: 0, singles: 0 };
-        let statuses = self.each(|_, row| {
-            let passed = row.and_then(geometry).map(|(bytes, found)| {
-                totals = totals.after(bytes, &found, &Piece::outermost(bytes, &found));
-            });
-            row_ends.push_reserved(totals.singles);
-            passed
-        })?;
+        let (mut row_ends, mut statuses) = (try_filled(0, self.len())?, try_filled(0, self.len())?);
+        let mut lay = |words: &mut [u64], ring_ends: &mut [u64], single_ends: &mut [u64]| {
+            let mut totals = Totals { coordinates: 0, rings: 0, singles: 0 };
+            let (column, mut out) = (self.raw(), LevelSlices { words, ring_ends, single_ends });
+            let (asked, ends) = (dimension.thousands(), &mut row_ends[..]);
+            wkb_raw_column_coordinates(&column, asked, &mut out, ends, &mut totals, &mut statuses);
+            totals
+        };
+        // Without room the totals are counted alone.
+        let totals = lay(&mut [], &mut [], &mut []);
         let mut words = try_filled(0, dimension.width() * totals.coordinates as usize)?;
         let mut ring_ends = try_filled(0, totals.rings as usize)?;
         let mut single_ends = try_filled(0, totals.singles as usize)?;
-        let mut levels = LevelSlices { words: &mut words, ring_ends: &mut ring_ends, single_ends: &mut single_ends };
-        let mut at = Totals { coordinates: 0, rings: 0, singles: 0 };
-        for (bytes, found) in self.rows().filter_map(|row| row.and_then(geometry).ok()) {
-            let first = Piece::outermost(bytes, &found);
-            lay_levels(bytes, &first, at, dimension, &mut levels);
-            at = at.after(bytes, &found, &first);
-        }
+        lay(&mut words, &mut ring_ends, &mut single_ends);
         // The same memory, since a word has the size of a number.
         let words = words.into_iter().map(f64::from_bits).collect();
-        Ok(Coordinates { words, ring_ends, single_ends, row_ends, statuses })
+        Ok(Coordinates { words, ring_ends, single_ends, row_ends, statuses: Status::all(statuses) })
     }
 }
 
@@ -243,7 +211,7 @@ pub(super) fn geometry(bytes: &[u8]) -> Result<(&[u8], Summary), Status> {
 }
 
 /// Rows of one's own, as a column takes them.
-#[derive(Clone, Debug)]
+#[derive(Clone, Debug, PartialEq, Eq, Hash)]
 pub struct Rows {
     data: Vec<u8>,
     offsets: Vec<u8>,
@@ -259,9 +227,7 @@ impl Rows {
     pub fn of<R: AsRef<[u8]>>(rows: impl IntoIterator<Item = Option<R>>) -> Result<Rows, AllocError> {
         let mut made = Rows { data: Vec::new(), offsets: try_filled(0, 8)?, validity: Vec::new() };
         for (row, bytes) in rows.into_iter().enumerate() {
-            if row % 8 == 0 {
-                made.validity.try_push(0)?;
-            }
+            made.validity.try_resize(row / 8 + 1, 0)?;
             if let Some(bytes) = bytes {
                 made.data.try_extend_from_slice(bytes.as_ref())?;
                 made.validity[row / 8] |= 1 << (row % 8);
@@ -274,6 +240,6 @@ impl Rows {
     /// The rows as a column.
     #[must_use]
     pub fn column(&self) -> Column<'_> {
-        Column { validity: Some((&self.validity, 0)), ..Column::large_binary(&self.data, &self.offsets) }
+        Column { validity: (&self.validity, 0), ..Column::large_binary(&self.data, &self.offsets) }
     }
 }

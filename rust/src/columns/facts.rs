@@ -21,7 +21,7 @@ use alloc::vec::Vec;
 /// assert_eq!((facts.bounds.x.min(), facts.bounds.y.max()), (1.0, 2.0));
 /// # Ok::<(), porchsorrel_wkb::AllocError>(())
 /// ```
-#[derive(Clone, Debug, PartialEq, Eq)]
+#[derive(Clone, Debug, Default, PartialEq, Eq, Hash)]
 pub struct Facts {
     /// How many rows there are.
     pub rows: usize,
@@ -41,21 +41,6 @@ pub struct Facts {
     pub without_srid: usize,
 }
 
-impl Default for Facts {
-    fn default() -> Self {
-        Facts {
-            rows: 0,
-            accepted: 0,
-            null_rows: 0,
-            refused: 0,
-            types: Vec::new(),
-            bounds: Bounds::empty(),
-            srids: Vec::new(),
-            without_srid: 0,
-        }
-    }
-}
-
 impl Facts {
     /// Adds the facts of other rows, as of another part of a column that threads have shared. Where offsets decrease,
     /// parts may accept rows that the whole column doesn't.
@@ -72,17 +57,14 @@ impl Facts {
         self.bounds = self.bounds.union(other.bounds);
         other.types.iter().try_for_each(|(it, rows)| self.add_type(*it, *rows))?;
         other.srids.iter().try_for_each(|it| self.add_srid(*it))?;
-        self.settle_srids();
+        self.settle();
         Ok(())
     }
 
     fn add_type(&mut self, wkb_type: WkbType, rows: usize) -> Result<(), AllocError> {
-        match self.types.binary_search_by_key(&wkb_type.iso_code(), |it| it.0.iso_code()) {
-            Ok(at) => self.types[at].1 += rows,
-            Err(at) => {
-                self.types.try_push((wkb_type, rows))?;
-                self.types[at..].rotate_right(1);
-            }
+        match self.types.iter_mut().find(|it| it.0 == wkb_type) {
+            Some(it) => it.1 += rows,
+            None => self.types.try_push((wkb_type, rows))?,
         }
         Ok(())
     }
@@ -92,7 +74,7 @@ impl Facts {
     fn add_srid(&mut self, srid: u32) -> Result<(), AllocError> {
         if self.srids.last() != Some(&srid) {
             if self.srids.len() == self.srids.capacity() {
-                self.settle_srids();
+                self.settle();
                 self.srids.try_reserve(self.srids.len() + 1).map_err(|_| AllocError)?;
             }
             self.srids.push_reserved(srid);
@@ -100,7 +82,9 @@ impl Facts {
         Ok(())
     }
 
-    fn settle_srids(&mut self) {
+    /// Puts what occurs in order.
+    fn settle(&mut self) {
+        self.types.sort_unstable_by_key(|it| it.0.iso_code());
         self.srids.sort_unstable();
         self.srids.dedup();
     }
@@ -133,7 +117,7 @@ impl Column<'_> {
                 Err(status) => facts.refused += usize::from(status.is_refusal()),
             }
         }
-        facts.settle_srids();
+        facts.settle();
         Ok(facts)
     }
 }

@@ -3,7 +3,7 @@
 use super::{Encodings, Status};
 use crate::check::WkbType;
 use crate::rt::{try_filled, TryVec};
-use crate::wkb_levels::{self as proved, Ends, Kind, Place, Written};
+use crate::wkb_levels::{self as proved, Ends, Kind, Place};
 use crate::writer::WriteOptions;
 use crate::AllocError;
 use alloc::vec::Vec;
@@ -26,7 +26,7 @@ use alloc::vec::Vec;
 /// assert_eq!((found.parts, found.coordinates), (3, 10));
 /// # Ok::<(), porchsorrel_wkb::AllocError>(())
 /// ```
-#[derive(Clone, Copy, Debug, Default)]
+#[derive(Clone, Copy, Debug, Default, PartialEq)]
 pub struct Levels<'a> {
     /// One coordinate after another. These are copied, since the writer takes their bits.
     pub words: &'a [f64],
@@ -65,31 +65,27 @@ impl Levels<'_> {
             WkbType::MultiPolygon(_) => Kind::MultiPolygon,
             WkbType::GeometryCollection(_) => panic!("rows of {wkb_type:?}"),
         };
-        let dimension = wkb_type.dimension();
+        let (dim, width) = (wkb_type.dimension().into(), wkb_type.dimension().width());
         let mut words = Vec::try_with_room(self.words.len())?;
         words.extend(self.words.iter().map(|it| it.to_bits()));
-        let levels = self.proved(&words, dimension.width());
+        let levels = self.proved(&words, width);
         let rows = levels.row_ends.len();
         let (mut ends, mut statuses) = (try_filled(0, rows)?, try_filled(Status::BAD_LEVELS, rows)?);
-        if words.len() % dimension.width() != 0 {
+        if words.len() % width != 0 {
             return Ok(Encodings { data: Vec::new(), ends, statuses });
         }
-        let (mut floor, mut end) = (Place::front(), 0_u64);
-        for row in 0..rows {
-            let size = levels.row(kind, dimension.into(), row, &mut floor).and_then(|it| it.size(options).ok());
-            if let Some(size) = size {
-                (statuses[row], end) = (Status::OK, end + size as u64);
+        let (mut floor, mut size) = (Place::front(), 0_u64);
+        for (row, (end, status)) in ends.iter_mut().zip(&mut statuses).enumerate() {
+            if let Some(Ok(own)) = levels.row(kind, dim, row, &mut floor).map(|it| it.size(options)) {
+                (*status, size) = (Status::OK, size + own as u64);
             }
-            ends[row] = end;
+            *end = size;
         }
-        let mut data = try_filled(0, usize::try_from(end).map_err(|_| AllocError)?)?;
+        let mut data = try_filled(0, usize::try_from(size).map_err(|_| AllocError)?)?;
         let (mut floor, mut at) = (Place::front(), 0);
-        for row in 0..rows {
-            if let Written::Whole(size) =
-                levels.write_row(kind, dimension.into(), options, row, &mut floor, &mut data[at..])
-            {
-                at += size;
-            }
+        for (row, end) in ends.iter().enumerate() {
+            levels.write_row(kind, dim, options, row, &mut floor, &mut data[at..]);
+            at = *end as usize;
         }
         Ok(Encodings { data, ends, statuses })
     }

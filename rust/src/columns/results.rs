@@ -4,7 +4,7 @@ use super::Status;
 use alloc::vec::Vec;
 
 /// The encodings of rows, one after another. A row without one ends where it begins, and its status says why.
-#[derive(Clone, Debug, Default, PartialEq, Eq)]
+#[derive(Clone, Debug, Default, PartialEq, Eq, Hash)]
 pub struct Encodings {
     /// The bytes of all encodings.
     pub data: Vec<u8>,

@@ -1,5 +1,6 @@
 // SPDX-License-Identifier: MIT OR Apache-2.0
 //! Why an input is rejected, and what became of the rows of a column.
+use alloc::vec::Vec;
 use core::fmt;
 
 /// What became of an input or of a row. The constants are those of this version; later ones add more inside the
@@ -8,41 +9,53 @@ use core::fmt;
 #[repr(transparent)]
 pub struct Status(u8);
 
-impl Status {
-    /// The input is a geometry of the grammar, or the row has its result.
-    pub const OK: Status = Status(0);
-    /// There are 2^32 rows or more, and a count has four bytes.
-    pub const TOO_MANY_ROWS: Status = Status(4);
-    /// The row's validity bit is 0.
-    pub const NULL_ROW: Status = Status(16);
-    /// The row's offsets are negative, decrease or pass the end of the data, or the row begins before an earlier one
-    /// ends whose offsets do none of this.
-    pub const BAD_OFFSETS: Status = Status(17);
-    /// The row's levels don't fit its kind or each other.
-    pub const BAD_LEVELS: Status = Status(18);
-    /// The input ends inside a header or before a count.
-    pub const SHORT_HEADER: Status = Status(32);
-    /// An order byte is neither 0 nor 1.
-    pub const INVALID_BYTE_ORDER: Status = Status(33);
-    /// A geometry type code is unknown.
-    pub const CODE_OUT_OF_RANGE: Status = Status(34);
-    /// A member has another kind or dimension than its multi geometry takes, or a point of a multi point has an
-    /// SRID.
-    pub const INCORRECT_TYPE: Status = Status(35);
-    /// A collection is inside 128 others.
-    pub const NESTING_DEPTH_EXCEEDED: Status = Status(36);
-    /// The input ends inside a point.
-    pub const SHORT_POINT: Status = Status(48);
-    /// The input ends inside a line string.
-    pub const SHORT_LINE_STRING: Status = Status(49);
-    /// The input ends inside a multi point.
-    pub const SHORT_MULTI_POINT: Status = Status(50);
-    /// The input ends inside a ring.
-    pub const SHORT_LINEAR_RING: Status = Status(51);
+macro_rules! statuses {
+    ($($name:ident = $number:literal, $text:literal;)*) => {
+        impl Status {
+            $(
+                #[doc = concat!("“", $text, "”")]
+                pub const $name: Status = Status($number);
+            )*
 
-    /// The status with a number that the library has returned: all fit a byte.
+            /// The text of the status, in one line.
+            #[must_use]
+            pub fn text(self) -> &'static str {
+                match self {
+                    $(Status::$name => $text,)*
+                    _ => "the call failed",
+                }
+            }
+        }
+    };
+}
+
+statuses! {
+    OK = 0, "ok";
+    TOO_MANY_ROWS = 4, "there are more rows than a count of four bytes holds";
+    NULL_ROW = 16, "the row is null";
+    BAD_OFFSETS = 17,
+        "the row's offsets are negative, decrease or pass the end of the data, or it begins before a row ends";
+    BAD_LEVELS = 18, "the row's levels don't fit its kind or each other";
+    SHORT_HEADER = 32, "the input ends inside a header or before a count";
+    INVALID_BYTE_ORDER = 33, "a byte order is neither 0 nor 1";
+    CODE_OUT_OF_RANGE = 34, "unknown geometry type code";
+    INCORRECT_TYPE = 35, "a member has the wrong kind, dimension or SRID for its multi geometry";
+    NESTING_DEPTH_EXCEEDED = 36, "a collection is inside 128 others";
+    SHORT_POINT = 48, "the input ends inside a point";
+    SHORT_LINE_STRING = 49, "the input ends inside a line string";
+    SHORT_MULTI_POINT = 50, "the input ends inside a multi point";
+    SHORT_LINEAR_RING = 51, "the input ends inside a ring";
+}
+
+impl Status {
+    /// The status with a number that a proved call has returned: all fit a byte.
     pub(crate) fn of(number: u32) -> Status {
         Status(number as u8)
+    }
+
+    /// Those with the numbers of rows, in the same memory.
+    pub(super) fn all(numbers: Vec<u8>) -> Vec<Status> {
+        numbers.into_iter().map(Status).collect()
     }
 
     /// The number of `wkb_status` in `c/wkb.h`.
@@ -66,36 +79,7 @@ impl Status {
     /// Whether the input ends before its geometry does, so that bytes are missing.
     #[must_use]
     pub fn is_short(self) -> bool {
-        self == Status::SHORT_HEADER || self.tells_ends()
-    }
-
-    /// Whether a fault with this status says how many bytes its part needs.
-    fn tells_ends(self) -> bool {
-        self.0 >= 48
-    }
-
-    /// The text of the status, in one line.
-    #[must_use]
-    pub fn text(self) -> &'static str {
-        match self {
-            Status::OK => "ok",
-            Status::TOO_MANY_ROWS => "there are more rows than a count of four bytes holds",
-            Status::NULL_ROW => "the row is null",
-            Status::BAD_OFFSETS => {
-                "the row's offsets are negative, decrease or pass the end of the data, or it begins before a row ends"
-            }
-            Status::BAD_LEVELS => "the row's levels don't fit its kind or each other",
-            Status::SHORT_HEADER => "the input ends inside a header or before a count",
-            Status::INVALID_BYTE_ORDER => "a byte order is neither 0 nor 1",
-            Status::CODE_OUT_OF_RANGE => "unknown geometry type code",
-            Status::INCORRECT_TYPE => "a member has the wrong kind, dimension or SRID for its multi geometry",
-            Status::NESTING_DEPTH_EXCEEDED => "a collection is inside 128 others",
-            Status::SHORT_POINT => "the input ends inside a point",
-            Status::SHORT_LINE_STRING => "the input ends inside a line string",
-            Status::SHORT_MULTI_POINT => "the input ends inside a multi point",
-            Status::SHORT_LINEAR_RING => "the input ends inside a ring",
-            _ => "the call failed",
-        }
+        self == Status::SHORT_HEADER || self.0 >= 48
     }
 }
 
