@@ -16,7 +16,7 @@ pub use crate::wkb::canon::{canonical, canonical_with_srid, same};
 
 use crate::check::{check, Summary, WkbType};
 use crate::error::WkbResult;
-use crate::rt::TryVec;
+use crate::rt::TryCopy;
 use crate::wkb_geom::header::SRID_SIZE;
 use crate::wkb_rewrite::{lay_encoding, lay_one_piece, lay_polygon, size_with_own_srid};
 use crate::writer::{Form, WriteOptions};

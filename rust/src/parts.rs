@@ -19,7 +19,7 @@ use crate::error::WkbResult;
 use crate::reader::Dimension;
 use crate::rt::{try_filled, TryVec};
 use crate::wkb_abi::parts::{lay_geometries, Part as Entry, PartPlace};
-use crate::wkb_check::{NextPiece, RING};
+use crate::wkb_check::{NextPiece, Piece, RING};
 use crate::wkb_geom::code::of_kind;
 use crate::{AllocError, Endianness};
 use alloc::vec::Vec;
@@ -64,20 +64,6 @@ impl Part {
     }
 }
 
-const NO_ENTRY: Entry = Entry {
-    begin: 0,
-    end: 0,
-    offset: 0,
-    count: 0,
-    next: 0,
-    srid: 0,
-    has_srid: 0,
-    kind: RING,
-    dimension: 0,
-    width: 0,
-    order: 0,
-};
-
 /// The parts of the geometry at the start of the bytes. Bytes after it are not looked at.
 ///
 /// A table takes 64 bytes a part while it is made, beside the one that is returned.
@@ -87,7 +73,7 @@ const NO_ENTRY: Entry = Entry {
 /// As [`read_wkb`](crate::reader::read_wkb) rejects the bytes; or memory is refused. [`check`] says where the fault is.
 pub fn parts(bytes: &[u8]) -> WkbResult<Vec<Part>> {
     let found = check(bytes)?;
-    let mut entries = try_filled(NO_ENTRY, found.parts)?;
+    let mut entries = try_filled(Entry::of(&Piece::outermost(bytes, &found), 0, 1), found.parts)?;
     lay_geometries(bytes, 1, &mut entries, PartPlace { index: 0, byte: 0 });
     let mut table = Vec::try_with_room(found.parts)?;
     table.extend(entries.iter().map(Part::of));

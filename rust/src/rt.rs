@@ -49,15 +49,13 @@ pub trait TryVec<T>: Sized {
     fn try_push(&mut self, item: T) -> Result<(), AllocError>;
     /// For an item that there is room for.
     fn push_reserved(&mut self, item: T);
-    fn try_extend_from_slice(&mut self, items: &[T]) -> Result<(), AllocError>
-    where
-        T: Copy;
-    fn try_resize(&mut self, n: usize, item: T) -> Result<(), AllocError>
-    where
-        T: Copy;
-    fn from_slice(items: &[T]) -> Result<Self, AllocError>
-    where
-        T: Copy;
+}
+
+/// Those that copy items.
+pub trait TryCopy<T>: Sized {
+    fn try_extend_from_slice(&mut self, items: &[T]) -> Result<(), AllocError>;
+    fn try_resize(&mut self, n: usize, item: T) -> Result<(), AllocError>;
+    fn from_slice(items: &[T]) -> Result<Self, AllocError>;
 }
 
 impl<T> TryVec<T> for Vec<T> {
@@ -80,32 +78,25 @@ impl<T> TryVec<T> for Vec<T> {
         assert!(self.len() < self.capacity());
         self.push(item);
     }
+}
 
+impl<T: Copy> TryCopy<T> for Vec<T> {
     #[inline]
-    fn try_extend_from_slice(&mut self, items: &[T]) -> Result<(), AllocError>
-    where
-        T: Copy,
-    {
+    fn try_extend_from_slice(&mut self, items: &[T]) -> Result<(), AllocError> {
         self.try_reserve(items.len()).map_err(|_| AllocError)?;
         self.extend_from_slice(items);
         Ok(())
     }
 
     #[inline]
-    fn try_resize(&mut self, n: usize, item: T) -> Result<(), AllocError>
-    where
-        T: Copy,
-    {
+    fn try_resize(&mut self, n: usize, item: T) -> Result<(), AllocError> {
         self.try_reserve(n.saturating_sub(self.len())).map_err(|_| AllocError)?;
         self.resize(n, item);
         Ok(())
     }
 
     #[inline]
-    fn from_slice(items: &[T]) -> Result<Vec<T>, AllocError>
-    where
-        T: Copy,
-    {
+    fn from_slice(items: &[T]) -> Result<Vec<T>, AllocError> {
         let mut copy = Vec::try_with_room(items.len())?;
         copy.extend_from_slice(items);
         Ok(copy)
@@ -274,7 +265,7 @@ pub mod io {
 
     impl Write for super::Vec<u8> {
         fn write(&mut self, bytes: &[u8]) -> Result<usize> {
-            super::TryVec::try_extend_from_slice(self, bytes)?;
+            super::TryCopy::try_extend_from_slice(self, bytes)?;
             Ok(bytes.len())
         }
     }

@@ -189,8 +189,8 @@ fn calls_that_panic() {
     let calls: [(&str, &dyn Fn()); 4] = [
         ("members of Polygon(Xy)", &|| drop(none.collect(WkbType::Polygon(Dimension::Xy), &options))),
         ("rows of GeometryCollection(Xy)", &|| drop(Levels::default().encode(COLLECTION, &options))),
-        ("rows 1..2 of 0", &|| drop(none.slice(1..2).len())),
-        ("rows have to be in a column", &|| drop(none.split(0).len())),
+        ("rows 1..2 of 0", &|| assert!(none.slice(1..2).is_empty())),
+        ("rows have to be in a column", &|| assert_eq!(none.split(0).len(), 0)),
     ];
     for (text, call) in calls {
         let panic = std::panic::catch_unwind(std::panic::AssertUnwindSafe(call)).unwrap_err();

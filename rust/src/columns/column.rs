@@ -4,7 +4,7 @@ use super::{Coordinates, Encodings, Status};
 use crate::canon::lay;
 use crate::check::{Bounds, Summary};
 use crate::reader::Dimension;
-use crate::rt::{try_filled, TryVec};
+use crate::rt::{try_filled, TryCopy};
 use crate::wkb_abi::column::{found_in, Column as Raw};
 use crate::wkb_abi::level_slices::LevelSlices;
 use crate::wkb_abi::totals::Totals;
