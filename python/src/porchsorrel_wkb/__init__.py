@@ -60,44 +60,27 @@ that others write, such as a numpy.memmap, pass a copy, bytes(it).
 
 The library is inside this package: version() is that of its wkb.h. help(wkb.write), and so on, says more of each name.
 """
-from ._calls import bounds as bounds
-from ._calls import check as check
-from ._calls import coordinates as coordinates
-from ._calls import dump as dump
-from ._calls import geopackage_header as geopackage_header
-from ._calls import parts as parts
-from ._calls import same as same
-from ._calls import view as view
-from ._calls import well_formed as well_formed
-from ._calls import write as write
-from ._columns import Column as Column
-from ._columns import collect as collect
-from ._enums import Dimension as Dimension
-from ._enums import Form as Form
-from ._enums import Kind as Kind
-from ._enums import Order as Order
-from ._enums import Status as Status
-from ._enums import is_early_end as is_early_end
-from ._enums import is_refusal as is_refusal
+from ._calls import (
+    bounds as bounds, check as check, coordinates as coordinates, dump as dump, geopackage_header as geopackage_header,
+    parts as parts, same as same, view as view, well_formed as well_formed, write as write,
+)
+from ._columns import Column as Column, collect as collect
+from ._enums import (
+    Dimension as Dimension, Form as Form, Kind as Kind, Order as Order, Status as Status, is_early_end as is_early_end,
+    is_refusal as is_refusal,
+)
 from ._errors import Refused as Refused
-from ._geoparquet import GeoParquet as GeoParquet
-from ._geoparquet import geoparquet as geoparquet
+from ._geoparquet import GeoParquet as GeoParquet, geoparquet as geoparquet
 from ._levels import column_from_coordinates as column_from_coordinates
-from ._library import status_text as status_text
-from ._library import version as version
-from ._records import Box as Box
-from ._records import Fault as Fault
-from ._records import Found as Found
-from ._records import GeoPackageHeader as GeoPackageHeader
-from ._records import Part as Part
-from ._records import Range as Range
-from ._records import Table as Table
-from ._results import ColumnBounds as ColumnBounds
-from ._results import ColumnCoordinates as ColumnCoordinates
-from ._results import ColumnEncodings as ColumnEncodings
-from ._results import ColumnFound as ColumnFound
-from ._results import ColumnParts as ColumnParts
-from ._results import Facts as Facts
+from ._library import status_text as status_text, version as version
+from ._records import (
+    Box as Box, Fault as Fault, Found as Found, GeoPackageHeader as GeoPackageHeader, Part as Part, Range as Range,
+    Table as Table,
+)
+from ._results import (
+    ColumnBounds as ColumnBounds, ColumnCoordinates as ColumnCoordinates, ColumnEncodings as ColumnEncodings,
+    ColumnFound as ColumnFound, ColumnParts as ColumnParts, Facts as Facts,
+)
 
 __version__ = "1.0.0"
 

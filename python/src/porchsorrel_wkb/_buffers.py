@@ -2,7 +2,7 @@
 """Callers' buffers, and memory for results."""
 import array
 import builtins
-from typing import TYPE_CHECKING, Any, Dict, List, Tuple, Union
+from typing import TYPE_CHECKING, Any, Dict, List, Optional, Tuple, Union
 
 from ._library import Call, address_of
 
@@ -103,6 +103,15 @@ class Inputs:
         """Return where bytes are, and how many."""
         view = self.view(data)
         return address_of(view), view.nbytes
+
+    def bits(self, validity: Any, count: int) -> Optional[int]:
+        """Return where a validity bitmap of so many rows is; None if there is none. It may have got shorter since."""
+        if validity is None:
+            return None
+        place, size = self.place(validity)
+        if 8 * size < count:
+            raise ValueError(f"{size} bytes of validity hold fewer than {count} bits")
+        return place
 
     def aligned(self, data: Any) -> memoryview:
         """Return numbers of eight bytes; a copy of their bytes where they are at another place."""

@@ -8,14 +8,13 @@ from ._buffers import Buffer, Inputs, Numbers, bytes_in, flat, over, view_of
 from ._enums import Form, Kind, Order, Status, is_refusal, make_options
 from ._errors import Refused, expect_same, no_such
 from ._library import (
-    BOUNDS, CHECK, DUMP, OTHER, PARTS, PUT, READ_HEADER, SAME, WRITE, status_text, wkb_dump_header, wkb_dump_options,
-    wkb_options,
+    BOUNDS, CHECK, DUMP, OTHER, PARTS, PUT, READ_HEADER, SAME, WRITE, Call, status_text, wkb_dump_header,
+    wkb_dump_options, wkb_options,
 )
 from ._records import STRUCTS, Box, Fault, Found, GeoPackageHeader, Part, Table, box_in, found_in, record_in
 
 # Results go into memory of this size first: so many bytes of an encoding, or parts.
 SMALL, FEW = 4096, 64
-PART_SIZE = SMALL // FEW
 _Small, _Record, _Fault = ctypes.c_char * SMALL, ctypes.c_char * 96, ctypes.c_char * STRUCTS[Fault].size
 
 
@@ -62,6 +61,21 @@ def bounds(data: Buffer) -> Box:
     return box_in(box)
 
 
+def _all(call: Call, data: Buffer, most: int, *more: Any) -> bytes:
+    """Return all that a call writes: into memory for so many bytes or parts first, else into as much as it takes."""
+    out, count = _Small(), ctypes.c_size_t()
+    status = over(call, data, *more, out, most, ctypes.byref(count), None)
+    size = count.value * (SMALL // most)
+    if status == Status.OK:
+        return out[:size]  # type: ignore[return-value]
+    if status != Status.NO_ROOM:
+        _refuse(data)
+    needed, made = count.value, ctypes.create_string_buffer(size)
+    status = over(call, data, *more, made, needed, ctypes.byref(count), None)
+    expect_same(status == Status.OK and count.value == needed)
+    return made.raw
+
+
 def write(
     data: Buffer, order: Order = Order.LITTLE, form: Optional[Form] = None, srid: Optional[int] = None
 ) -> bytes:
@@ -71,17 +85,7 @@ def write(
     form takes one. With the default options, two geometries of one value have the same encoding, whatever their byte
     orders and SRIDs are.
     """
-    options = ctypes.byref(wkb_options(*make_options(order, form, srid)))
-    out, size = _Small(), ctypes.c_size_t()
-    status = over(WRITE, data, options, out, SMALL, ctypes.byref(size), None)
-    if status == Status.OK:
-        return out[: size.value]  # type: ignore[return-value]
-    if status != Status.NO_ROOM:
-        _refuse(data)
-    room, made = size.value, ctypes.create_string_buffer(size.value)
-    status = over(WRITE, data, options, made, room, ctypes.byref(size), None)
-    expect_same(status == Status.OK and size.value == room)
-    return made.raw
+    return _all(WRITE, data, SMALL, ctypes.byref(wkb_options(*make_options(order, form, srid))))
 
 
 def same(first: Buffer, second: Buffer) -> bool:
@@ -98,16 +102,7 @@ def same(first: Buffer, second: Buffer) -> bool:
 
 def parts(data: Buffer) -> Table[Part]:
     """Return the parts of the geometry at the start of the bytes, in preorder: itself, and its rings and members."""
-    few, count = _Small(), ctypes.c_size_t()
-    status = over(PARTS, data, few, FEW, ctypes.byref(count), None)
-    if status == Status.OK:
-        return Table(Part, few[: count.value * PART_SIZE])
-    if status != Status.NO_ROOM:
-        _refuse(data)
-    room, made = count.value, ctypes.create_string_buffer(count.value * PART_SIZE)
-    status = over(PARTS, data, made, room, ctypes.byref(count), None)
-    expect_same(status == Status.OK and count.value == room)
-    return Table(Part, made.raw)
+    return Table(Part, _all(PARTS, data, FEW))
 
 
 def _words_of(data: Buffer, view: memoryview, part: Union[Part, Found]) -> Tuple[int, int]:

@@ -223,11 +223,7 @@ class Column:
     def _place(self, inputs: Inputs) -> wkb_column:
         """Return the column as the library takes it, while its buffers are held."""
         data, offsets = self._shown(inputs)
-        bits, end = None, self._first + self._rows
-        if self._validity is not None:
-            bits, held = inputs.place(self._validity)
-            if held < (end + 7) // 8:
-                raise ValueError(f"{held} bytes of validity hold fewer than {end} bits")
+        bits = inputs.bits(self._validity, self._first + self._rows)
         return wkb_column(address_of(data), data.nbytes, address_of(offsets), self._offset_size, bits, self._first,
                           self._rows)
 
@@ -236,6 +232,12 @@ class Column:
         with Inputs() as inputs:
             column = self._place(inputs)
             return inputs.choose(call)(ctypes.byref(column), *more)
+
+    def _of_each(self, call: Call, record: Any) -> Tuple[Numbers, Table[Any]]:
+        """Return what a call writes for each row: a status and a record."""
+        statuses, table = new_numbers("u1", self._rows), new_numbers("u1", self._rows * STRUCTS[record].size)
+        self._call(call, table, statuses)
+        return statuses, Table(record, table)
 
     def _room(self) -> int:
         """Return how many bytes the rows have at most. The buffers are tested, as each call tests them."""
@@ -262,15 +264,11 @@ class Column:
 
     def bounds(self) -> ColumnBounds:
         """Return the bounds of each row."""
-        statuses, boxes = new_numbers("u1", self._rows), new_numbers("u1", self._rows * STRUCTS[Box].size)
-        self._call(COLUMN_BOUNDS, boxes, statuses)
-        return ColumnBounds._made(statuses, Table(Box, boxes), _metadata=self._metadata)
+        return ColumnBounds._made(*self._of_each(COLUMN_BOUNDS, Box), _metadata=self._metadata)
 
     def found(self) -> ColumnFound:
         """Return what is at the start of each row: kind, dimension, SRID, byte order, size and counts."""
-        statuses, table = new_numbers("u1", self._rows), new_numbers("u1", self._rows * STRUCTS[Found].size)
-        self._call(COLUMN_FOUND, table, statuses)
-        return ColumnFound(statuses, Table(Found, table))
+        return ColumnFound(*self._of_each(COLUMN_FOUND, Found))
 
     def facts(self) -> Facts:
         """Return what the rows have together: types and SRIDs that occur, the bounds of all, and how many are there."""

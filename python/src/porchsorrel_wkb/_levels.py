@@ -90,10 +90,7 @@ def _place(inputs: Inputs, it: Levels, rows: int) -> wkb_levels:
         placed += ends, below
     if below != rows:
         raise ValueError(f"{below} rows are left of {rows}")
-    bits, size = (None, 0) if it.validity is None else inputs.place(it.validity)
-    if it.validity is not None and 8 * size < it.first + rows:
-        raise ValueError(f"{size} bytes of validity hold fewer than {it.first + rows} bits")
-    return wkb_levels(*placed, bits, it.first)
+    return wkb_levels(*placed, inputs.bits(it.validity, it.first + rows), it.first)
 
 
 def column_from_coordinates(
