@@ -11,7 +11,7 @@ from unittest import mock
 
 import porchsorrel_wkb as wkb
 from capsules import (
-    Again, Arrow, Array, Lists, Records, Schema, address_of, deep, memory_of, pointers, rename,
+    Again, Arrow, Array, Lists, Schema, address_of, deep, memory_of, pointers, rename,
 )
 from samples import BIG_POINT, EMPTY_POINT, ISO_POLYGON, POINT, POLYGON, ROWS, STATUSES, numpy, slices
 from porchsorrel_wkb import Column, Dimension, Form, Kind, Order, Status, _results, column_from_coordinates
@@ -230,16 +230,18 @@ KINDS = {
 
 class Coordinates(unittest.TestCase):
     def test_each_kind(self):
-        """Of each kind, with null and rejected rows, which are null, and without."""
-        for (kind, (rows, expected, lists)), (asked, sign) in itertools.product(
-                KINDS.items(), ((None, "+l"), (b"+l", "+l"), (b"+L", "+L"), (b"+w:2", "+l"))):
+        """Of each kind, with null and rejected rows, which are null, or without; and back, by offsets of any size."""
+        for (kind, (rows, values, lists)), (asked, sign), has_nulls in itertools.product(
+                KINDS.items(), ((None, "+l"), (b"+l", "+l"), (b"+L", "+L"), (b"+w:2", "+l")), (False, True)):
+            if has_nulls:
+                rows, values = ([None, it[0], bad, *10 * it, None] for it, bad in ((rows, b"\2"), (values, None)))
             names = list(zip([sign] * len(lists) + ["+w:2", "g"], ["", *lists, "xy"]))
+            levels, asked = Column.of(rows).coordinates(), asked and asked_for(asked)
             extension = f"geoarrow.{kind.name.lower().replace('_', '')}"
-            for given, values in ((rows, expected), ([None, rows[0], b"", rows[1], None],
-                                                     [None, expected[0], None, expected[1], None])):
-                found = read(Column.of(given).coordinates(), asked and asked_for(asked))
-                self.assertEqual(found, (values, names, extension))
-        self.assertEqual(read(Column.of([None]).coordinates())[0], [None])
+            self.assertEqual(read(levels, asked), (values, names, extension))
+            it = column_from_coordinates(kind, Again(levels.__arrow_c_array__(asked)))
+            self.assertEqual(list(it.rows), [None if value is None else row for row, value in zip(rows, values)])
+            self.assertEqual(list(it.statuses), [Status.NULL_ROW if value is None else 0 for value in values])
 
     def test_several_kinds(self):
         """Rows of several kinds, or of collections, are lists without a name."""
@@ -248,19 +250,10 @@ class Coordinates(unittest.TestCase):
             schema, it = structs_of(capsules)
             self.assertIsNone(extension_of(schema))
             self.assertEqual((schema.format, len(items_of(schema, it))), (b"+l", len(rows)))
+        self.assertEqual(read(Column.of([None]).coordinates())[0], [None])
 
 
 class FromGeoArrow(unittest.TestCase):
-    def test_round_trip(self):
-        """What is handed out is taken, with its null rows, and whatever the offsets' size is."""
-        for kind, (rows, _, _) in KINDS.items():
-            rows = [None, *rows, None, rows[0], b"\2", *10 * [rows[1]]]
-            for asked in (None, asked_for(b"+L")):
-                levels = Column.of(rows).coordinates()
-                it = column_from_coordinates(kind, Again(levels.__arrow_c_array__(asked)))
-                self.assertEqual(list(it.rows), [None if row == b"\2" else row for row in rows])
-                self.assertEqual(list(it.statuses), [0 if row else Status.NULL_ROW for row in it.rows])
-
     def test_slices(self):
         lines = [part(2, pairs(1, 2)), part(2, []), part(2, pairs(3, 4, 5, 6))]
         for form, (offset, length) in itertools.product((b"+l", b"+L"), slices(3)):
@@ -283,32 +276,11 @@ class FromGeoArrow(unittest.TestCase):
 
     def test_separate(self):
         """Coordinates whose x, y, z and m are in arrays of their own."""
-        for names in ("xy", "xyz", "xym", "xyzm"):
-            it = Lists([], [(1.0, 5.0), (2.0, 6.0), (3.0, 7.0), (4.0, 8.0)][: len(names)], names, offset=1)
-            written = column_from_coordinates(Kind.POINT, it, order=Order.BIG)
-            (found,) = Column.of(written.rows).parts().parts
-            self.assertEqual((found.dimension.name, found.order), (names.upper(), Order.BIG))
-            expected = tuple(float(i) for i in range(5, 5 + len(names)))
-            self.assertEqual(wkb.coordinates(written.rows[0], found), [expected])
-            gc.collect()
-            self.assertEqual(sorted(it.released), ["array", "schema"])
-
-    def test_refused(self):
-        words, line = [(1.0, 2.0, 3.0, 4.0)], Kind.LINE_STRING
-        for error, text, kind, source in (
-            (TypeError, "'[+]w:2' is not a list", line, Lists([], words)),
-            (TypeError, "'[+]l' has no coordinates", Kind.POINT, Lists([(0, 1)], words)),
-            (TypeError, "'z' is not a list", line, Arrow()),
-            (TypeError, "'Z' has no coordinates", Kind.POINT, Arrow(b"Z")),
-            (TypeError, "coordinates of 'yx'", Kind.POINT, Lists([], [(1.0,), (2.0,)], "yx")),
-            (ValueError, "lists from item 0 to -1", line, Lists([(0, -1)], words)),
-            (ValueError, "lists from item -1 to 1", line, Lists([(-1, 1)], words)),
-            (ValueError, "lists from item 2 to 1", line, Lists([(2, 1)], words)),
-            (ValueError, "fewer items", line, Lists([(0, 3)], words)),
-        ):
-            self.assertRaisesRegex(error, text, column_from_coordinates, kind, source)
-            gc.collect()
-            self.assertEqual(sorted(source.released), ["array", "schema"])
+        for code, names in enumerate(("xy", "xyz", "xym", "xyzm")):
+            words, count = [(1.0, 5.0), (2.0, 6.0), (3.0, 7.0), (4.0, 8.0)], len(names)
+            it = Lists([], words[:count], names, offset=1)
+            (row,) = column_from_coordinates(Kind.POINT, it, order=Order.BIG).rows
+            self.assertEqual(row, struct.pack(f">BI{count}d", 0, 1000 * code + 1, *range(5, 5 + count)))
 
     def test_nulls_inside(self):
         """Items inside rows may have validity, where it says that all are there."""
@@ -343,32 +315,6 @@ class FromGeoArrow(unittest.TestCase):
                                    dimension=other)
         it = column_from_coordinates(Kind.LINE_STRING, make(), dimension=Dimension.XY, form=Form.EWKB_WITH_SRID, srid=7)
         self.assertEqual(wkb.check(it.rows[0]).srid, 7)
-
-
-class Twice(unittest.TestCase):
-    """The schema of the second time is released, and its texts may be gone."""
-
-    def test_whole(self):
-        def points(it):
-            return column_from_coordinates(Kind.POINT, it)
-
-        for source, take in (
-            (Arrow(), Column.from_arrow), (Records(Arrow(name=b"shape")), lambda it: Column.from_arrow(it, "shape")),
-            (Column.of([POINT]).write(), Column.from_arrow), (Lists([], [(1.0, 2.0)]), points),
-            (Column.of([POINT]).coordinates(), points),
-        ):
-            it = Again(source.__arrow_c_array__())
-            take(it)
-            self.assertRaisesRegex(ValueError, "is released already", take, it)
-
-    def test_parts(self):
-        """Of records a child may be released by itself, and the type that a consumer asks for: none is asked for."""
-        column, asked = Arrow(name=b"shape"), Arrow(format=b"z")
-        records, (capsule, _) = Records(column), asked.__arrow_c_array__()
-        for it in (column, asked):
-            it.release("schema", it.schema)
-        self.assertRaisesRegex(ValueError, "is released already", Column.from_arrow, records, "shape")
-        self.assertEqual(len(Column.of([POINT]).write().__arrow_c_array__(capsule)), 2)
 
 
 class Changed(unittest.TestCase):

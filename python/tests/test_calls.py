@@ -1,4 +1,7 @@
-"""The calls for one geometry."""
+"""The calls for one geometry. Any buffer is taken, and none is exported after a call."""
+import array
+import ctypes
+import gc
 import itertools
 import pickle
 import struct
@@ -6,10 +9,8 @@ import sys
 import unittest
 
 import porchsorrel_wkb as wkb
-from samples import (
-    BIG_POINT, EMPTY_POINT, ISO_POLYGON, LINE, POINT, POINTS, POLYGON, changed, numpy, rows_of, values_of,
-)
-from porchsorrel_wkb import Dimension, Form, Kind, Order, Part, Refused, Status
+from samples import BIG_POINT, EMPTY_POINT, LINE, POINT, POINTS, POLYGON, changed, numpy, rows_of, values_of
+from porchsorrel_wkb import Column, Dimension, Form, Kind, Order, Part, Refused, Status
 
 
 class Calls(unittest.TestCase):
@@ -23,14 +24,6 @@ class Calls(unittest.TestCase):
         for index in (2, -3):
             self.assertRaises(IndexError, lambda: table[index])
 
-    def test_well_formed(self):
-        """What has a byte more, or is of another format, raises nothing."""
-        self.assertIs(wkb.well_formed(bytearray(POINT)), True)
-        for other in (b"", POINT + b"\0", b"GP\0\1" + bytes(4) + POINT, POINT.hex().encode()):
-            self.assertIs(wkb.well_formed(other), False)
-        for other in (None, POINT.hex(), 1):
-            self.assertRaises(TypeError, wkb.well_formed, other)
-
     def test_other_formats(self):
         """What is no WKB from its first byte on is named."""
         for data, said in ((POINT.hex().encode(), "; this is hexadecimal text"), (b"POINT", "; this is text"),
@@ -41,7 +34,10 @@ class Calls(unittest.TestCase):
             self.assertEqual(str(pickle.loads(pickle.dumps(raised.exception))), str(raised.exception))
 
     def test_coordinates(self):
-        self.assertEqual(repr(wkb.coordinates(LINE, wkb.check(LINE))), "[(1.0, 2.0, 3.0), (5.0, nan, -7.0)]")
+        for data in (POINT, BIG_POINT, LINE):  # what the check has found of one is enough
+            lists = [repr(wkb.coordinates(data, it)) for it in (wkb.check(data), wkb.parts(data)[0])]
+            self.assertEqual(*lists)
+        self.assertEqual(lists[0], "[(1.0, 2.0, 3.0), (5.0, nan, -7.0)]")
         whole, _ = wkb.parts(POLYGON)
         for call in (wkb.coordinates, wkb.view) if numpy else (wkb.coordinates,):
             with self.assertRaisesRegex(ValueError, "a POLYGON has no coordinates of its own, but 1 rings or members"):
@@ -56,12 +52,6 @@ class Calls(unittest.TestCase):
                 if part.kind <= Kind.LINE_STRING:
                     self.assertEqual(len(wkb.coordinates(data, part)), part.count)
 
-    def test_no_table(self):
-        """What the check has found of a point or a line string is enough for its coordinates."""
-        for data in (POINT, BIG_POINT, LINE):
-            lists = [repr(wkb.coordinates(data, it)) for it in (wkb.check(data), wkb.parts(data)[0])]
-            self.assertEqual(*lists)
-
     @unittest.skipUnless(numpy, "numpy is not here")
     def test_numpy(self):
         data = bytearray(POLYGON)
@@ -70,9 +60,6 @@ class Calls(unittest.TestCase):
         data[17:25] = struct.pack(">d", 7)
         self.assertEqual(view[0, 0], 7)
         self.assertEqual(wkb.view(LINE, wkb.parts(LINE)[0]).shape, (2, 3))
-        table = numpy.asarray(wkb.parts(POLYGON))
-        self.assertEqual((table["kind"].tolist(), table["srid"].tolist()), ([3, 0], [4326, 0]))
-        self.assertEqual((table["end"] - table["begin"]).tolist(), [33, 20])
 
     @unittest.skipIf(numpy, "numpy is here")
     def test_no_numpy(self):
@@ -156,15 +143,6 @@ class Calls(unittest.TestCase):
         fault = wkb.Fault(0, 0, 9, 5, 0, Status(52))
         self.assertTrue(str(Refused(fault, 1, "later")).endswith("it needs 9 bytes and has 5"))
 
-    def test_many_parts(self):
-        """A table of 64 bytes for each part, and no object for each."""
-        count = 300_000
-        data = struct.pack("<BII", 1, 7, count) + bytes.fromhex("010200000000000000") * count
-        before = sys.getallocatedblocks()
-        table = wkb.parts(data)
-        self.assertLess(sys.getallocatedblocks() - before, 1_000)
-        self.assertEqual((len(table), table[0].next, table[count].end), (count + 1, count + 1, 9 * count + 9))
-
     def test_geometries(self):
         """An object with an attribute wkb, as shapely's geometries, is told where its bytes are; it is not asked. Text
         is told what makes bytes of it."""
@@ -173,7 +151,7 @@ class Calls(unittest.TestCase):
             def wkb(self):
                 raise AssertionError
 
-        calls = wkb.check, wkb.bounds, wkb.parts, wkb.write, lambda it: wkb.same(POINT, it)
+        calls = wkb.check, wkb.bounds, wkb.parts, wkb.write, wkb.well_formed, lambda it: wkb.same(POINT, it)
         for call in (*calls, lambda it: wkb.Column.of([it])):
             self.assertRaisesRegex(TypeError, "attribute wkb has the bytes", call, Geometry())
             self.assertRaisesRegex(TypeError, "bytes", call, 1)
@@ -229,17 +207,6 @@ class Parts(unittest.TestCase):
 class Records(unittest.TestCase):
     ALL = wkb.check(POLYGON), wkb.parts(POLYGON)[1], wkb.bounds(LINE), wkb.bounds(LINE).x
 
-    def test_frozen(self):
-        for record in (*self.ALL, wkb.Fault(1, 2, 0, 0, 0, Status.SHORT_HEADER)):
-            for name in ("count", "x", "offset", "other"):
-                self.assertRaises(AttributeError, setattr, record, name, 0)
-
-    def test_keys(self):
-        again = wkb.check(POLYGON), wkb.parts(POLYGON)[1], wkb.bounds(LINE), wkb.bounds(LINE).x
-        self.assertEqual(({*self.ALL, *again}, len({*self.ALL, *again})), (set(self.ALL), 4))
-        self.assertEqual(again, self.ALL)
-        self.assertNotEqual(wkb.check(POLYGON), wkb.check(ISO_POLYGON))
-
     def test_values(self):
         """What a call returns is what the class itself makes of the same values."""
         for record in self.ALL:
@@ -250,16 +217,76 @@ class Records(unittest.TestCase):
             self.assertRaises(TypeError, type(record))
 
 
-class Pickling(unittest.TestCase):
-    def test_refused(self):
-        with self.assertRaises(Refused) as raised:
-            wkb.same(POINT, b"\1\21\0\0\0")
-        again = pickle.loads(pickle.dumps(raised.exception))
-        self.assertEqual(str(again), str(raised.exception))
-        self.assertEqual((again.fault, again.which), (raised.exception.fault, 2))
+def column_of(data):
+    return Column(data, array.array("q", [0, len(data)]))
 
-    def test_tables(self):
-        column = wkb.Column(*rows_of(POLYGON, LINE))
-        for table in (wkb.parts(POLYGON), column.parts().parts, column.bounds().boxes):
-            self.assertEqual(list(pickle.loads(pickle.dumps(table))), list(table))
-        self.assertEqual(bytes(pickle.loads(pickle.dumps(column)).check()), bytes(2))
+
+class Buffers(unittest.TestCase):
+    CALLS = (
+        wkb.check,
+        wkb.bounds,
+        wkb.write,
+        lambda data: wkb.same(data, data),
+        wkb.parts,
+        lambda data: wkb.coordinates(data, wkb.parts(data)[0]),
+        lambda data: column_of(data).check(),
+        lambda data: column_of(data).bounds(),
+        lambda data: column_of(data).parts(),
+        lambda data: column_of(data).write(),
+        lambda data: column_of(data).coordinates(),
+        lambda data: Column(data, b"\0" * 7, offset_size=4),
+        lambda data: Column(b"", bytes(16), data, first=10**6, offset_size=8),
+        lambda data: Column(data, data[:16], data, offset_size=8).check(),
+    )
+
+    def test_nothing_is_exported(self):
+        gc.disable()
+        self.addCleanup(gc.enable)
+        for call in self.CALLS:
+            for start in (POINT, POINT[:-1]):
+                data, kept = bytearray(start), None
+                try:
+                    result = call(data)
+                except ValueError as error:
+                    kept = error  # and with it the frames of the call
+                data.append(1)
+                del kept
+        del result
+
+    def test_lists(self):
+        """A list has no buffer, and the error says what makes one of it."""
+        for call in (lambda: wkb.column_from_coordinates(wkb.Kind.POINT, [[1.0, 2.0]]), lambda: Column(POINT, [0, 21]),
+                     lambda: wkb.column_from_coordinates(wkb.Kind.LINE_STRING, array.array("d", [1, 2]), [0, 1])):
+            self.assertRaisesRegex(TypeError, "numpy.asarray or array.array", call)
+        self.assertRaisesRegex(TypeError, "bytes.fromhex", Column, POINT.hex(), array.array("q", [0, 42]))
+
+    def test_column_keeps_no_export(self):
+        data, offsets, validity = bytearray(POINT), array.array("q", [0, 21]), bytearray(b"\1")
+        column = Column(data, offsets, validity)
+        self.assertEqual(list(column.check()), [0])
+        data += POINT
+        offsets.append(42)
+        validity.append(0)
+        self.assertEqual(list(column.check()), [0])
+        del offsets[1:]
+        self.assertRaisesRegex(ValueError, "1 offsets are left, too few for 1 rows", column.check)
+        offsets.append(21)
+        validity.clear()
+        self.assertRaises(ValueError, column.check)
+
+    def test_any_buffer(self):
+        twice = bytes(byte for byte in POINT for _ in range(2))
+        for data in (
+            bytearray(POINT), memoryview(POINT), memoryview(b".." + POINT)[2:], memoryview(twice)[::2],
+            array.array("B", POINT), (ctypes.c_char * 21).from_buffer_copy(POINT),
+        ):
+            self.assertEqual(wkb.write(data, Order.BIG), BIG_POINT)
+        self.assertEqual(wkb.check(memoryview(BIG_POINT + b"...").cast("i")).size, 21)
+        for none in (b"", bytearray(), memoryview(b""), array.array("d"), (ctypes.c_char * 5 * 0)()):
+            with self.assertRaises(Refused) as raised:
+                wkb.check(none)
+            self.assertEqual(raised.exception.status, Status.SHORT_HEADER)
+            self.assertEqual(list(Column(none, bytes(8), offset_size=4).check()), [Status.SHORT_HEADER])
+            self.assertRaisesRegex(ValueError, "other bytes", wkb.coordinates, none, wkb.check(POINT))
+        for wrong in ("0101", None, 1, [1, 2]):
+            self.assertRaises(TypeError, wkb.check, wrong)

@@ -1,14 +1,77 @@
-"""The calls for columns."""
+"""The calls for columns: of rows in many pieces or in one, and rows as one geometry."""
 import array
 import ctypes
-import gc
+import mmap
+import pickle
+import re
 import struct
 import sys
 import unittest
 
-from capsules import Arrow
-from samples import EMPTY_POINT, LINE, POINT, POINTS, POLYGON, STATUSES, flat, numpy, rows_of, statuses
-from porchsorrel_wkb import Column, Kind, Status, column_from_coordinates
+from samples import (
+    BIG_POINT, EMPTY_POINT, ISO_POLYGON, LINE, POINT, POINTS, POLYGON, ROWS, STATUSES, flat, numpy, rows_of, statuses,
+)
+from porchsorrel_wkb import (
+    Column, Dimension, Form, Kind, Order, Refused, Status, check, collect, column_from_coordinates,
+)
+
+try:
+    import pandas
+except ImportError:
+    pandas = None
+
+
+class Of(unittest.TestCase):
+    def is_right(self, rows):
+        column = Column.of(rows)
+        self.assertEqual((len(column), list(column.check())), (5, STATUSES))
+        self.assertEqual(bytes(column.write().data), POINT + ISO_POLYGON)
+
+    def test_lists(self):
+        for rows in (ROWS, tuple(ROWS), iter(ROWS), (it for it in ROWS), dict(enumerate(ROWS)).values()):
+            self.is_right(rows)
+        twice = bytes(byte for byte in POINT for _ in range(2))
+        self.is_right([memoryview(twice)[::2], None, array.array("d"), bytearray(POLYGON), memoryview(b"\2")])
+        self.is_right([(ctypes.c_int16 * 1).from_buffer_copy(b"\2\0") if it == b"\2" else it for it in ROWS])
+
+    def test_copies(self):
+        row = bytearray(POINT)
+        column = Column.of([row])
+        row.clear()
+        self.assertEqual(list(column.check()), [0])
+        self.assertEqual(list(pickle.loads(pickle.dumps(column)).check()), [0])
+
+    def test_refused(self):
+        for row in ("text", 5, 1.5, float("nan"), [1]):
+            text = f"row 1 is of type {type(row).__name__}, and neither bytes nor None"
+            with self.assertRaisesRegex(TypeError, text):
+                Column.of([POINT, row])
+        for whole in (POINT, bytearray(POINT), memoryview(POINT), "text"):
+            self.assertRaisesRegex(TypeError, "this is one", Column.of, whole)
+        self.assertRaises(TypeError, Column.of, 5)
+
+    def test_to_wkb(self):
+        """A column of geopandas, as far as it's used."""
+        class Geometries:
+            def to_wkb(self):
+                return iter(ROWS)
+
+        self.is_right(Geometries())
+
+    @unittest.skipUnless(pandas and numpy, "pandas or numpy is not here")
+    def test_pandas(self):
+        self.is_right(pandas.Series(ROWS))
+        for missing in (float("nan"), pandas.NA, pandas.NaT):
+            self.is_right(pandas.Series([missing if it is None else it for it in ROWS], index=list("edcba")))
+        self.is_right(pandas.DataFrame({"geometry": ROWS}).geometry)
+        self.is_right(pandas.array(ROWS, dtype=object))
+        self.assertRaisesRegex(TypeError, "of 2 dimensions is not", Column.of, pandas.DataFrame({"geometry": ROWS}))
+
+    @unittest.skipUnless(numpy, "numpy is not here")
+    def test_numpy(self):
+        self.is_right(numpy.array(ROWS, dtype=object))
+        self.assertRaisesRegex(TypeError, "type S drops the zeros", Column.of, numpy.array([POINT, b"\1\0"]))
+        self.assertRaisesRegex(TypeError, "of 2 dimensions", Column.of, numpy.array([[POINT]], dtype=object))
 
 
 class Split(unittest.TestCase):
@@ -47,18 +110,6 @@ class Split(unittest.TestCase):
         self.assertRaisesRegex(ValueError, "every 2", lambda: column[::2])
         for wrong in (lambda: column[0], lambda: list(column), lambda: column["a"]):
             self.assertRaisesRegex(TypeError, "column of one", wrong)
-
-    def test_memory(self):
-        """The columns share the memory of an array of Arrow, which lives as long as one of them."""
-        source = Arrow()
-        first, second = Column.from_arrow(source).split(2)
-        self.assertIs(first._data, second._data)
-        del first
-        gc.collect()
-        self.assertEqual((statuses(second), source.released), (STATUSES[2:], ["schema"]))
-        del second
-        gc.collect()
-        self.assertEqual(source.released, ["schema", "array"])
 
 
 class Taken(unittest.TestCase):
@@ -113,13 +164,6 @@ class Taken(unittest.TestCase):
             self.assertEqual([len(it) for it in column.write()], [0, 1, 0])
             self.assertEqual([len(it) for it in column.coordinates()], [0, 1, 1, 1, 0])
 
-    def test_wrong_slices(self):
-        data, offsets = rows_of(*[POINT] * 3)
-        for first, rows in ((4, None), (1, 3), (0, -1), (4, 0), (2**62, 0), (0, 2**62)):
-            self.assertRaises(ValueError, Column, data, offsets, first=first, rows=rows)
-        for wrong in ({"first": 0.5}, {"rows": "1"}):
-            self.assertRaises(TypeError, Column, data, offsets, **wrong)
-
     def test_texts(self):
         """Errors in offsets or in a slice are reported."""
         data, offsets = rows_of(*[POINT] * 3)
@@ -128,6 +172,9 @@ class Taken(unittest.TestCase):
             ("first=0 and rows=-7 can't be negative", offsets, {"rows": -7}),
             ("first=-1 and rows=None can't be negative", offsets, {"first": -1}),
             ("4 offsets have 3 rows: not 0 from row 10 on", offsets, {"first": 10}),
+            *((f"not {rows} from row {first} on", offsets, {"first": first, "rows": rows})
+              for first, rows in ((4, 0), (2**62, 0), (0, 2**62))),
+            *(("", offsets, wrong) for wrong in ({"first": 0.5}, {"rows": "1"})),
             ("4 offsets have 3 rows: not 3 from row 1 on", offsets, {"first": 1, "rows": 3}),
             ("0 offsets have 0 rows: not 1 from row 0 on", array.array("q"), {"rows": 1}),
             ("7 bytes are after the last offset", raw[:-1], {"offset_size": 8}),
@@ -157,15 +204,94 @@ class Results(unittest.TestCase):
         self.assertEqual(flat(Column.of([LINE]).coordinates(1).coordinates), "1.0 2.0 3.0 5.0 nan -7.0")
 
     def test_types(self):
-        column = Column(*rows_of(POINTS, EMPTY_POINT))
-        it = column.coordinates()
+        column = Column(*rows_of(POINTS, EMPTY_POINT, POLYGON))
+        it, written = column.coordinates(), column_from_coordinates(Kind.POINT, array.array("d", [1, 2]))
+        for numbers, code in zip((column.check(), it.row_offsets, it.coordinates, *written), "BqdBqB"):
+            self.assertEqual(numbers.dtype if numpy else numbers.typecode, code)
         if numpy:
-            self.assertEqual((it.coordinates.shape, it.coordinates.dtype), ((3, 2), numpy.dtype("f8")))
-            self.assertEqual([column.check().dtype, it.row_offsets.dtype], [numpy.dtype("u1"), numpy.dtype("i8")])
-            boxes, parts = numpy.asarray(column.bounds().boxes), numpy.asarray(column.parts().parts)
-            self.assertEqual(it.ring_offsets[it.single_offsets[it.row_offsets]].tolist(), [0, 2, 3])
-            self.assertEqual((boxes["x"]["count"].tolist(), boxes["y"]["least"][0]), ([1, 0], 2.0))
-            self.assertEqual((parts["kind"].tolist(), parts["begin"].tolist()), ([4, 1, 1, 1], [0, 9, 30, 0]))
-        else:
-            for numbers, code in ((column.check(), "B"), (it.row_offsets, "q"), (it.coordinates, "d")):
-                self.assertEqual((type(numbers), numbers.typecode), (array.array, code))
+            self.assertEqual(it.coordinates.shape, (4, 2))
+            self.assertEqual(it.ring_offsets[it.single_offsets[it.row_offsets]].tolist(), [0, 2, 3, 4])
+            tables = column.bounds().boxes, column.parts().parts, column.found().found
+            boxes, parts, found = map(numpy.asarray, tables)
+            self.assertEqual((boxes["x"]["count"].tolist(), boxes["y"]["least"][0]), ([1, 0, 1], 2.0))
+            self.assertEqual(parts["kind"].tolist(), [4, 1, 1, 1, 3, 0])
+            self.assertEqual(parts["end"].tolist(), [51, 30, 51, 21, 33, 33])
+            self.assertEqual((found["kind"].tolist(), found["srid"].tolist()), ([4, 1, 3], [0, 0, 4326]))
+            self.assertTrue(numpy.shares_memory(found, tables[2].__array__()))
+            self.assertFalse(numpy.shares_memory(found, tables[2].__array__(copy=True)))
+
+
+# As PostGIS has it, with an SRID.
+SRID_POINT = bytes.fromhex("0101000020e6100000") + POINT[5:]
+
+
+class Collected(unittest.TestCase):
+    def test_bytes(self):
+        points = Column.of([SRID_POINT, BIG_POINT])
+        self.assertEqual(collect(points, Kind.MULTI_POINT), bytes.fromhex("010400000002000000") + 2 * POINT)
+        big = bytes.fromhex("002000000400000d3e00000002") + 2 * BIG_POINT
+        self.assertEqual(collect(points, Kind.MULTI_POINT, Dimension.XY, Order.BIG, srid=3390), big)
+        self.assertEqual(collect(points, 4, 0, 0, 2, 3390), big)
+        own = collect(points, Kind.MULTI_POINT, form=Form.EWKB_OWN_SRID)
+        self.assertEqual(own, collect(points, Kind.MULTI_POINT, form=Form.EWKB_WITHOUT_SRID))
+        self.assertEqual(collect([POINT, EMPTY_POINT], Kind.MULTI_POINT), POINTS)
+        line = collect(Column.of([LINE]), Kind.MULTI_LINE_STRING, Dimension.XYZ)
+        self.assertEqual(line, bytes.fromhex("01ed03000001000000") + LINE)
+        self.assertEqual(type(line), bytes)
+
+    def test_no_rows(self):
+        for column in (Column(b"", array.array("q")), Column(POINT, array.array("i", [21]), b"\0")):
+            for kind in (Kind.MULTI_POINT, Kind.GEOMETRY_COLLECTION):
+                found = check(collect(column, kind, Dimension.XYZM))
+                self.assertEqual((found.kind, found.dimension, found.count), (kind, Dimension.XYZM, 0))
+
+    def test_long(self):
+        count = 100_000
+        whole = collect(Column.of(count * [BIG_POINT]), Kind.MULTI_POINT, srid=7)
+        self.assertEqual(whole, bytes.fromhex("010400002007000000") + struct.pack("<I", count) + count * POINT)
+
+
+class Refusals(unittest.TestCase):
+    def test_rows(self):
+        """The first row that is no member, its fault and what is said of it."""
+        data, offsets = rows_of(POINT, POINT)
+        offsets[2] = 7
+        where = "at byte 0 (part 0)"
+        short = f"{where}: it needs 21 bytes and has 20"
+        for column, kind, row, status, text in (
+            (Column.of([POINT, None, b""]), Kind.MULTI_POINT, 1, Status.NULL_ROW, "the row is null"),
+            (Column(data, offsets), Kind.MULTI_POINT, 1, Status.BAD_OFFSETS, "before a row ends"),
+            (Column.of([POINT, b""]), Kind.GEOMETRY_COLLECTION, 1, Status.SHORT_HEADER, f"a count, {where}"),
+            (Column.of([LINE, POINT]), Kind.MULTI_LINE_STRING, 0, Status.INCORRECT_TYPE, f"geometry, {where}"),
+            (Column.of([POINT[:-1]]), Kind.MULTI_POINT, 0, Status.SHORT_POINT, short),
+            (Column.of([b"\1\21\0\0\0"]), Kind.GEOMETRY_COLLECTION, 0, Status.CODE_OUT_OF_RANGE, f" read, {where}"),
+        ):
+            with self.assertRaisesRegex(Refused, f"^row {row}: .*{re.escape(text)}$") as raised:
+                collect(column, kind)
+            error = raised.exception
+            self.assertEqual((error.row, error.status, error.fault.status, error.which), (row, status, status, 1))
+            again = pickle.loads(pickle.dumps(error))
+            self.assertEqual((str(again), again.row, again.fault), (str(error), row, error.fault))
+        with self.assertRaises(Refused) as raised:
+            check(b"")
+        self.assertIsNone(raised.exception.row)
+
+    def test_arguments(self):
+        column = Column.of([POINT])
+        for kind in (0, 1, 2, Kind.POLYGON):
+            self.assertRaisesRegex(ValueError, "has no geometries as members", collect, column, kind)
+        for kind in (8, -1):
+            self.assertRaises(ValueError, collect, column, kind)
+        for arguments in ((4,), (-1,), (0, 2), (0, 1, 4), (0, 1, 2), (0, 1, 0, 7), (0, 1, 2, 2**32)):
+            self.assertRaises(ValueError, collect, column, Kind.MULTI_POINT, *arguments)
+        self.assertRaisesRegex(TypeError, "made of many rows", collect, POINT, Kind.MULTI_POINT)
+
+    def test_many_rows(self):
+        """2**32 rows, of which none is read: their offsets are addresses without memory."""
+        flags = mmap.MAP_PRIVATE | mmap.MAP_ANONYMOUS
+        with mmap.mmap(-1, 4 * (2**32 + 1), flags=flags, prot=mmap.PROT_READ) as offsets:
+            with memoryview(offsets).cast("i") as numbers:
+                column = Column(b"", numbers)
+                with self.assertRaisesRegex(ValueError, "^there are more rows than a count of four bytes holds$"):
+                    collect(column, Kind.MULTI_POINT)
+                del column

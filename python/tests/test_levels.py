@@ -91,10 +91,3 @@ class Taken(unittest.TestCase):
         ):
             with self.assertRaisesRegex(error, text):
                 column_from_coordinates(*arguments, **options)
-
-    def test_types(self):
-        it = column_from_coordinates(Kind.POINT, doubles(1, 2))
-        if numpy:
-            self.assertEqual([its.dtype for its in it], [numpy.dtype("u1"), numpy.dtype("i8"), numpy.dtype("u1")])
-        else:
-            self.assertEqual([its.typecode for its in it], ["B", "q", "B"])

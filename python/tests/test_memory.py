@@ -1,14 +1,17 @@
-"""Memory, of Python and of the library's allocator: none is kept by calls that are made again and again."""
+"""Memory, of Python and of the library's allocator: none is kept by calls that are made again and again. Work and
+memory are proportional to the input, whatever its views and names say: offsets, by checks/hosts/cost."""
 import contextlib
 import ctypes
 import gc
+import struct
 import sys
+import tracemalloc
 import unittest
 
 import porchsorrel_wkb as wkb
-from capsules import KEPT, Arrow, Records, Stream, Views
+from capsules import KEPT, Arrow, Records, Stream, Views, memory_of
 from samples import LINE, POINT, POLYGON, ROWS
-from porchsorrel_wkb import Column, Kind, collect, column_from_coordinates
+from porchsorrel_wkb import Column, Kind, Status, collect, column_from_coordinates
 
 COLUMN, POINTS = Column.of(ROWS), Column.of([POINT, POINT])
 # Calls that return, and such that raise: those that make or end structs of Arrow, and others with memory of ctypes.
@@ -69,3 +72,35 @@ class Memory(unittest.TestCase):
         for name, call in CALLS.items():
             with self.subTest(name):
                 self.assertTrue(any(growth_of(call) < MANY // 2 for _ in range(TRIES)))
+
+
+class Nested(unittest.TestCase):
+    def views(self, rows, size):
+        """So many views of one row of this size, a line string."""
+        row = struct.pack("<BII", 1, 2, (size - 9) // 16) + bytes(size - 9)
+        source = Views([row], 1)
+        source.memory[1] = memory_of(rows * source.memory[1].raw)
+        source.array.buffers[0], source.array.buffers[1] = None, ctypes.addressof(source.memory[1])
+        source.array.length = rows
+        return source
+
+    def test_views(self):
+        """Views of 16 bytes each, over one row of 489 or 249: copies have at most 16 bytes for each of these."""
+        for rows, size in ((33, 489), (1000, 249)):
+            column = Column.from_arrow(self.views(rows, size))
+            self.assertEqual(list(column.check()), rows * [Status.OK])
+        for rows, size in ((34, 489), (50_000, 800_009)):
+            with self.assertRaisesRegex(ValueError, "views share bytes"):
+                Column.from_arrow(self.views(rows, size))
+
+    def test_names(self):
+        """Columns that share a name of a megabyte, which is not read to its end."""
+        column, shape = Arrow(name=10**6 * b"n"), Arrow(rows=[POINT], name=b"shape")
+        source = Records(*200 * [column], shape, length=1)
+        source.children = ()
+        tracemalloc.start()
+        self.addCleanup(tracemalloc.stop)
+        with self.assertRaises(ValueError) as raised:
+            Column.from_arrow(source, "none")
+        self.assertLess(tracemalloc.get_traced_memory()[1], 10**6)
+        self.assertRegex(str(raised.exception), "no column 'none', but .*'nnn.* and more$")

@@ -45,22 +45,16 @@ class Metadata(unittest.TestCase):
         chunks = Column.chunks_from_arrow(Stream(told_of(Arrow()), [Arrow(), Arrow()]))
         self.assertEqual([it.metadata for it in chunks], [CRS.decode()] * 2)
 
-    def test_other_types(self):
-        for name, expected in ((b"geoarrow.wkb", CRS), (b"ogc.wkb", CRS), (b"arrow.uuid", None), (b"geoarrow", None)):
-            found = Column.from_arrow(told_of(Arrow(), metadata=encoded(name))).metadata
-            self.assertEqual(found, expected and expected.decode())
-        for count in (0, -1):
-            self.assertIsNone(Column.from_arrow(told_of(Arrow(), metadata=struct.pack("=i", count))).metadata)
+        for metadata, expected in (
+            (encoded(b"ogc.wkb"), CRS.decode()), (encoded(b"arrow.uuid"), None), (encoded(b"geoarrow"), None),
+            (encoded(text=b""), None), (struct.pack("=i", 0), None), (struct.pack("=i", -1), None),
+        ):
+            self.assertEqual(Column.from_arrow(told_of(Arrow(), metadata=metadata)).metadata, expected)
         self.assertIsNone(Column.from_arrow(Arrow()).metadata)
-        for name in (b"geoarrow.wkt", b"geoarrow.point"):
-            self.assertRaisesRegex(TypeError, "is not WKB", Column.from_arrow, told_of(Arrow(), metadata=encoded(name)))
-
-    def test_in_wrong(self):
-        """Text that is no JSON object is an error; no text says nothing."""
-        for wrong in (b"{nonsense", b"[1]", b"\xff"):
-            source = told_of(Arrow(), metadata=encoded(text=wrong))
-            self.assertRaisesRegex(ValueError, "metadata is", Column.from_arrow, source)
-        self.assertIsNone(Column.from_arrow(told_of(Arrow(), metadata=encoded(text=b""))).metadata)
+        for name, text, error in ((b"geoarrow.wkt", CRS, TypeError), (b"geoarrow.point", CRS, TypeError),
+                                  *((b"ogc.wkb", text, ValueError) for text in (b"{nonsense", b"[1]", b"\xff"))):
+            source = told_of(Arrow(), metadata=encoded(name, text))
+            self.assertRaisesRegex(error, "is not WKB|metadata is", Column.from_arrow, source)
 
     def test_out(self):
         column = pickle.loads(pickle.dumps(Column.from_arrow(told_of(Arrow(rows=[POINT, None])))))
@@ -74,22 +68,17 @@ class Metadata(unittest.TestCase):
         self.assertEqual(metadata_of(Column.of([POINT]).write()), ("geoarrow.wkb", b"{}"))
 
     def test_set(self):
-        column = Column.of([POINT])
-        column.metadata = '{"crs": "S\u00e3o \u6771"}'
-        self.assertEqual(metadata_of(column.write()), ("geoarrow.wkb", b'{"crs": "S\xc3\xa3o \xe6\x9d\xb1"}'))
-        self.assertEqual(Column.from_arrow(column.write()).metadata, column.metadata)
-        column.metadata = None
-        self.assertEqual(metadata_of(column.write()), ("geoarrow.wkb", b"{}"))
-
-    def test_set_wrong(self):
         """What is no JSON object is an error when it is set, and changes nothing."""
         column = Column.of([POINT])
-        column.metadata = CRS.decode()
+        column.metadata = '{"crs": "S\u00e3o \u6771"}'
         for wrong, error in (({"crs": 1}, TypeError), (CRS, TypeError), ("EPSG:4326", ValueError), ("", ValueError),
                              ("[]", ValueError), ("null", ValueError)):
             with self.subTest(wrong), self.assertRaisesRegex(error, "metadata is"):
                 column.metadata = wrong
-        self.assertEqual(column.metadata, CRS.decode())
+        self.assertEqual(metadata_of(column.write()), ("geoarrow.wkb", b'{"crs": "S\xc3\xa3o \xe6\x9d\xb1"}'))
+        self.assertEqual(Column.from_arrow(column.write()).metadata, column.metadata)
+        column.metadata = None
+        self.assertEqual(metadata_of(column.write()), ("geoarrow.wkb", b"{}"))
 
     def test_crs(self):
         """A column of geopandas has a CRS of pyproj."""
