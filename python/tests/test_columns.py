@@ -133,6 +133,12 @@ class Taken(unittest.TestCase):
             self.assertRaises(TypeError, Column, data, taken, offset_size=12 - size)
             written = column_from_coordinates(Kind.LINE_STRING, coordinates, taken)
             self.assertEqual(list(written.offsets), [0, 345, 690, 1035], taken)
+        for size, code in ((4, "i"), (8, "q")):  # bytes without a type, as Arrow's own buffers are
+            raw = struct.pack(f"=4{code}", *offsets)
+            for taken in (raw, bytearray(raw), memoryview(raw).cast("b"), memoryview(raw).cast("c")):
+                self.assertEqual(statuses(Column(data, taken, offset_size=size)), [0, 0, 0])
+                written = column_from_coordinates(Kind.LINE_STRING, coordinates, taken, offset_size=size)
+                self.assertEqual(list(written.offsets), [0, 345, 690, 1035])
         swapped = ">i8" if sys.byteorder == "little" else "<i8"
         for refused in (
             [array.array(code, offsets) for code in "hHIbdf"]
@@ -144,16 +150,6 @@ class Taken(unittest.TestCase):
             self.assertRaises(TypeError, column_from_coordinates, Kind.LINE_STRING, coordinates, refused)
         self.assertRaises(TypeError, Column, data, None)
         self.assertRaises(TypeError, Column, data, memoryview(bytes(32)).cast("B", (4, 8)), offset_size=8)
-
-    def test_raw_offsets(self):
-        """Bytes without a type, as Arrow's own buffers are."""
-        for size, code in ((4, "i"), (8, "q")):
-            raw = struct.pack(f"=4{code}", 0, 21, 42, 63)
-            for taken in (raw, bytearray(raw), memoryview(raw).cast("b"), memoryview(raw).cast("c")):
-                self.assertEqual(statuses(Column(3 * POINT, taken, offset_size=size)), [0, 0, 0])
-                coordinates = array.array("d", bytes(1008))
-                written = column_from_coordinates(Kind.LINE_STRING, coordinates, taken, offset_size=size)
-                self.assertEqual(list(written.offsets), [0, 345, 690, 1035])
 
     def test_no_rows(self):
         for offsets in (array.array("q"), array.array("q", [0]), array.array("i"), array.array("i", [5])):

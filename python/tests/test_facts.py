@@ -1,5 +1,6 @@
 """What is found in each row of a column, what rows have together, and what GeoParquet says of them."""
 import array
+import contextlib
 import itertools
 import json
 import math
@@ -8,7 +9,6 @@ import struct
 import unittest
 
 import porchsorrel_wkb as wkb
-from capsules import Arrow
 from porchsorrel_wkb import Column, Dimension, Kind, Range
 from samples import BIG_POINT, EMPTY_POINT, LINE, POINT, POINTS, POLYGON, ROWS, STATUSES, geometry
 
@@ -121,25 +121,17 @@ class GeoParquet(unittest.TestCase):
             "covering": {"bbox": {it: ["bbox", it] for it in ("xmin", "ymin", "zmin", "xmax", "ymax", "zmax")}}}})
         self.assertEqual(bounds, column.bounds())
 
-    def test_arcs(self):
+    def test_each_kind(self):
         """An arc between two ends isn't in their box."""
-        for kind in range(1, 8):
-            column = Column.of([POINT, geometry(kind)])
+        names = "Point LineString Polygon MultiPoint MultiLineString MultiPolygon GeometryCollection".split()
+        for (kind, name), (dimension, sign) in itertools.product(enumerate(names, 1), ((0, ""), (1, " Z"))):
+            column, has_box = Column.of([POINT, geometry(kind, dimension)]), kind in (Kind.POINT, Kind.MULTI_POINT)
             column.metadata = '{"edges": "spherical"}'
             said = wkb.geoparquet(column).metadata["columns"]["geometry"]
-            if kind in (Kind.POINT, Kind.MULTI_POINT):
-                self.assertEqual(said["bbox"], [1.0, 2.0, 1.0, 2.0])
+            self.assertEqual(said["geometry_types"], list(dict.fromkeys(["Point", name + sign])))
+            self.assertEqual("bbox" in said, has_box)
+            with contextlib.nullcontext() if has_box else self.assertRaisesRegex(ValueError, "arc leaves the box"):
                 wkb.geoparquet(column, covering="bbox")
-            else:
-                self.assertNotIn("bbox", said)
-                self.assertRaisesRegex(ValueError, "arc leaves the box", wkb.geoparquet, column, covering="bbox")
-
-    def test_each_type(self):
-        names = "Point LineString Polygon MultiPoint MultiLineString MultiPolygon GeometryCollection".split()
-        for kind, name in enumerate(names, 1):
-            for dimension, sign in ((0, ""), (1, " Z")):
-                metadata, _ = wkb.geoparquet(Column.of([geometry(kind, dimension)]))
-                self.assertEqual(metadata["columns"]["geometry"]["geometry_types"], [name + sign])
 
     def test_without_coordinates(self):
         """There is no box unless there are numbers in x and in y."""
@@ -167,21 +159,12 @@ class GeoParquet(unittest.TestCase):
             self.assertTrue(wkb.geoparquet(Column.of([polygon])))
         many = struct.pack(">BIII", 0, 3, 1, 2**16) + bytes(2**20)
         self.assertTrue(wkb.geoparquet(Column.of([many])))
-        for text, expected in (('{"crs": "EPSG:4326"}', "PROJJSON alone"), ('{"edges": "vincenty"}', "'vincenty'")):
-            column = Column.of([POINT])
-            column.metadata = text
-            self.assertRaisesRegex(ValueError, expected, wkb.geoparquet, column)
-
-    def test_bad_rows(self):
-        """Offsets that fall are rejected, and read nothing."""
-        source = Arrow(rows=[POINT, POINT])
-        column = Column.from_arrow(source)
-        column._offsets = memoryview(struct.pack("=3i", 0, 42, 21)).cast("i")
+        column = Column(2 * POINT, array.array("q", [0, 42, 21]))
         self.assertRaisesRegex(ValueError, "row 1 is rejected: the row's offsets", wkb.geoparquet, column)
-
-    def test_metadata_of_others(self):
-        """Arrow's metadata is not looked at before."""
-        for text in (b"", b"EPSG:4326", b"[]", b"\xff"):
+        for text, expected in (  # Arrow's metadata is not looked at before
+            (b'{"crs": "EPSG:4326"}', "PROJJSON alone"), (b'{"edges": "vincenty"}', "'vincenty'"),
+            *((it, "column.metadata is") for it in (b"", b"EPSG:4326", b"[]", b"\xff")),
+        ):
             column = Column.of([POINT])
             column._metadata = text
-            self.assertRaisesRegex(ValueError, "column.metadata is", wkb.geoparquet, column)
+            self.assertRaisesRegex(ValueError, expected, wkb.geoparquet, column)

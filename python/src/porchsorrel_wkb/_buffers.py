@@ -150,9 +150,3 @@ def new_offsets(count: int) -> Numbers:
     offsets = new_numbers("i8", count + 1)
     offsets[0] = 0
     return offsets
-
-
-def less_the_least(offsets: memoryview) -> Tuple[bytes, int]:
-    """Return offsets less the least of them, and this one; as they are, and 0, where one is negative."""
-    least = max(min(offsets), 0)
-    return array.array(offsets.format, [offset - least for offset in offsets]).tobytes(), least

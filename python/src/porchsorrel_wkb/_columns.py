@@ -1,5 +1,6 @@
 # SPDX-License-Identifier: MIT OR Apache-2.0
 """The calls for columns of geometries."""
+import array
 import ctypes
 import operator
 import re
@@ -8,9 +9,7 @@ import sys
 from typing import Any, Dict, Iterable, Iterator, List, Optional, Tuple, Union
 
 from ._arrow import ArrowArray, ArrowStream, chunks_of_arrow, pieces_of_arrow
-from ._buffers import (
-    Buffer, Inputs, Numbers, flat, less_the_least, has_numpy, new_numbers, new_offsets, view_of,
-)
+from ._buffers import Buffer, Inputs, Numbers, flat, has_numpy, new_numbers, new_offsets, view_of
 from ._calls import fault_of
 from ._enums import Dimension, Form, Kind, Order, Status, is_refusal, make_options
 from ._errors import Refused, expect_same
@@ -156,7 +155,8 @@ class Column:
         size, before = self._offset_size, self._first % 8
         begin, end = self._first - before, self._first + self._rows
         offsets = view_of(self._offsets).cast("B")[begin * size : (end + 1) * size].cast("i" if size == 4 else "q")
-        lowered, least = less_the_least(offsets)
+        least = max(min(offsets), 0)  # where one is negative all stay as they are
+        lowered = array.array(offsets.format, [it - least for it in offsets]).tobytes()
         bits = None if self._validity is None else bytes(view_of(self._validity)[begin // 8 : (end + 7) // 8])
         return {"_data": bytes(view_of(self._data)[least:]), "_offsets": lowered, "_validity": bits, "_first": before}
 

@@ -17,12 +17,6 @@ from ._results import ColumnEncodings
 WORD_SIZE = 8
 
 
-def _wide(offsets: Buffer) -> Buffer:
-    """Return offsets of 32 bits as ones of 64 bits."""
-    with view_of(offsets) as view:
-        return numbers_of("i8", memoryview(view.tobytes()).cast("i"))
-
-
 def _level(offsets: Optional[Buffer], offset_size: Optional[int]) -> Optional[Buffer]:
     """Return the offsets of a level as ones of 64 bits."""
     if offsets is None:
@@ -31,7 +25,7 @@ def _level(offsets: Optional[Buffer], offset_size: Optional[int]) -> Optional[Bu
     with view_of(offsets) as view:
         if view.nbytes % size:
             raise ValueError(f"{view.nbytes % size} bytes are after the last offset")
-    return _wide(offsets) if size < WORD_SIZE else offsets
+        return numbers_of("i8", memoryview(view.tobytes()).cast("i")) if size < WORD_SIZE else offsets
 
 
 def _items(offsets: Optional[Buffer], below: int) -> int:
