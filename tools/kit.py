@@ -8,9 +8,9 @@
     tools/kit.py take                  takes the libraries that `rt ci` has proved of these sources on this machine
 
 A library is built if the checksum beside it, the kit's own `stamp`, is that of its sources and of those below it.
-`rt ci` writes no such checksum, and restores the earlier files after it has proved them; but some kits keep the proved
-ones. So after `rt ci`, in this folder or in another one with the same files, `take` gives each crate its library, and
-the checksum beside it, with which `rt check` and the scripts begin; and the programs. Of a kit that keeps none, it
+`rt ci` writes no such checksum, and restores the earlier files after it has proved them; but it keeps the proved ones.
+So after `rt ci`, in this folder or in another one with the same files, `take` gives each crate its library, and the
+checksum beside it, with which `rt check` and the scripts begin; and the programs. Where it could keep none, `take`
 takes what `rt ci` left in this folder.
 
 `archive` and `program` first prove and build each library below the crate that is not built, and those above it; as
@@ -35,7 +35,7 @@ import sys
 ROOT = pathlib.Path(__file__).resolve().parent.parent
 # The names that are used of the command: its own, those of the module `rtlib` that it loads, and those of a crate.
 BORROWED = {
-    "rt": "KIT Crate edited handles_of in_lanes need processors rtlib unread",
+    "rt": "KIT Kept Crate edited handles_of in_lanes kit_sum need processors rtlib unread",
     "rtlib": "Crate PARTS RATTLE crates_below files_of guarded lock sum_of",
     "Kept": "give is_built key place",
     "Crate": "allowed below count folder is_built is_program is_static link name rlib stamp words",
@@ -67,8 +67,7 @@ def load():
     loader.exec_module(module)
     look(module, "rt")
     look(module.rtlib, "rtlib")
-    if hasattr(module, "Kept"):
-        look(module.Kept, "Kept")
+    look(module.Kept, "Kept")
     # As the command itself does it for `rt ci`: crates below a crate are of the same class.
     module.rtlib.Crate, module.Crate.allowed = module.Crate, module.handles_of(str(ROOT))
     return module
@@ -111,8 +110,7 @@ def write_stamp(library, stamp):
 
 def sum_of(crate):
     """A sum of all that the prover reads when it checks a crate: the kit, the crate's files, and those below it."""
-    kit = rt.kit_sum() if hasattr(rt, "kit_sum") else rt.rtlib.sum_of(rt.rtlib.RATTLE)
-    return hashlib.sha256(f"{kit} {crate.stamp()}".encode()).hexdigest()
+    return hashlib.sha256(f"{rt.kit_sum()} {crate.stamp()}".encode()).hexdigest()
 
 
 def copy_sources(crate, folder):
@@ -194,22 +192,6 @@ def prove_below(crates, last=()):
     return are_proved
 
 
-class NoneKept:
-    """Stands for what a kit keeps that has no folder for stored files."""
-
-    at = None
-
-    def key(self, _crate):
-        """The name under which a crate's files are stored."""
-
-    def is_built(self, _crate):
-        """Take note of a crate's library."""
-
-    def give(self, crate, _tests, _key):
-        """Whether a program that `rt ci` has left is in its place."""
-        return is_newer(crate, f"{crate.folder}/out/{crate.name}")
-
-
 def is_newer(crate, file):
     """Whether a file was made since the crate's sources and the libraries below last changed, by times that nothing can
     set."""
@@ -255,7 +237,7 @@ def take():
     crates = rt.rtlib.crates_below(str(ROOT))
     libraries = [it for it in crates if not it.is_program and not it.is_static]
     held = rt.rtlib.lock(crates)
-    kept = rt.Kept(crates) if hasattr(rt, "Kept") else NoneKept()
+    kept = rt.Kept(crates)
     here = take_libraries(kept, libraries)
     for it in crates:
         if it.is_program and {dep.name for dep in it.below()} <= here and kept.give(it, False, kept.key(it)):
