@@ -255,11 +255,19 @@ class Coordinates(unittest.TestCase):
 
 class FromGeoArrow(unittest.TestCase):
     def test_slices(self):
-        lines = [part(2, pairs(1, 2)), part(2, []), part(2, pairs(3, 4, 5, 6))]
-        for form, (offset, length) in itertools.product((b"+l", b"+L"), slices(3)):
-            it = Lists([(0, 1, 1, 3)], [(1, 2, 3, 4, 5, 6)], offset=offset, length=length, form=form)
-            written = column_from_coordinates(Kind.LINE_STRING, it)
-            self.assertEqual(list(written.rows), lines[offset : offset + length])
+        """Every slice of 17 rows, of which each third is null, with bits in three bytes; of points and of lists."""
+        ends = [*itertools.accumulate((i % 4 for i in range(17)), initial=0)]
+        words = [*map(float, range(2 * ends[-1]))]
+        validity = memory_of(sum(1 << i for i in range(17) if i % 3).to_bytes(3, "little"))
+        points = [part(1, *pairs(*words[2 * i : 2 * i + 2])) for i in range(17)]
+        lines = [part(2, pairs(*words[2 * a : 2 * b])) for a, b in zip(ends, ends[1:])]
+        for kind, levels, form, rows in ((Kind.POINT, [], b"", points), (Kind.LINE_STRING, [ends], b"+l", lines),
+                                         (Kind.LINE_STRING, [ends], b"+L", lines)):
+            for offset, length in slices(17):
+                source = Lists(levels, [words], offset=offset, length=length, form=form, null_count=-1)
+                source.array.buffers[0] = ctypes.addressof(validity)
+                expected = [rows[i] if i % 3 else None for i in range(offset, offset + length)]
+                self.assertEqual(list(column_from_coordinates(kind, source).rows), expected, (kind, offset, length))
         it = Lists([(0, 1, 3), (0, 2, 3, 3)], [(1, 2, 3, 4, 5, 6)], offset=1)
         (row,) = column_from_coordinates(Kind.MULTI_LINE_STRING, it).rows
         self.assertEqual(row, part(5, [OTHER, part(2, [])]))
@@ -292,17 +300,6 @@ class FromGeoArrow(unittest.TestCase):
                 self.assertEqual(list(column_from_coordinates(Kind.POLYGON, source).statuses), [0])
             else:
                 self.assertRaisesRegex(ValueError, "null", column_from_coordinates, Kind.POLYGON, source)
-
-    def test_null_rows(self):
-        """Every slice of 17 rows, of which each third is null, with bits in three bytes; of points and of lists."""
-        words, bits = [1.0, 2.0] * 17, sum(1 << i for i in range(17) if i % 3).to_bytes(3, "little")
-        statuses, validity = [0 if i % 3 else Status.NULL_ROW for i in range(17)], memory_of(bits)
-        for kind, levels in ((Kind.POINT, []), (Kind.LINE_STRING, [range(18)])):
-            for offset, length in slices(17):
-                source = Lists(levels, [words], offset=offset, length=length, null_count=-1)
-                source.array.buffers[0] = ctypes.addressof(validity)
-                it = column_from_coordinates(kind, source)
-                self.assertEqual(list(it.statuses), statuses[offset : offset + length], (kind, offset, length))
 
     def test_arguments(self):
         make = lambda: Lists([(0, 2)], [(1.0, 2.0, 3.0, 4.0)])

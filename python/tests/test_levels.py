@@ -5,10 +5,7 @@ import struct
 import unittest
 
 from samples import POINT, numpy
-from porchsorrel_wkb import Column, Dimension, Form, Kind, Order, Status, column_from_coordinates
-
-# A multi point of (1, 2).
-MULTI_POINT = bytes.fromhex("010400000001000000") + POINT
+from porchsorrel_wkb import Dimension, Kind, column_from_coordinates
 
 
 def doubles(*numbers):
@@ -23,24 +20,8 @@ def words(*numbers):
     return struct.pack(f"<{len(numbers)}d", *numbers)
 
 
-class Written(unittest.TestCase):
-    def test_options(self):
-        it = column_from_coordinates(Kind.POINT, doubles(*range(6)), dimension=Dimension.XYM, order=Order.BIG)
-        self.assertEqual(list(it.rows), [struct.pack(">BI3d", 0, 2001, i, i + 1, i + 2) for i in (0, 3)])
-        it = column_from_coordinates(Kind.POINT, doubles(1, 2, 3), dimension=Dimension.XYZ, form=Form.EWKB_WITH_SRID,
-                                     srid=4326)
-        self.assertEqual(bytes(it.data), struct.pack("<BII3d", 1, 0xA0000001, 4326, 1, 2, 3))
-
-    def test_null_rows(self):
-        """A null row has no bytes, and the rows after it begin where it ends."""
-        arguments = Kind.MULTI_POINT, doubles(1, 2, 3, 4, 1, 2), None, None, offsets(0, 1, 2, 3)
-        for validity, first in ((b"\x05", 0), (b"\xff\x7f\x01", 14), (array.array("b", [10]), 1)):
-            it = column_from_coordinates(*arguments, validity=validity, validity_offset=first)
-            self.assertEqual(list(it.statuses), [0, Status.NULL_ROW, 0])
-            self.assertEqual(list(it.offsets), [0, 30, 30, 60])
-            self.assertEqual(list(it.rows), [MULTI_POINT, None, MULTI_POINT])
-        column = Column(it.data, it.offsets, b"\x05")
-        self.assertEqual(list(column.check()), [0, Status.NULL_ROW, 0])
+class Taken(unittest.TestCase):
+    """What levels are made of."""
 
     def test_no_rows(self):
         none = doubles()
@@ -48,10 +29,6 @@ class Written(unittest.TestCase):
             for kind in range(Kind.POINT, Kind.GEOMETRY_COLLECTION):
                 it = column_from_coordinates(Kind(kind), *arguments)
                 self.assertEqual((len(it.statuses), list(it.offsets), len(it.data)), (0, [0], 0))
-
-
-class Taken(unittest.TestCase):
-    """What levels are made of."""
 
     def test_coordinates(self):
         raw = words(1, 2)
