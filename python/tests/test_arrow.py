@@ -259,13 +259,11 @@ def second_cases():
 class Wrong(unittest.TestCase):
     def test_all(self):
         """An error is one that calls document, and what is taken has its statuses."""
-
         count = 0
         for count, (name, expected, call) in enumerate(cases()):
             is_right = isinstance(expected, list)
             with self.subTest(str(name)[:200]):
                 with contextlib.nullcontext() if is_right else self.assertRaisesRegex(*expected):
-
                     self.assertEqual([int(it) for column in call() for it in column.write().statuses], expected)
         self.assertGreater(count, 1000)
 

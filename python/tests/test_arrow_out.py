@@ -138,6 +138,10 @@ class Encodings(unittest.TestCase):
                                    ([POINT, POINT], [POINT, POINT]), ([], []), ([None] * 9, [None] * 9)):
                 found = read(Column.of(rows).write(), asked and asked_for(asked))
                 self.assertEqual(found, (expected, [(form, "")], "geoarrow.wkb"))
+        released = Arrow(format=b"z")
+        capsule, _ = released.__arrow_c_array__()
+        released.release("schema", released.schema)  # with its texts, and none of them is asked for
+        self.assertEqual(len(Column.of([POINT]).write().__arrow_c_array__(capsule)), 2)
 
     def test_forms(self):
         """GeoArrow's type has no SRIDs, so that EWKB is binary alone."""
