@@ -187,6 +187,7 @@ class Taken(unittest.TestCase):
 
     def test_wrong_validity(self):
         data, offsets = rows_of(*[POINT] * 9)
+        self.assertEqual(statuses(Column(data, offsets, array.array("b", [-1, 1]))), 9 * [0])
         for validity, first in ((b"\xff", 0), (b"\xff", 8), (b"", 0)):
             self.assertRaises(ValueError, Column, data, offsets, validity, first=first)
         for wrong in (array.array("i", [1] * 9), array.array("d", [1] * 9), "ff", 255):
