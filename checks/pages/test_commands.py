@@ -33,11 +33,11 @@ SOURCES = {
     "rust": ["crates/wkb_key/src/*.rt", "crates/wkb_c[al]*s/src/*.rt", "crates/wkb/src/**/*.rt", "rust/src/*.rs", "rust/src/columns/*.rs",
              "rust/**/README.md", "docs/START_RUST.md"],
     "antt": ["crates/wkb_clients/proofs/**/*.antt"],
-    "c": ["c/examples/*.c", "docs/START_C.md", "README.md"],
+    "c": ["c/examples/*.c", "docs/START_C.md"],
     "cpp": ["c/examples/example.cpp"],
     "python": ["c/examples/*.py", "python/**/*.py", "examples/*.py", "docs/START_PYTHON.md", "README.md"],
     "js": ["web/README.md"],
-    "sql": ["sqlite/queries.sql", "postgres/queries.sql", "docs/START_SQL.md", "README.md"],
+    "sql": ["sqlite/queries.sql", "postgres/queries.sql", "docs/START_SQL.md"],
 }
 # Whose examples are proved nowhere.
 SKETCHED = ["crates/wkb/src/check.rt", "crates/wkb/src/lib.rt"]

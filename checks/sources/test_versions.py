@@ -42,7 +42,7 @@ FACES = """
     python/pyproject.toml python/src/porchsorrel_wkb/__init__.py rust/README.md rust/geo/Cargo.toml rust/geo/README.md web/package.json web/README.md
     """.split()
 # The page that names the oldest Rust of Cargo.toml.
-RUST = "README.md", r"Debian[^.]*.*\bRust ([\d.]*\d)"
+RUST = "README.md", r"\bRust\s(\d[\d.]*\d)"
 
 
 class Versions(unittest.TestCase):
