@@ -14,14 +14,12 @@ export const ORDERS = ['big', 'little'];
 /** How many numbers a part has in the table. */
 export const PART_SIZE = 9;
 
-const REASONS = {
-  32: 'SHORT_HEADER', 33: 'INVALID_BYTE_ORDER', 34: 'CODE_OUT_OF_RANGE', 35: 'INCORRECT_TYPE',
-  36: 'NESTING_DEPTH_EXCEEDED', 48: 'SHORT_POINT', 49: 'SHORT_LINE_STRING', 50: 'SHORT_MULTI_POINT',
-  51: 'SHORT_LINEAR_RING',
-};
-/** What the statuses of a column's rows mean; 0 is a geometry. */
-export const STATUSES = { 0: 'OK', 16: 'NULL_ROW', 17: 'BAD_OFFSETS', ...REASONS };
-const [NO_MEMORY, NO_HEADER, TOO_FEW_BITS, CODE, SHORT_POINT] = [1, 2, 3, 34, 48];
+/** What the statuses of a column's rows mean; 0 is a geometry. From 32 on they are the reasons of errors. */
+export const STATUSES = { 0: 'OK', 16: 'NULL_ROW', 17: 'BAD_OFFSETS', 32: 'SHORT_HEADER', 33: 'INVALID_BYTE_ORDER',
+  34: 'CODE_OUT_OF_RANGE', 35: 'INCORRECT_TYPE', 36: 'NESTING_DEPTH_EXCEEDED', 48: 'SHORT_POINT',
+  49: 'SHORT_LINE_STRING', 50: 'SHORT_MULTI_POINT', 51: 'SHORT_LINEAR_RING' };
+const NO_MEMORY = 'out of memory';
+const REFUSALS = { 1: NO_MEMORY, 3: 'there are fewer validity bits than rows' };
 const [NUMBERS, BYTES, ROWS, OFFSETS] = [0, 1, 2, 3];
 
 const codeBytes = () => Uint8Array.from(atob(code), (it) => it.charCodeAt(0));
@@ -74,7 +72,7 @@ export function asBytes(input) {
 export function put(input, which = 0) {
   const bytes = asBytes(input);
   const at = ask('wkb_input', which, bytes.length) >>> 0;
-  if (at === 0) throw new RangeError('out of memory');
+  if (at === 0) throw new RangeError(NO_MEMORY);
   bytesThere.set(bytes, at);
   return at;
 }
@@ -89,18 +87,15 @@ export const numbersEnd = () => numbersAt() + sizeOf(NUMBERS);
 export const numbers = () => numbersThere.slice(numbersAt(), numbersEnd());
 export const bytes = (which = BYTES) => bytesThere.slice(placeOf(which), placeOf(which) + sizeOf(which));
 export const statuses = () => bytes(ROWS);
-export const offsets = (level) => new Int32Array(calls.memory.buffer, placeOf(OFFSETS + level), sizeOf(OFFSETS + level)).slice();
+export const offsets = (level) =>
+  new Int32Array(calls.memory.buffer, placeOf(OFFSETS + level), sizeOf(OFFSETS + level)).slice();
 
 function failure(status) {
-  if (status === NO_MEMORY) return new RangeError('out of memory');
-  if (status === TOO_FEW_BITS) return new RangeError('there are fewer validity bits than rows');
-  const message = new TextDecoder().decode(bytes());
-  const it = { reason: 'NO_HEADER', part: 0, offset: 0, code: null, needed: null, has: null };
-  if (status === NO_HEADER) return new WkbError(message, it);
-  const [part, offset, needed, has, code] = numbers();
-  if (status === CODE) it.code = code;
-  if (status >= SHORT_POINT) Object.assign(it, { needed, has });
-  return new WkbError(message, { ...it, reason: REASONS[status], part, offset });
+  if (status in REFUSALS) return new RangeError(REFUSALS[status]);
+  const [part, offset, ...more] = numbers();
+  const [needed, has, code] = more.map((it) => it < 0 ? null : it);
+  const reason = STATUSES[status] ?? 'NO_HEADER';
+  return new WkbError(new TextDecoder().decode(bytes()), { reason, part, offset, code, needed, has });
 }
 
 /** Makes a call over the inputs that are there; throws if it has no result. */

@@ -1,173 +1,155 @@
 // SPDX-License-Identifier: MIT OR Apache-2.0
 // What the bytes of an input mean, field by field, also of rejected ones, as far as they go.
-import { DIMENSIONS, KINDS, equal, geopackageHeader, inspect } from './wkb.js';
+import { DIMENSIONS, KINDS, ORDERS } from './desk.js';
+import { equal, geopackageHeader, inspect } from './wkb.js';
 
-const SRID_FLAG = 0x20000000;
 const NOUNS = { Point: 'coordinate', LineString: 'coordinate', Ring: 'coordinate', Polygon: 'ring' };
 export const nounOf = (kind) => NOUNS[kind] ?? 'member';
 export const said = (number) => number.toLocaleString('en');
 export const counted = (count, noun) => `${said(count)} ${noun}${count === 1 ? '' : 's'}`;
-const hex = (number) => `0x${number.toString(16).padStart(8, '0')}`;
-
 /** A number in the fewest digits, as JavaScript has it, but with the sign of zero. */
 export const spelled = (it) => Object.is(it, -0) ? '-0' : String(it).replace('Infinity', 'infinity');
 /** Bytes from a place on, in spans, and what they mean; maybe of a part. */
 export const row = (at, spans, text, part = null, more = {}) => ({ at, spans, text, part, ...more });
+const wordsOf = (axes) => [...axes].map((name) => ({ length: 8, name }));
+/** Whether a part has coordinates of its own. */
+export const isSimple = (kind) => nounOf(kind) === 'coordinate';
 
 /** The parts with their depth, and the one that they are inside of; the rejected one is the last. */
 export function readParts(bytes, front) {
   const own = bytes.subarray(front);
-  const { parts, error } = inspect(own);
-  if (error?.reason === 'SHORT_MULTI_POINT') addMembers(parts, own, error);
-  else if (error) parts.push({ begin: error.offset, error });
+  const { parts: whole, error } = inspect(own);
+  const parts = error ? [...whole, ...partsOfRejected(own, error, whole.length)] : whole;
   const open = [];
-  parts.forEach((part, index) => {
-    part.index = index;
-    place(part, open);
+  for (const [index, part] of parts.entries()) {
+    while (open.at(-1)?.left === 0) open.pop();
+    const inside = open.at(-1) ?? null;
+    Object.assign(part, { index, depth: open.length, inside, number: inside ? inside.count - inside.left-- : 0 });
     if (part.error) describe(part, own);
-    else if (KINDS.indexOf(part.kind) > 2) open.push({ part, left: part.count });
-  });
+    else if (!isSimple(part.kind)) open.push(Object.assign(part, { left: part.count }));
+  }
   return { parts, error };
 }
 
-/** Adds a multi point that is cut off, its whole members, and the one that is cut. The check counts them before it looks
- * at them; so they are those of a copy whose count fits. */
-function addMembers(parts, own, error) {
+/** The rejected part. Of a multi point that is cut off it, its whole members, and the one that is cut: the check counts
+ * them before it looks at them; so they are those of a copy whose count fits. */
+function partsOfRejected(own, error, index) {
+  if (error.reason !== 'SHORT_MULTI_POINT') return [{ begin: error.offset, error }];
   const fields = new Fields(own, error.offset, { error });
-  const { kind, axes, isLittle, count } = fields.front();
-  const [copy, fit] = [own.slice(), Math.floor((own.length - fields.at) / (5 + 8 * axes.length))];
-  new DataView(copy.buffer).setUint32(fields.at - 4, fit, isLittle);
-  const members = inspect(copy).parts.slice(parts.length + 1, parts.length + 1 + fit);
-  parts.push({ kind, dimension: axes, begin: error.offset, count, claims: error }, ...members,
-    { begin: members.at(-1)?.end ?? fields.at, error });
+  const front = fields.front();
+  const [copy, fit] = [own.slice(), Math.floor((own.length - fields.at) / (5 + 8 * front.dimension.length))];
+  new DataView(copy.buffer).setUint32(fields.at - 4, fit, fields.isLittle);
+  const members = inspect(copy).parts.slice(index + 1, index + 1 + fit);
+  const [begin, end] = [error.offset, members.at(-1)?.end ?? fields.at];
+  return [{ ...front, begin, claims: error }, ...members, { begin: end, error }];
 }
 
 /** Gives the rejected part what there is of a part: its kind, and its whole coordinates. */
 function describe(part, own) {
-  if (part.inside?.kind === 'Polygon') {
-    Object.assign(part, { kind: 'Ring', dimension: part.inside.dimension, byteOrder: part.inside.byteOrder });
-  }
+  const { kind, dimension, byteOrder } = part.inside ?? {};
+  Object.assign(part, { count: 0 }, kind === 'Polygon' && { kind: 'Ring', dimension, byteOrder });
   const fields = new Fields(own, part.begin, part);
-  const { kind, axes, isLittle, count } = fields.front() ?? {};
-  if (!fields.isWhole || !kind) return;
-  const left = Math.floor((own.length - fields.at) / (8 * axes.length));
-  Object.assign(part, { kind, dimension: axes, byteOrder: isLittle ? 'little' : 'big', offset: fields.at,
-    count: KINDS.indexOf(kind) < 3 ? Math.min(count, left) : 0 });
+  const front = fields.front();
+  if (!fields.goesOn) return;
+  const left = Math.floor((own.length - fields.at) / (8 * front.dimension.length));
+  Object.assign(part, front, { offset: fields.at, count: isSimple(front.kind) ? Math.min(front.count, left) : 0 });
 }
 
-function place(part, open) {
-  while (open.at(-1)?.left === 0) open.pop();
-  const around = open.at(-1);
-  if (around) around.left--;
-  part.depth = open.length;
-  part.inside = around?.part ?? null;
-  part.number = around ? around.part.count - around.left - 1 : 0;
+/** What a code means. One that no geometry has here has no kind. */
+function meaningOf(code) {
+  const bare = code & ~0xe0000000;
+  const [kind, hasSrid] = [bare < 4000 ? KINDS[bare % 1000 || 8] : undefined, (code & 0x20000000) !== 0];
+  const dimension = DIMENSIONS[Math.floor(bare / 1000) | code >>> 31 | code >>> 29 & 2];
+  const meaning = kind ? `: ${kind}, ${dimension}${hasSrid ? ', with an SRID' : ''}` : ', which no geometry here has';
+  const text = `code ${code > 0xffff ? `0x${code.toString(16).padStart(8, '0')}` : code}${meaning}`;
+  return { kind, dimension, hasSrid, text };
 }
 
-/** Reads the fields of a part in order, as many as there are. */
+/** Reads the fields of a part in order, as many as there are and mean something. */
 class Fields {
+  rows = [];
+  goesOn = true;
+
   constructor(bytes, at, part) {
     this.view = new DataView(bytes.buffer, bytes.byteOffset, bytes.byteLength);
-    this.at = at;
-    this.part = part;
-    this.rows = [];
-    this.isWhole = true;
+    [this.at, this.part, this.isLittle] = [at, part, part.byteOrder === 'little'];
   }
 
-  /** Goes past a field, and says what it means. One that is cut off is the last. */
+  /** Goes past a field of an unsigned number, which it returns, and says what it means, and whether it is bad. */
   take(length, name, say) {
-    if (!this.isWhole) return null;
     const there = Math.min(length, this.view.byteLength - this.at);
-    this.isWhole = there === length;
-    const value = this.isWhole ? say(this.at) : null;
-    const text = value?.text ?? (there === 0 ? 'the input ends here' : `cut off: ${there} of ${length} bytes`);
-    this.add([{ length: there, name }], text, { isBad: !this.isWhole || value.isBad });
-    this.at += there;
+    this.goesOn = there === length;
+    const value = !this.goesOn ? undefined
+      : length === 1 ? this.view.getUint8(this.at) : this.view.getUint32(this.at, this.isLittle);
+    const cut = there === 0 ? 'the input ends here' : `cut off: ${there} of ${length} bytes`;
+    const [text, isBad] = this.goesOn ? say(value) : [cut, true];
+    this.add([{ length: there, name }], text, { isBad });
     return value;
   }
 
   add(spans, text, more) {
     this.rows.push(row(this.at, spans, text, this.part, more));
+    for (const { length } of spans) this.at += length;
   }
 
-  /** The header, which a ring has of its polygon, and the count; null if the header isn't whole. */
+  /** The header, which a ring has of its polygon, and the count. */
   front() {
     const { kind, dimension, byteOrder } = this.part;
-    const header = kind === 'Ring' ? { kind, axes: dimension, isLittle: byteOrder === 'little' } : this.header();
-    return header && { ...header, count: header.kind === 'Point' ? 1 : this.count(header.kind, header.isLittle) };
+    const front = kind === 'Ring' ? { kind, dimension, byteOrder } : this.header();
+    if (this.goesOn) front.count = front.kind === 'Point' ? 1 : this.count(front.kind);
+    return front;
   }
 
   header() {
-    const order = this.take(1, 'order', (at) => {
-      const byte = this.view.getUint8(at);
-      const text = ['big endian', 'little endian'][byte] ?? `no byte order: ${byte}, which is neither 0 nor 1`;
-      return { byte, text, isBad: byte > 1 };
-    });
-    if (!order || order.isBad) return null;
-    const isLittle = order.byte === 1;
-    const { reason, offset } = this.part.error ?? {};
-    const isCode = offset !== undefined && !reason.startsWith('SHORT');
-    const code = this.take(4, 'code', (at) => this.code(this.view.getUint32(at, isLittle), isCode));
-    if (!code?.kind) return null;
-    if (code.hasSrid) this.take(4, 'srid', (at) => ({ text: `SRID ${this.view.getUint32(at, isLittle)}` }));
-    return this.isWhole ? { ...code, isLittle } : null;
-  }
-
-  code(code, isBad) {
-    const bare = code & ~0xe0000000;
-    const dimension = Math.floor(bare / 1000) | code >>> 31 | code >>> 29 & 2;
-    const kind = bare < 4000 ? KINDS[bare % 1000 || 8] : undefined;
-    const spelt = `code ${code > 0xffff ? hex(code) : code}`;
-    if (!kind) return { text: `${spelt}, which no geometry here has`, isBad: true };
-    return { kind, axes: DIMENSIONS[dimension], hasSrid: (code & SRID_FLAG) !== 0, isBad,
-      text: `${spelt}: ${kind}, ${DIMENSIONS[dimension]}${code & SRID_FLAG ? ', with an SRID' : ''}` };
+    const order = this.take(1, 'order', (it) =>
+      it > 1 ? [`no byte order: ${it}, which is neither 0 nor 1`, true] : [`${ORDERS[it]} endian`, false]);
+    [this.isLittle, this.goesOn] = [order === 1, order < 2];
+    if (!this.goesOn) return {};
+    const isCulprit = this.part.error && !this.part.error.reason.startsWith('SHORT');
+    const code = this.take(4, 'code', (it) => [meaningOf(it).text, isCulprit || !meaningOf(it).kind]);
+    const { kind, dimension, hasSrid } = meaningOf(code);
+    this.goesOn = kind !== undefined;
+    if (this.goesOn && hasSrid) this.take(4, 'srid', (it) => [`SRID ${it}`, false]);
+    return { kind, dimension, byteOrder: ORDERS[order] };
   }
 
   /** A count of what the part has; if less is there, it may be the culprit. */
-  count(kind, isLittle) {
+  count(kind) {
     const { needed, has } = this.part.claims ?? (this.part.inside?.claims ? {} : this.part.error ?? {});
-    return this.take(4, 'count', (at) => {
-      const count = this.view.getUint32(at, isLittle);
-      const claim = needed ? `: the part would have ${counted(needed, 'byte')}, and there are ${said(has)}` : '';
-      return { count, text: counted(count, nounOf(kind)) + claim, isBad: Boolean(needed) };
-    })?.count ?? 0;
+    const claim = needed ? `: the part would have ${counted(needed, 'byte')}, and there are ${said(has)}` : '';
+    return this.take(4, 'count', (it) => [counted(it, nounOf(kind)) + claim, Boolean(needed)]);
   }
 
   /** Coordinates: so many from the first one on, and the last; or as many as there are. */
-  coordinates(count, axes, isLittle, most) {
-    const size = 8 * axes.length;
+  coordinates({ count, dimension }, most) {
+    const size = 8 * dimension.length;
     const whole = Math.min(count, Math.floor((this.view.byteLength - this.at) / size));
-    for (let i = 0; i < whole && this.isWhole; i++) {
-      if (whole > most && i === most - 1) {
-        const more = whole - most;
-        this.add([], `.. ${counted(more, 'more coordinate')}`, { isGap: true });
-        this.at += size * more;
-        i += more;
+    const left = Math.max(0, whole - most);
+    const word = (axis, i) => `${axis}\u00a0${spelled(this.view.getFloat64(this.at + 8 * i, this.isLittle))}`;
+    for (let i = 0; i < whole - left; i++) {
+      if (left > 0 && i === most - 1) {
+        this.add([], `.. ${counted(left, 'more coordinate')}`, { isGap: true });
+        this.at += size * left;
       }
-      this.coordinate(axes, isLittle);
+      this.add(wordsOf(dimension), [...dimension].map(word).join('  '));
     }
-    if (whole === count) return;
-    for (const axis of axes) this.take(8, axis, (at) => this.word(at, axis, isLittle));
+    if (whole < count) this.cutCoordinate(dimension, word);
   }
 
-  word(at, axis, isLittle) {
-    return { text: `${axis}\u00a0${spelled(this.view.getFloat64(at, isLittle))}` };
-  }
-
-  coordinate(axes, isLittle) {
-    const texts = [...axes].map((axis, i) => this.word(this.at + 8 * i, axis, isLittle).text);
-    this.add(wordsOf(axes), texts.join('  '));
-    this.at += 8 * axes.length;
+  cutCoordinate(axes, word) {
+    for (const name of axes) {
+      const left = this.view.byteLength - this.at;
+      if (left < 8) return this.take(8, name);
+      this.add([{ length: 8, name }], word(name, 0));
+    }
   }
 }
-
-const wordsOf = (axes) => [...axes].map((name) => ({ length: 8, name }));
 
 /** The rows of one part: its fields, of long lists the first coordinates and the last. */
 export function rowsOf(bytes, front, part, most) {
   const fields = new Fields(bytes, front + part.begin, part);
-  const { kind, axes, isLittle, count } = fields.front() ?? {};
-  if (kind && fields.isWhole && KINDS.indexOf(kind) < 3) fields.coordinates(count, axes, isLittle, most);
+  const own = fields.front();
+  if (fields.goesOn && isSimple(own.kind)) fields.coordinates(own, most);
   return fields.rows;
 }
 
@@ -175,23 +157,19 @@ export function rowsOf(bytes, front, part, most) {
 export function readFront(bytes) {
   if (bytes[0] !== 0x47 || bytes[1] !== 0x50) return { size: 0, rows: [] };
   const header = geopackageHeader(bytes);
-  const field = (at, length, name, text) => row(at, [{ length, name }], text);
-  const rows = [field(0, 2, 'order', 'the header of a GeoPackage'), field(2, 1, 'code', `version ${bytes[2] + 1}`),
-    field(3, 1, 'code', `flags: ${bytes[3] & 1 ? 'little' : 'big'} endian, ${header.axes || 'no'} envelope${header.isEmpty ? ', empty' : ''}`),
-    field(4, 4, 'srid', `SRID ${header.srsId}`),
-    ...header.envelope.map(([least, greatest], i) => row(8 + 16 * i, wordsOf(header.axes[i].repeat(2)),
-      `${header.axes[i]} from ${spelled(least)} to ${spelled(greatest)}`))];
+  const flags = `flags: ${ORDERS[bytes[3] & 1]} endian, ${header.axes || 'no'} envelope${header.isEmpty ? ', empty' : ''}`;
+  const fields = [[0, 2, 'order', 'the header of a GeoPackage'], [2, 1, 'code', `version ${bytes[2] + 1}`],
+    [3, 1, 'code', flags], [4, 4, 'srid', `SRID ${header.srsId}`]];
+  const rows = fields.map(([at, length, name, text]) => row(at, [{ length, name }], text));
+  header.envelope.forEach((range, i) => rows.push(row(8 + 16 * i, wordsOf(header.axes[i].repeat(2)),
+    `${header.axes[i]} from ${range.map(spelled).join(' to ')}`)));
   return { size: header.size, rows, header };
 }
 
 /** How many bytes from a place up to another differ, and the first of them. What one input lacks differs. */
 export function differing(mine, other, from, to) {
   let [count, first] = [0, -1];
-  for (let i = to - 1; i >= from; i--) {
-    if (mine[i] === other[i]) continue;
-    count++;
-    first = i;
-  }
+  for (let i = to - 1; i >= from; i--) if (mine[i] !== other[i]) [count, first] = [count + 1, i];
   return { count, first };
 }
 
@@ -202,7 +180,8 @@ export function compared(mine, other) {
     + `${said(other.length)} ${count === 1 ? 'differs' : 'differ'}, the first at ${said(first)}`;
   let verdict = 'One is rejected.';
   try {
-    verdict = equal(...[mine, other].map((it) => it.subarray(readFront(it).size))) ? 'The same geometry.' : 'Another geometry.';
+    const isSame = equal(...[mine, other].map((it) => it.subarray(readFront(it).size)));
+    verdict = isSame ? 'The same geometry.' : 'Another geometry.';
   } catch { /* It is the verdict. */ }
   return `${verdict} ${bytes}.`;
 }

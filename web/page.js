@@ -30,25 +30,19 @@ function make(name, className, ...children) {
   return it;
 }
 
-function hexOf(bytes) {
-  let text = '';
-  for (const it of bytes) text += it.toString(16).padStart(2, '0');
-  return text;
-}
+const hexOf = (bytes) => Array.from(bytes, (it) => it.toString(16).padStart(2, '0')).join('');
 
 function take(inputs, source) {
-  Object.assign(state, { inputs, statuses: [] });
+  const statuses = inputs.length > 1 ? inputs.slice(0, MOST.checked).map(isGeometry) : [];
+  const bad = statuses.filter((it) => !it).length;
+  const some = statuses.length < inputs.length ? `the first ${counted(MOST.checked, 'line')}: ` : '';
+  Object.assign(state, { inputs, statuses });
   $('source').textContent = source;
   $('rows').hidden = inputs.length < 2;
-  if (inputs.length > 1) {
-    state.statuses = inputs.slice(0, MOST.checked).map(isGeometry);
-    const bad = state.statuses.filter((it) => !it).length;
-    const all = state.statuses.length < inputs.length ? `the first ${counted(MOST.checked, 'line')}: ` : '';
-    $('summary').textContent = all + (bad ? `${said(bad)} rejected` : 'none is rejected');
-    $('next-bad').disabled = bad === 0;
-    $('count').textContent = said(inputs.length);
-    $('row').max = inputs.length;
-  }
+  $('summary').textContent = some + (bad ? `${said(bad)} rejected` : 'none is rejected');
+  $('next-bad').disabled = bad === 0;
+  $('count').textContent = said(inputs.length);
+  $('row').max = inputs.length;
   show(0);
 }
 
@@ -67,16 +61,15 @@ const takeColumn = (source) => take(state.columns[$('column').value].cells, sour
 
 /** Shows one of the inputs. */
 function show(index) {
-  state.index = Math.max(0, Math.min(index, state.inputs.length - 1));
-  state.rows = MOST.rows;
+  const last = state.inputs.length - 1;
+  Object.assign(state, { index: Math.max(0, Math.min(index, last)), rows: MOST.rows, bytes: null });
   $('row').value = state.index + 1;
   $('before').disabled = state.index === 0;
-  $('after').disabled = state.index + 1 >= state.inputs.length;
-  for (const id of ['found', 'link']) $(id).hidden = true;
+  $('after').disabled = state.index >= last;
+  $('found').hidden = $('link').hidden = true;
   $('compared').textContent = '';
-  state.bytes = null;
   say('', false);
-  if (state.inputs.length === 0) return;
+  if (last < 0) return;
   try {
     const input = state.inputs[state.index];
     state.bytes = typeof input === 'string' ? bytesOf(input) : input;
@@ -95,15 +88,17 @@ function say(text, isBad) {
 function showBytes() {
   const { bytes, front } = state;
   const { parts, error } = readParts(bytes, front.size);
-  state.parts = parts;
   const own = bytes.subarray(front.size);
   const found = error ? null : check(own);
+  state.parts = parts;
   say(error ? faultOf(error) : `${found.kind}, ${found.dimension}${found.srid === null ? '' : `, SRID ${found.srid}`}, `
     + `${found.byteOrder} endian, ${counted(found.size, 'byte')}.`, Boolean(error));
   $('found').hidden = false;
   $('link').hidden = bytes.length > MOST.link;
   $('forms').hidden = Boolean(error);
-  showFacts(own, found, error);
+  const facts = error ? factsOfError(own, error) : factsOf(own, found);
+  if (front.header) facts.push(['GeoPackage', `${counted(front.size, 'byte')} of header, SRID ${front.header.srsId}`]);
+  $('facts').replaceChildren(...facts.flatMap(([name, value]) => [make('dt', '', name), make('dd', '', String(value))]));
   showDrawing(own, error);
   showParts();
   showRows();
@@ -157,37 +152,28 @@ function takeLink() {
   return true;
 }
 
-function showFacts(own, found, error) {
-  const facts = [];
-  if (found) {
-    const more = own.length - found.size;
-    facts.push(['Kind', found.kind], ['Dimension', found.dimension], ['SRID', found.srid ?? 'none'],
-      ['Byte order', `${found.byteOrder} endian`], ['Size', counted(found.size, 'byte')]);
-    if (more > 0) facts.push(['Behind it', counted(more, 'more byte')]);
-    facts.push(['Parts', said(found.parts)], ['Coordinates', said(found.coordinates)]);
-    for (const [axis, { min, max, count }] of Object.entries(bounds(own))) {
-      if (count > 0) facts.push([`Least ${axis}`, spelled(min)], [`Greatest ${axis}`, spelled(max)]);
-      else if (found.dimension.includes(axis)) facts.push([axis, 'no number']);
-    }
-  } else {
-    facts.push(['Reason', error.reason], ['Part', said(error.part)], ['Begins at byte', said(error.offset + state.front.size)]);
-    if (error.needed) facts.push(['It needs', counted(error.needed, 'byte')], ['It has', counted(error.has, 'byte')]);
-    facts.push(['Input', counted(own.length, 'byte')]);
+function factsOf(own, { kind, dimension, srid, byteOrder, size, parts, coordinates }) {
+  const more = own.length - size;
+  const facts = [['Kind', kind], ['Dimension', dimension], ['SRID', srid ?? 'none'], ['Byte order', `${byteOrder} endian`],
+    ['Size', counted(size, 'byte')], ...more > 0 ? [['Behind it', counted(more, 'more byte')]] : [],
+    ['Parts', said(parts)], ['Coordinates', said(coordinates)]];
+  for (const [axis, { min, max, count }] of Object.entries(bounds(own))) {
+    if (count > 0) facts.push([`Least ${axis}`, spelled(min)], [`Greatest ${axis}`, spelled(max)]);
+    else if (dimension.includes(axis)) facts.push([axis, 'no number']);
   }
-  if (state.front.header) facts.push(['GeoPackage', `${counted(state.front.size, 'byte')} of header, SRID ${state.front.header.srsId}`]);
-  $('facts').replaceChildren(...facts.flatMap(([name, value]) => [make('dt', '', name), make('dd', '', String(value))]));
+  return facts;
+}
+
+function factsOfError(own, { reason, part, offset, needed, has }) {
+  const ends = needed ? [['It needs', counted(needed, 'byte')], ['It has', counted(has, 'byte')]] : [];
+  return [['Reason', reason], ['Part', said(part)], ['Begins at byte', said(offset + state.front.size)], ...ends,
+    ['Input', counted(own.length, 'byte')]];
 }
 
 function showDrawing(own, error) {
   const drawn = draw(own, state.parts, Math.max(280, $('drawing').clientWidth));
   $('drawing').replaceChildren(...(drawn ? [drawn.picture] : []));
-  $('drawn').textContent = drawn ? captionOf(drawn) + (error ? ', before the fault.' : '.') : 'There is no coordinate to draw.';
-}
-
-function captionOf({ picture, drawn, all, isSample }) {
-  const of = (drawn < all ? `${said(drawn)} of ` : '') + counted(all, 'coordinate');
-  picture.setAttribute('aria-label', `A drawing of ${of}`);
-  return isSample ? `A sample: ${of}` : drawn < all ? `${of}: the others aren't finite` : `x to the right, y upwards: ${of}`;
+  $('drawn').textContent = drawn ? `${drawn.caption}${error ? ', before the fault' : ''}.` : 'There is no coordinate to draw.';
 }
 
 /** What a part is called. */
@@ -202,10 +188,11 @@ function showParts() {
   const shown = state.parts.filter((it, i) => i < MOST.parts - 1 || it.error);
   const items = shown.map((part) => {
     const button = make('button', part.error ? 'bad' : '', nameOf(part));
-    if (!part.error) button.append(' ', make('small', '', part.kind === 'Point' ? '' : counted(part.count, nounOf(part.kind))));
+    const size = part.kind === 'Point' ? '' : counted(part.count, nounOf(part.kind));
+    if (!part.error) button.append(' ', make('small', '', size));
     button.dataset.part = part.index;
     button.style.paddingLeft = `${0.4 + Math.min(part.depth, 12)}rem`;
-    button.setAttribute('aria-pressed', 'false');
+    button.ariaPressed = 'false';
     button.tabIndex = part.index === 0 ? 0 : -1;
     return make('li', '', button);
   });
@@ -217,15 +204,15 @@ function showParts() {
 /** Marks a part where it is shown, and goes to its bytes. */
 function choose(index, isToScroll) {
   for (const it of document.querySelectorAll('.is-chosen')) it.classList.remove('is-chosen');
-  for (const it of $('parts').querySelectorAll('button')) it.setAttribute('aria-pressed', String(it.dataset.part === index));
-  const [rows, shapes] = ['#bytes tr', '.shapes path'].map((it) => document.querySelectorAll(`${it}[data-part="${CSS.escape(index)}"]`));
+  for (const it of $('parts').querySelectorAll('button')) it.ariaPressed = String(it.dataset.part === index);
+  const rows = [...$('bytes').rows].filter((it) => it.dataset.part === index);
+  const shapes = document.querySelectorAll(`.shapes [data-part="${index}"]`);
   for (const it of [...rows, ...shapes]) it.classList.add('is-chosen');
   if (isToScroll) rows[0]?.scrollIntoView({ block: 'nearest' });
 }
 
 function lineOf({ at: begin, spans, text, part, isBad, isGap }) {
-  const className = isBad ? 'bad' : '';
-  const hex = make('td', className);
+  const [className, hex] = [isBad ? 'bad' : '', make('td', isBad ? 'bad' : '')];
   let at = begin;
   for (const { length, name } of spans) {
     const digits = hexOf(state.bytes.subarray(at, at + Math.min(length, 32))).replace(/..(?!$)/g, '$& ');
@@ -234,7 +221,12 @@ function lineOf({ at: begin, spans, text, part, isBad, isGap }) {
     if (length > 0) hex.append(span, ' ');
     at += length;
   }
-  const it = make('tr', '', make('td', '', isGap ? '' : said(begin)), hex, make('td', className, text));
+  return ofPart(part, make('td', '', isGap ? '' : said(begin)), hex, make('td', className, text));
+}
+
+/** A row of the table, of a part if there is one. */
+function ofPart(part, ...cells) {
+  const it = make('tr', '', ...cells);
   if (part) it.dataset.part = part.index;
   return it;
 }
@@ -242,12 +234,10 @@ function lineOf({ at: begin, spans, text, part, isBad, isGap }) {
 function headingOf(part) {
   const heading = make('th', '', part.inside && part.kind !== 'Ring' ? `member ${part.number}: ` : '', nameOf(part));
   heading.colSpan = 3;
-  const it = make('tr', '', heading);
-  it.dataset.part = part.index;
-  return it;
+  return ofPart(part, heading);
 }
 
-const moreLine = (count) => lineOf(row(0, [], `.. ${counted(count, 'more part')}`, null, { isGap: true }));
+const moreLines = (count) => count > 0 ? [lineOf(row(0, [], `.. ${counted(count, 'more part')}`, null, { isGap: true }))] : [];
 
 function showRows() {
   const { bytes, front, parts } = state;
@@ -255,20 +245,18 @@ function showRows() {
   let [count, last] = [0, -1];
   for (const part of parts) {
     if (count > state.rows && !part.error) continue;
-    if (part.index > last + 1) out.push(moreLine(part.index - last - 1));
     const rows = rowsOf(bytes, front.size, part, Math.max(6, state.rows / 50));
-    out.push(...(parts.length > 1 ? [headingOf(part)] : []), ...rows.map(lineOf));
+    out.push(...moreLines(part.index - last - 1), ...parts.length > 1 ? [headingOf(part)] : [], ...rows.map(lineOf));
     count += rows.length + 1;
     last = part.index;
   }
   const left = parts.length - 1 - last;
-  if (left > 0) out.push(moreLine(left));
-  out.push(...endLines());
+  out.push(...moreLines(left), ...endLines());
   $('bytes').replaceChildren(...out);
   $('more').hidden = left === 0 && !$('bytes').textContent.includes('.. ');
-  const names = [...new Set([...$('bytes').querySelectorAll('.span')].map((it) => it.classList[1]))];
+  const names = new Set(Array.from($('bytes').querySelectorAll('.span'), (it) => it.classList[1]));
   const words = { order: 'byte order', code: 'type code', srid: 'SRID', rest: 'behind it' };
-  $('legend').replaceChildren(...names.map((it) => make('span', `span ${it}`, words[it] ?? it)));
+  $('legend').replaceChildren(...Array.from(names, (it) => make('span', `span ${it}`, words[it] ?? it)));
   compare();
 }
 
@@ -278,7 +266,8 @@ function endLines() {
   if (parts.at(-1).error) return [];
   const at = front.size + parts[0].end;
   const length = bytes.length - at;
-  return [lineOf(length > 0 ? row(at, [{ length, name: 'rest' }], `${counted(length, 'byte')} behind the geometry`) : row(at, [], 'the end'))];
+  const text = length > 0 ? `${counted(length, 'byte')} behind the geometry` : 'the end';
+  return [lineOf(row(at, [{ length, name: 'rest' }], text))];
 }
 
 function showForms(own, found) {
@@ -292,11 +281,11 @@ function showForms(own, found) {
 
 /** A form of the geometry, which is made when it is copied if it is long. */
 function formOf(name, isLong, textOf) {
-  const text = isLong ? null : textOf();
-  const code = make('code', '', text === null ? 'too long to show' : text.length > MOST.hex ? `${text.slice(0, MOST.hex)} ..` : text);
+  const text = isLong ? 'too long to show' : textOf();
+  const code = make('code', '', text.length > MOST.hex ? `${text.slice(0, MOST.hex)} ..` : text);
   const button = make('button', '', 'Copy');
-  button.setAttribute('aria-label', `Copy: ${name}`);
-  button.addEventListener('click', () => copied(button, () => text ?? textOf()));
+  button.ariaLabel = `Copy: ${name}`;
+  button.addEventListener('click', () => copied(button, textOf));
   return make('div', 'form', make('span', '', name), code, button);
 }
 
@@ -351,7 +340,7 @@ function listen() {
   for (const id of ['parts', 'bytes', 'drawing']) {
     on(id, 'click', ({ target }) => {
       const index = target.closest('[data-part]')?.dataset.part;
-      if (index !== undefined) choose(index, id !== 'bytes');
+      if (index) choose(index, id !== 'bytes');
     });
   }
   on('parts', 'keydown', (event) => {
@@ -362,17 +351,15 @@ function listen() {
     [event.target.tabIndex, next.tabIndex] = [-1, 0];
     next.focus();
   });
-  document.addEventListener('dragover', (event) => {
-    event.preventDefault();
-    document.body.classList.add('is-over');
-  });
-  for (const it of ['dragleave', 'drop']) document.addEventListener(it, () => document.body.classList.remove('is-over'));
-  document.addEventListener('drop', (event) => {
-    event.preventDefault();
-    const [file] = event.dataTransfer.files;
-    if (file) takeFile(file);
-    else takeText(event.dataTransfer.getData('text'), 'dropped');
-  });
+  for (const type of ['dragover', 'dragleave', 'drop']) {
+    document.addEventListener(type, (event) => {
+      event.preventDefault();
+      document.body.classList.toggle('is-over', type === 'dragover');
+      const [file] = event.dataTransfer.files;
+      if (type === 'drop' && file) takeFile(file);
+      else if (type === 'drop') takeText(event.dataTransfer.getData('text'), 'dropped');
+    });
+  }
 }
 
 listen();

@@ -77,7 +77,8 @@ test('what there is of parts that are cut off', () => {
   const [little, big] = ['0101000000000000000000f03f0000000000000040', '00000000013ff00000000000004000000000000000'];
   for (const front of ['010400000003000000', '000000000400000003']) {
     const { parts, error } = readParts(bytesOf(front + little + big + '01010000000000'), 0);
-    assert.deepEqual(parts.map((it) => [it.kind, it.depth, it.begin, it.byteOrder]), [['MultiPoint', 0, 0, undefined],
+    const order = front.startsWith('01') ? 'little' : 'big';
+    assert.deepEqual(parts.map((it) => [it.kind, it.depth, it.begin, it.byteOrder]), [['MultiPoint', 0, 0, order],
       ['Point', 1, 9, 'little'], ['Point', 1, 30, 'big'], ['Point', 1, 51, 'little']]);
     assert.deepEqual([parts[0].claims, parts[3].error, parts[3].count], [error, error, 0]);
   }
