@@ -51,7 +51,6 @@ export class Column {
     this.length = Math.max(0, this.#buffers[1].length / this.#offsetSize - 1);
   }
 
-  /** A copy of rows, of which null or undefined is a null row. */
   static of(rows) {
     const all = Array.from(rows, (it) => it == null ? null : asBytes(it));
     const ends = new Int32Array(all.length + 1);
@@ -68,19 +67,16 @@ export class Column {
     run(name, this.#offsetSize, this.#first, ...values);
   }
 
-  /** The status of each row: 0, or why it is no geometry. */
   check() {
     this.#run('wkb_column_check');
     return statuses();
   }
 
-  /** Eight numbers a row: the least and the greatest x, y, z and m. */
   bounds() {
     this.#run('wkb_column_bounds');
     return { bounds: numbers(), statuses: statuses() };
   }
 
-  /** What occurs in the rows. */
   facts() {
     this.#run('wkb_column_facts');
     const at = numbersAt();
@@ -93,7 +89,6 @@ export class Column {
     return { rows, accepted, nullRows, refused, types, bounds: rangesAt(at + 6), srids, withoutSrid };
   }
 
-  /** The coordinates of all rows one after another, and the offsets of three levels. */
   coordinates(dimension = 'xy') {
     const number = DIMENSIONS.indexOf(dimension);
     if (number < 0) throw new TypeError(`no dimension: ${dimension}`);
@@ -101,7 +96,6 @@ export class Column {
     return { values: numbers(), rows: offsets(0), singles: offsets(1), rings: offsets(2), statuses: statuses() };
   }
 
-  /** The rows as GeoArrow has those of their kind, or of its multi kind if both occur. */
   geoArrow(asked) {
     const { types } = this.facts();
     const kind = kindOf(types.map((it) => it.kind));
@@ -111,7 +105,6 @@ export class Column {
       offsets: LISTS[kind](rows, singles, rings), validity: bitsOf(statuses, (it) => it === 0) };
   }
 
-  /** The encoding of each row one after another, and its offsets. */
   write(options) {
     this.#run('wkb_column_write', ...numbered(options));
     return { data: bytes(), offsets: offsets(0), statuses: statuses() };

@@ -3,7 +3,6 @@
 import { KINDS, PART_SIZE, numbersAt, numbersThere, over, viewThere } from './desk.js';
 import { write } from './wkb.js';
 
-/** The geometry as GeoJSON has it. M is left out, and so are SRIDs. */
 export function toGeoJSON(bytes) {
   const from = over(bytes, 'wkb_parts');
   return geometryAt({ from, at: numbersAt() });
@@ -42,7 +41,6 @@ function coordinatesAt(table, isPoint) {
   return items[0].every(Number.isNaN) && Number.isNaN(view.getFloat64(at - 8, isLittle)) ? [] : items[0];
 }
 
-/** The encoding of a geometry of GeoJSON under the options. */
 export function fromGeoJSON(geometry, options) {
   const out = new Encoder();
   out.geometry(geometry, widthOf(geometry) ?? 2);

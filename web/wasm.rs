@@ -10,45 +10,44 @@ extern crate porchsorrel_wkb;
 use porchsorrel_wkb::canon::{canonical_into, same};
 use porchsorrel_wkb::check::{bounds, check, Bounds, Cause, Refused, WkbType};
 use porchsorrel_wkb::columns::{Column, Status};
-use porchsorrel_wkb::error::{General, WkbError};
-use porchsorrel_wkb::geopackage::{read_header, NoHeader};
+use porchsorrel_wkb::error::General;
+use porchsorrel_wkb::geopackage::read_header;
 use porchsorrel_wkb::parts::{parts, parts_before, Part};
 use porchsorrel_wkb::reader::Dimension;
 use porchsorrel_wkb::writer::{Form, WriteOptions};
 use porchsorrel_wkb::{AllocError, Endianness};
 
-/// Why a call has no result. Refused bytes have the numbers of `Status`.
-enum Failure {
-    Memory,
-    NoHeader(NoHeader),
-    TooFewBits,
-    Refused(Refused),
-}
+/// Why a call has no result: a number, which refused bytes have of `Status`, a text, and the numbers of part, offset,
+/// bytes needed, bytes there, and code.
+struct Failure(u32, String, [f64; 5]);
+
+const NONE: f64 = -1.0;
+const NO_MEMORY: Failure = Failure(1, String::new(), [NONE; 5]);
+const TOO_FEW_BITS: Failure = Failure(3, String::new(), [NONE; 5]);
 
 impl From<AllocError> for Failure {
     fn from(_: AllocError) -> Failure {
-        Failure::Memory
+        NO_MEMORY
     }
 }
 
 impl From<Refused> for Failure {
     fn from(why: Refused) -> Failure {
-        Failure::Refused(why)
+        let code = if let Cause::General(General::CodeOutOfRange(code)) = why.cause { code.into() } else { NONE };
+        let (needed, has) = why.ends().map_or((NONE, NONE), |(end, len)| (end as f64, len as f64));
+        Failure(why.status().number().into(), why.to_string(), [why.part as f64, why.offset as f64, needed, has, code])
     }
 }
 
-/// The error of a call over these bytes.
-fn failure(bytes: &[u8], why: WkbError) -> Failure {
-    match (why, check(bytes)) {
-        (WkbError::Memory(_), _) | (_, Ok(_)) => Failure::Memory,
-        (_, Err(why)) => Failure::Refused(why),
-    }
+/// The failure of a call that checks these bytes, and takes memory afterwards.
+fn failure(bytes: &[u8]) -> Failure {
+    check(bytes).err().map_or(NO_MEMORY, Failure::from)
 }
 
-/// The numbers of kind (0 of a ring), dimension and order, and the SRID, where -1 is none.
+/// The numbers of kind (0 of a ring), dimension, order and SRID.
 fn header(of: Option<WkbType>, dimension: Dimension, order: Endianness, srid: Option<u32>) -> [f64; 4] {
     let kind = of.map_or(0, WkbType::kind);
-    [kind.into(), (dimension as u32).into(), order.byte().into(), srid.map_or(-1.0, f64::from)]
+    [kind.into(), (dimension as u32).into(), order.byte().into(), srid.map_or(NONE, f64::from)]
 }
 
 /// What the last call found.
@@ -72,7 +71,7 @@ impl Results {
     }
 
     fn lay(&mut self, numbers: &[f64]) -> Result<(), Failure> {
-        self.numbers.try_reserve(numbers.len()).map_err(|_| Failure::Memory)?;
+        self.numbers.try_reserve(numbers.len()).map_err(|_| NO_MEMORY)?;
         self.numbers.extend_from_slice(numbers);
         Ok(())
     }
@@ -91,27 +90,16 @@ impl Results {
     fn keep_offsets(&mut self, level: usize, ends: &[u64]) -> Result<(), Failure> {
         let offsets = &mut self.offsets[level];
         offsets.clear();
-        offsets.try_reserve(ends.len() + 1).map_err(|_| Failure::Memory)?;
+        offsets.try_reserve(ends.len() + 1).map_err(|_| NO_MEMORY)?;
         offsets.push(0);
-        ends.iter().try_for_each(|end| Ok(offsets.push(i32::try_from(*end).map_err(|_| Failure::Memory)?)))
+        ends.iter().try_for_each(|end| Ok(offsets.push(i32::try_from(*end).map_err(|_| NO_MEMORY)?)))
     }
 
-    /// The number of a failure, beside its text and the numbers of a fault.
-    fn told(&mut self, why: Failure) -> u32 {
-        self.numbers.clear();
-        let (text, number) = match why {
-            Failure::Memory => (String::new(), 1),
-            Failure::NoHeader(why) => (why.to_string(), 2),
-            Failure::TooFewBits => (String::new(), 3),
-            Failure::Refused(why) => {
-                let code = if let Cause::General(General::CodeOutOfRange(code)) = why.cause { code } else { 0 };
-                let (end, len) = why.ends().unwrap_or_default();
-                self.numbers.extend([why.part as f64, why.offset as f64, end as f64, len as f64, code.into()]);
-                (why.to_string(), why.status().number().into())
-            }
-        };
+    /// The number of a failure, beside its text and its numbers.
+    fn told(&mut self, Failure(number, text, fields): Failure) -> u32 {
         self.bytes = text.into_bytes();
-        number
+        self.numbers.clear();
+        self.lay(&fields).map_or_else(|why| why.0, |()| number)
     }
 }
 
@@ -129,7 +117,7 @@ fn column(inputs: &[Vec<u8>; 3], offset_size: u32, first: f64) -> Result<Column<
     if first < 0.0 {
         return Ok(column);
     }
-    column.with_validity(validity, first as usize).ok_or(Failure::TooFewBits)
+    column.with_validity(validity, first as usize).ok_or(TOO_FEW_BITS)
 }
 
 /// The form by its number: in OWN_SRID a geometry has its own SRID.
@@ -194,7 +182,7 @@ calls! {
     }
 
     wkb_parts(inputs, out) {
-        let table = parts(&inputs[0]).map_err(|why| failure(&inputs[0], why))?;
+        let table = parts(&inputs[0]).map_err(|_| failure(&inputs[0]))?;
         table.iter().try_for_each(|it| out.lay_part(it))
     }
 
@@ -209,19 +197,19 @@ calls! {
     wkb_write(inputs, out, order: u32, form: u32, srid: u32) {
         let own = if form == OWN_SRID { check(&inputs[0])?.srid } else { None };
         let asked = options(order, form, srid, own);
-        canonical_into(&inputs[0], &asked, &mut out.bytes).map_err(|why| failure(&inputs[0], why))
+        canonical_into(&inputs[0], &asked, &mut out.bytes).map_err(|_| failure(&inputs[0]))
     }
 
     /// Whether two inputs have one value.
     wkb_equal(inputs, out) {
         check(&inputs[0])?;
         check(&inputs[1])?;
-        let is_same = same(&inputs[0], &inputs[1]).map_err(|why| failure(&inputs[0], why))?;
+        let is_same = same(&inputs[0], &inputs[1]).map_err(|_| failure(&inputs[0]))?;
         out.lay(&[u8::from(is_same).into()])
     }
 
     wkb_geopackage(inputs, out) {
-        let it = read_header(&inputs[0]).map_err(Failure::NoHeader)?;
+        let it = read_header(&inputs[0]).map_err(|why| Failure(2, why.to_string(), [0.0, 0.0, NONE, NONE, NONE]))?;
         let axes = ["", "xy", "xyz", "xym"].iter().position(|axes| *axes == it.axes).unwrap_or(4) as u32;
         out.lay(&[it.size as f64, it.srs_id.into(), u8::from(it.is_empty).into(), axes.into()])?;
         it.envelope.iter().try_for_each(|(least, greatest)| out.lay(&[*least, *greatest]))
@@ -235,7 +223,7 @@ calls! {
     wkb_column_bounds(inputs, out, size: u32, first: f64) {
         let (all, statuses) = column(inputs, size, first)?.bounds()?;
         out.statuses = statuses;
-        out.numbers.try_reserve(8 * all.len()).map_err(|_| Failure::Memory)?;
+        out.numbers.try_reserve(8 * all.len()).map_err(|_| NO_MEMORY)?;
         for Bounds { x, y, z, m } in &all {
             out.numbers.extend([x.min(), x.max(), y.min(), y.max(), z.min(), z.max(), m.min(), m.max()]);
         }

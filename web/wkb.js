@@ -1,6 +1,7 @@
 // SPDX-License-Identifier: MIT OR Apache-2.0
 // Reads and writes WKB and EWKB in browsers, workers and Node.js. What is checked, measured, compared and written is so
-// by the proved sources, as WebAssembly (desk.js). This file makes objects of the numbers.
+// by the proved sources, as WebAssembly (desk.js). This file makes objects of the numbers. wkb.d.ts says what each call
+// gives.
 import { DIMENSIONS, KINDS, ORDERS, PART_SIZE, WkbError, asBytes, bytes, numbered, numbersAt, numbersEnd, numbersThere,
   over, put, rangesAt, run } from './desk.js';
 
@@ -8,7 +9,7 @@ export { DIMENSIONS, KINDS, STATUSES, WkbError, start } from './desk.js';
 export { Column } from './column.js';
 export { fromGeoJSON, toGeoJSON } from './geojson.js';
 const AXES = ['', ...DIMENSIONS];
-/** The bytes of a text: hex, also behind \x or 0x or as x'..' of SQL, or base64. */
+
 export function bytesOf(text) {
   const bare = String(text).trim().replace(/^["']|["']$/g, '').replace(/^(\\\\?x|0x|x')/i, '').replace(/\s+/g, '');
   if (/^[0-9a-f]*$/i.test(bare)) return fromHex(bare);
@@ -23,8 +24,7 @@ export function bytesOf(text) {
 }
 
 /** The value of each digit of hex, by its character. */
-const DIGITS = new Uint8Array(103);
-[...'0123456789abcdef'].forEach((it, i) => { DIGITS[it.charCodeAt(0)] = DIGITS[it.toUpperCase().charCodeAt(0)] = i; });
+const DIGITS = Uint8Array.from({ length: 103 }, (_, i) => parseInt(String.fromCharCode(i), 16));
 
 function fromHex(digits) {
   if (digits.length % 2 === 1) throw new SyntaxError(`an odd number of digits of hex: ${digits.length}`);
@@ -34,7 +34,6 @@ function fromHex(digits) {
   return found;
 }
 
-/** What is at the start of the bytes. */
 export function check(bytes) {
   over(bytes, 'wkb_check');
   const [at, it] = [numbersAt(), numbersThere];
@@ -50,7 +49,6 @@ function withHeader(it, at) {
   return it;
 }
 
-/** The range of each ordinate, without NaNs; of none it is from Infinity to -Infinity. */
 export function bounds(bytes) {
   over(bytes, 'wkb_bounds');
   return rangesAt(numbersAt());
@@ -58,21 +56,19 @@ export function bounds(bytes) {
 
 /** The parts whose numbers the last call has laid. */
 function table() {
-  const parts = [];
-  const it = numbersThere;
+  const [parts, it] = [[], numbersThere];
   for (let at = numbersAt(), end = numbersEnd(); at < end; at += PART_SIZE) {
-    parts.push(withHeader({ begin: it[at + 4], end: it[at + 5], offset: it[at + 6], count: it[at + 7], next: it[at + 8] }, at));
+    const part = { begin: it[at + 4], end: it[at + 5], offset: it[at + 6], count: it[at + 7], next: it[at + 8] };
+    parts.push(withHeader(part, at));
   }
   return parts;
 }
 
-/** A table of a geometry, its rings and members at every level, in preorder. */
 export function parts(bytes) {
   over(bytes, 'wkb_parts');
   return table();
 }
 
-/** The parts in preorder; of rejected bytes the error, and the parts before the rejected one. */
 export function inspect(bytes) {
   try {
     return { parts: parts(bytes), error: null };
@@ -83,7 +79,6 @@ export function inspect(bytes) {
   }
 }
 
-/** The numbers of the coordinates of a ring, a point or a line string, bit for bit. */
 export function words(bytes, part) {
   const width = KINDS.indexOf(part.kind) < 3 ? part.dimension.length : 0;
   const own = asBytes(bytes).slice(part.offset, part.offset + 8 * width * part.count);
@@ -91,16 +86,13 @@ export function words(bytes, part) {
   return new Float64Array(own.buffer);
 }
 
-/** Writes the one encoding that a geometry has under the options. */
 export function write(geometry, options) {
   over(geometry, 'wkb_write', ...numbered(options));
   return bytes();
 }
 
-/** The key of a geometry: two have the same bytes exactly if they are equal. */
 export const canonical = (geometry) => write(geometry);
 
-/** Whether two geometries are equal, whatever their byte orders and SRIDs are. */
 export function equal(a, b) {
   // A getter of an input may call this again: so both are looked at before one is put.
   const [one, other] = [asBytes(a), asBytes(b)];
@@ -109,7 +101,6 @@ export function equal(a, b) {
   return numbersThere[numbersAt()] === 1;
 }
 
-/** The header of a GeoPackage's blob: the geometry begins at `size`. */
 export function geopackageHeader(blob) {
   over(blob, 'wkb_geopackage');
   const [at, it] = [numbersAt(), numbersThere];

@@ -263,7 +263,7 @@ test('a column as GeoArrow, and columns of no meaning', () => {
 function declared(name) {
   const types = readFileSync(new URL('../out/package/wkb.d.ts', import.meta.url), 'utf8');
   if (!name) return [...types.matchAll(/^export (?:function|const|class) (\w+)/gm)].map((it) => it[1]);
-  const [, base, body] = new RegExp(`(?:interface|class) ${name} (?:extends (?:Omit<)?(\\w+).*?)?{\n([^]*?)\n}`).exec(types);
+  const [, base, body] = new RegExp(`(?:interface|class) ${name}(?:<.*?>)? (?:extends (\\w+).*?)?{\n([^]*?)\n}`).exec(types);
   const own = [...body.matchAll(/^  (?:readonly |static )?(\w+)[?(:]/gm)].map((it) => it[1]);
   return [...base && base !== 'Error' ? declared(base) : [], ...own];
 }
