@@ -26,6 +26,12 @@ const codeBytes = () => Uint8Array.from(atob(code), (it) => it.charCodeAt(0));
 
 function settle({ exports }) {
   [calls, desk] = [exports, exports.wkb_desk()];
+  look();
+}
+
+function look() {
+  const { buffer } = calls.memory;
+  [bytesThere, numbersThere, viewThere] = [new Uint8Array(buffer), new Float64Array(buffer), new DataView(buffer)];
 }
 
 /** Compiles the code ahead, and not on this thread. Else the first call compiles it, and waits. */
@@ -45,10 +51,8 @@ function ask(name, ...values) {
     calls = undefined;
     throw error;
   }
-  const { buffer } = calls.memory;
-  if (bytesThere?.buffer !== buffer) {
-    [bytesThere, numbersThere, viewThere] = [new Uint8Array(buffer), new Float64Array(buffer), new DataView(buffer)];
-  }
+  // It has grown.
+  if (bytesThere.length === 0) look();
   return answer;
 }
 
