@@ -65,7 +65,7 @@ export class WkbError extends Error {
   }
 }
 
-/** The bytes of an input in a view of our own: a subclass may say another length, or have another `slice`, as Buffer. */
+/** An input's bytes in a view of our own: a subclass may say another length, or have another `slice`, as Buffer. */
 export function asBytes(input) {
   if (ArrayBuffer.isView(input)) return new Uint8Array(input.buffer, input.byteOffset, input.byteLength);
   if (/^.object (Shared)?ArrayBuffer.$/.test(Object.prototype.toString.call(input))) return new Uint8Array(input);

@@ -107,7 +107,8 @@ export function draw(bytes, parts, width) {
   const scales = scalesOf(places, size);
   const [isSome, isSample] = [places.length < sum(own), everyPart > 1 || every > 1];
   const of = (isSome ? `${said(places.length)} of ` : '') + counted(sum(own), 'coordinate');
-  const caption = isSample ? `A sample: ${of}` : isSome ? `${of}: the others aren't finite` : `x to the right, y upwards: ${of}`;
+  const caption = isSample ? `A sample: ${of}`
+    : isSome ? `${of}: the others aren't finite` : `x to the right, y upwards: ${of}`;
   const named = { viewBox: `0 0 ${width} ${size.height}`, role: 'img', 'aria-label': `A drawing of ${of}` };
   return { caption, picture: svg('svg', named, axes(scales, size),
     svg('g', { class: 'shapes' }, ...shapesOf(chosen, places, scales))) };

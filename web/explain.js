@@ -157,12 +157,13 @@ export function rowsOf(bytes, front, part, most) {
 export function readFront(bytes) {
   if (bytes[0] !== 0x47 || bytes[1] !== 0x50) return { size: 0, rows: [] };
   const header = geopackageHeader(bytes);
-  const flags = `flags: ${ORDERS[bytes[3] & 1]} endian, ${header.axes || 'no'} envelope${header.isEmpty ? ', empty' : ''}`;
+  const { axes, isEmpty, srsId } = header;
+  const flags = `flags: ${ORDERS[bytes[3] & 1]} endian, ${axes || 'no'} envelope${isEmpty ? ', empty' : ''}`;
   const fields = [[0, 2, 'order', 'the header of a GeoPackage'], [2, 1, 'code', `version ${bytes[2] + 1}`],
-    [3, 1, 'code', flags], [4, 4, 'srid', `SRID ${header.srsId}`]];
+    [3, 1, 'code', flags], [4, 4, 'srid', `SRID ${srsId}`]];
   const rows = fields.map(([at, length, name, text]) => row(at, [{ length, name }], text));
-  header.envelope.forEach((range, i) => rows.push(row(8 + 16 * i, wordsOf(header.axes[i].repeat(2)),
-    `${header.axes[i]} from ${range.map(spelled).join(' to ')}`)));
+  header.envelope.forEach((range, i) => rows.push(row(8 + 16 * i, wordsOf(axes[i].repeat(2)),
+    `${axes[i]} from ${range.map(spelled).join(' to ')}`)));
   return { size: header.size, rows, header };
 }
 

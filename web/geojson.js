@@ -21,7 +21,8 @@ function geometryAt(table) {
   if (kind < 3) return { type, coordinates: coordinatesAt(table, kind === 1) };
   table.at += PART_SIZE;
   if (kind === 7) return { type, geometries: listOf(count, () => geometryAt(table)) };
-  return { type, coordinates: listOf(count, kind === 3 ? () => coordinatesAt(table, false) : () => geometryAt(table).coordinates) };
+  const item = kind === 3 ? () => coordinatesAt(table, false) : () => geometryAt(table).coordinates;
+  return { type, coordinates: listOf(count, item) };
 }
 
 /** The coordinates of a point, a line string or a ring; none of an empty point. */

@@ -98,7 +98,7 @@ function showBytes() {
   $('forms').hidden = Boolean(error);
   const facts = error ? factsOfError(own, error) : factsOf(own, found);
   if (front.header) facts.push(['GeoPackage', `${counted(front.size, 'byte')} of header, SRID ${front.header.srsId}`]);
-  $('facts').replaceChildren(...facts.flatMap(([name, value]) => [make('dt', '', name), make('dd', '', String(value))]));
+  $('facts').replaceChildren(...facts.flatMap(([name, value]) => [make('dt', '', name), make('dd', '', value)]));
   showDrawing(own, error);
   showParts();
   showRows();
@@ -107,7 +107,8 @@ function showBytes() {
 
 function faultOf({ message, offset, needed, has }) {
   const ends = needed ? `; it needs ${counted(needed, 'byte')} from there on, and has ${said(has)}` : '';
-  return `Rejected: ${message.replace(/, at byte .*/, '')}, in the part at byte ${said(offset + state.front.size)}${ends}.`;
+  const begin = said(offset + state.front.size);
+  return `Rejected: ${message.replace(/, at byte .*/, '')}, in the part at byte ${begin}${ends}.`;
 }
 
 /** Says how the other input compares, and marks the fields whose bytes differ. */
@@ -154,8 +155,8 @@ function takeLink() {
 
 function factsOf(own, { kind, dimension, srid, byteOrder, size, parts, coordinates }) {
   const more = own.length - size;
-  const facts = [['Kind', kind], ['Dimension', dimension], ['SRID', srid ?? 'none'], ['Byte order', `${byteOrder} endian`],
-    ['Size', counted(size, 'byte')], ...more > 0 ? [['Behind it', counted(more, 'more byte')]] : [],
+  const facts = [['Kind', kind], ['Dimension', dimension], ['SRID', String(srid ?? 'none')],
+    ['Byte order', `${byteOrder} endian`], ['Size', counted(size, 'byte')], ...more > 0 ? [['Behind it', counted(more, 'more byte')]] : [],
     ['Parts', said(parts)], ['Coordinates', said(coordinates)]];
   for (const [axis, { min, max, count }] of Object.entries(bounds(own))) {
     if (count > 0) facts.push([`Least ${axis}`, spelled(min)], [`Greatest ${axis}`, spelled(max)]);
@@ -173,7 +174,8 @@ function factsOfError(own, { reason, part, offset, needed, has }) {
 function showDrawing(own, error) {
   const drawn = draw(own, state.parts, Math.max(280, $('drawing').clientWidth));
   $('drawing').replaceChildren(...(drawn ? [drawn.picture] : []));
-  $('drawn').textContent = drawn ? `${drawn.caption}${error ? ', before the fault' : ''}.` : 'There is no coordinate to draw.';
+  const end = error ? ', before the fault.' : '.';
+  $('drawn').textContent = drawn ? drawn.caption + end : 'There is no coordinate to draw.';
 }
 
 /** What a part is called. */
@@ -237,7 +239,8 @@ function headingOf(part) {
   return ofPart(part, heading);
 }
 
-const moreLines = (count) => count > 0 ? [lineOf(row(0, [], `.. ${counted(count, 'more part')}`, null, { isGap: true }))] : [];
+const moreLines = (count) => count > 0
+  ? [lineOf(row(0, [], `.. ${counted(count, 'more part')}`, null, { isGap: true }))] : [];
 
 function showRows() {
   const { bytes, front, parts } = state;

@@ -232,7 +232,8 @@ calls! {
 
     wkb_column_facts(inputs, out, size: u32, first: f64) {
         let it = column(inputs, size, first)?.facts()?;
-        out.lay(&[it.rows, it.accepted, it.null_rows, it.refused, it.without_srid, it.types.len()].map(|it| it as f64))?;
+        let counts = [it.rows, it.accepted, it.null_rows, it.refused, it.without_srid, it.types.len()];
+        out.lay(&counts.map(|it| it as f64))?;
         out.lay_bounds(&it.bounds)?;
         for (of, rows) in &it.types {
             out.lay(&[of.kind().into(), (of.dimension() as u32).into(), *rows as f64])?;
@@ -245,7 +246,8 @@ calls! {
         let it = column(inputs, size, first)?.coordinates(dimensions[dimension as usize])?;
         out.numbers = it.words;
         out.statuses = it.statuses;
-        [it.row_ends, it.single_ends, it.ring_ends].iter().enumerate().try_for_each(|(i, ends)| out.keep_offsets(i, ends))
+        let levels = [it.row_ends, it.single_ends, it.ring_ends];
+        levels.iter().enumerate().try_for_each(|(level, ends)| out.keep_offsets(level, ends))
     }
 
     wkb_column_write(inputs, out, size: u32, first: f64, order: u32, form: u32, srid: u32) {
