@@ -46,7 +46,7 @@ CASTS = {
         let srid = [None, own, Some(srid), None][form as usize];""",
     "any width or order is right": """
         for _ in 0..usize::BITS {
-        column.with_validity(validity, first as usize).ok_or(Failure::TooFewBits)
+        column.with_validity(validity, first as usize).ok_or(TOO_FEW_BITS)
         made.offsets.try_extend_from_slice(&(made.data.len() as u64).to_ne_bytes())?;
         pub(crate) const MACHINE: Self = if cfg!(target_endian = "big") *""",
 }

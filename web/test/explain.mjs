@@ -46,12 +46,14 @@ test('texts', () => {
     'AQEAAAAAAAAAAADwPwAAAAAAAPC_', 'AQEAAAAA\nAAAAAADwPwAAAAAAAABA']) assert.equal(bytesOf(it).length, 21);
   for (const it of ['g', '0', 'POINT (1 2)', '<b>']) assert.throws(() => bytesOf(it));
   assert.deepEqual(inputsOf(`${POINT}\n\n${POINT}\n`), [POINT, POINT]);
-  assert.deepEqual(inputsOf(`${POINT.slice(0, 10)}\n${POINT.slice(10)}`), [POINT]);
+  for (const it of [POINT, `47500000ffffffff${POINT}`]) {
+    assert.deepEqual(inputsOf(`${it.slice(0, 20)}\n${it.slice(20)}`), [it]);
+  }
   assert.deepEqual(inputsOf('01\n02'), ['01', '02']);
   const table = `id;name;geom\n1;"a; ""b""";${POINT}\r\n2;;"${POINT}"\n`;
   assert.deepEqual(columnsOf(table), [{ name: 'id', cells: ['1', '2'] }, { name: 'name', cells: ['a; "b"', ''] },
     { name: 'geom', cells: [`${POINT}\r`, POINT] }]);
-  assert.deepEqual(columnsOf(`${POINT},1\n${POINT},2`).map((it) => it.name), ['column 1', 'column 2']);
+  assert.deepEqual(columnsOf(`${POINT},1\n${POINT}`).map((it) => it.name), ['column 1', 'column 2']);
   assert.deepEqual([columnsOf(POINT), columnsOf(`${POINT}\n${POINT}`), columnsOf('')], [[], [], []]);
   const [utf8, utf16] = ['utf8', 'utf16le'].map((it) => Uint8Array.from(Buffer.from(`\ufeff${POINT}`, it)));
   const files = [bytesOf(POINT), new TextEncoder().encode(POINT), utf8, utf16];
