@@ -51,7 +51,6 @@ function ask(name, ...values) {
     calls = undefined;
     throw error;
   }
-  // It has grown.
   if (bytesThere.length === 0) look();
   return answer;
 }

@@ -1,7 +1,6 @@
 // SPDX-License-Identifier: MIT OR Apache-2.0
 // Reads and writes WKB and EWKB in browsers, workers and Node.js. What is checked, measured, compared and written is so
-// by the proved sources, as WebAssembly (desk.js). This file makes objects of the numbers. wkb.d.ts says what each call
-// gives.
+// by the proved sources, as WebAssembly (desk.js). This file makes objects of the numbers; wkb.d.ts says which.
 import { DIMENSIONS, KINDS, ORDERS, PART_SIZE, WkbError, asBytes, bytes, numbered, numbersAt, numbersEnd, numbersThere,
   over, put, rangesAt, run } from './desk.js';
 

@@ -299,24 +299,23 @@ test('the header of a GeoPackage', () => {
 
 test('arguments, and inputs that are long or claim much', () => {
   for (const it of [null, 'ab', [1, 2]]) assert.throws(() => wkb.check(it), TypeError);
-  const point = POINT;
-  for (const it of [point.buffer, new DataView(Uint8Array.of(7, ...point).buffer, 1)]) assert.equal(wkb.check(it).kind, 'Point');
+  for (const it of [POINT.buffer, new DataView(Uint8Array.of(7, ...POINT).buffer, 1)]) assert.equal(wkb.check(it).kind, 'Point');
   class Liar extends Uint8Array { get length() { return 1; } }
-  assert.equal(wkb.check(Liar.from(point)).size, 21);
+  assert.equal(wkb.check(Liar.from(POINT)).size, 21);
   class Busy extends Uint8Array { get buffer() { return wkb.equal(POINT, POINT) && super.buffer; } }
   const other = bytesOf('010200000000000000');
-  assert.deepEqual([wkb.equal(Busy.from(point), other), wkb.equal(other, Busy.from(point))], [false, false]);
-  assert.deepEqual([...new wkb.Column(Busy.from(point), Int32Array.of(0, 21), { validity: Busy.of(1) }).check()], [0]);
-  const big = Buffer.from(wkb.write(point, { byteOrder: 'big' }));
+  assert.deepEqual([wkb.equal(Busy.from(POINT), other), wkb.equal(other, Busy.from(POINT))], [false, false]);
+  assert.deepEqual([...new wkb.Column(Busy.from(POINT), Int32Array.of(0, 21), { validity: Busy.of(1) }).check()], [0]);
+  const big = Buffer.from(wkb.write(POINT, { byteOrder: 'big' }));
   assert.deepEqual([...wkb.words(big, wkb.parts(big)[0])], [1, 2]);
   assert.equal(big.readDoubleBE(5), 1);
   const { buffer } = runInNewContext('Uint8Array.of(1, 7, 0, 0, 0, 0, 0, 0, 0)');
   assert.equal(wkb.check(buffer).kind, 'GeometryCollection');
   for (const it of [{ byteOrder: 'middle' }, { form: 'wkt' }, { srid: 4326 }, { form: 'iso', srid: 0 }]) {
-    assert.throws(() => wkb.write(point, it), TypeError);
+    assert.throws(() => wkb.write(POINT, it), TypeError);
   }
-  assert.deepEqual(wkb.write(point, { srid: null }), point);
-  for (const srid of [-1, 1.5, 2 ** 32]) assert.throws(() => wkb.write(point, { form: 'ewkb', srid }), RangeError);
+  assert.deepEqual(wkb.write(POINT, { srid: null }), POINT);
+  for (const srid of [-1, 1.5, 2 ** 32]) assert.throws(() => wkb.write(POINT, { form: 'ewkb', srid }), RangeError);
   for (const [kind, needed] of [[2, 9 + 16 * 0xffffffff], [4, 9 + 21 * 0xffffffff]]) {
     assert.throws(() => wkb.check(bytesOf(`010${kind}000000ffffffff`)), { needed, has: 9 });
   }
@@ -325,5 +324,5 @@ test('arguments, and inputs that are long or claim much', () => {
   const long = Buffer.concat([bytesOf('010400000040420f00'), ...Array(1e6).fill(POINT)]);
   assert.equal(wkb.check(long).parts, 1e6 + 1);
   assert.equal(wkb.toGeoJSON(long).coordinates.length, 1e6);
-  assert.equal(wkb.check(point).size, 21);
+  assert.equal(wkb.check(POINT).size, 21);
 });

@@ -105,17 +105,20 @@ for (const [text, verdict, at, why] of CASES) {
 }
 
 test('what is drawn, listed and written', async () => {
-  const line = await shown('01020000000200000000000000000000000000000000000000000000000000f03f000000000000f87f');
-  assert.deepEqual([line.shapes, line.forms.length], [2, 5]);
-  assert.match(line.drawn, /^1 of 2 coordinates: /);
-  assert.equal(line.forms[4], '{"type":"LineString","coordinates":[[0,0],[1,null]]}');
-  const huge = await shown('010200000002000000' + 'ffffffffffffefff'.repeat(2) + 'ffffffffffffef7f'.repeat(2));
-  assert.match(huge.drawn, /2 coordinates/);
-  const cut = await shown('010400000003000000' + POINT.repeat(2) + POINT.slice(0, 40));
-  assert.deepEqual([cut.shapes, cut.bad.at(-1)], [3, ['64', 'cut off: 7 of 8 bytes']]);
-  assert.match(cut.drawn, /2 coordinates, before the fault\.$/);
-  const empty = await shown('0101000000' + '000000000000f87f'.repeat(2));
-  assert.equal(empty.drawn, 'There is no coordinate to draw.');
+  const [one, cut] = ['000000000000f03f', POINT.slice(0, 40)];
+  const all = [[`0102000000020000000000000000000000${one.repeat(2)}000000000000f87f`, 2, /^1 of 2 coordinates: /],
+    [`010200000002000000${'ffffffffffffefff'.repeat(2)}${'ffffffffffffef7f'.repeat(2)}`, 2, / 2 coordinates\.$/],
+    [`010400000003000000${POINT.repeat(2)}${cut}`, 3, / 2 coordinates, before the fault\.$/],
+    [`01030000000200000001000000${one.repeat(2)}0100`, 2, / 1 coordinate, before the fault\.$/],
+    [`0101000000${'000000000000f87f'.repeat(2)}`, 0, /^There is no coordinate to draw\.$/]];
+  for (const [hex, shapes, text] of all) {
+    const found = await shown(hex);
+    assert.deepEqual([found.shapes, found.forms.length], [shapes, 5]);
+    assert.match(found.drawn, text);
+    if (shapes === 3) assert.deepEqual(found.bad.at(-1), ['64', 'cut off: 7 of 8 bytes']);
+  }
+  const { forms } = await shown(all[0][0]);
+  assert.equal(forms[4], '{"type":"LineString","coordinates":[[0,1],[1,null]]}');
 });
 
 test('a fault behind the header of a GeoPackage', async () => {
