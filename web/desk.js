@@ -25,13 +25,7 @@ const [NUMBERS, BYTES, ROWS, OFFSETS] = [0, 1, 2, 3];
 const codeBytes = () => Uint8Array.from(atob(code), (it) => it.charCodeAt(0));
 
 function settle({ exports }) {
-  [calls, desk] = [exports, exports.wkb_desk()];
-  look();
-}
-
-function look() {
-  const { buffer } = calls.memory;
-  [bytesThere, numbersThere, viewThere] = [new Uint8Array(buffer), new Float64Array(buffer), new DataView(buffer)];
+  [calls, desk, bytesThere] = [exports, exports.wkb_desk(), undefined];
 }
 
 /** Compiles the code ahead, and not on this thread. Else the first call compiles it, and waits. */
@@ -51,7 +45,10 @@ function ask(name, ...values) {
     calls = undefined;
     throw error;
   }
-  if (bytesThere.length === 0) look();
+  if (!bytesThere?.length) {
+    const { buffer } = calls.memory;
+    [bytesThere, numbersThere, viewThere] = [new Uint8Array(buffer), new Float64Array(buffer), new DataView(buffer)];
+  }
   return answer;
 }
 

@@ -8,7 +8,6 @@ export { DIMENSIONS, KINDS, STATUSES, WkbError, start } from './desk.js';
 export { Column } from './column.js';
 export { fromGeoJSON, toGeoJSON } from './geojson.js';
 const AXES = ['', ...DIMENSIONS];
-
 export function bytesOf(text) {
   const bare = String(text).trim().replace(/^["']|["']$/g, '').replace(/^(\\\\?x|0x|x')/i, '').replace(/\s+/g, '');
   if (/^[0-9a-f]*$/i.test(bare)) return fromHex(bare);
