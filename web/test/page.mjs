@@ -9,8 +9,8 @@ import { after, before, test } from 'node:test';
 
 const PAGE = new URL('../out/inspector.html', import.meta.url).href;
 const WORK = mkdtempSync(join(tmpdir(), 'inspector-'));
-// Of a machine that does much else; a quiet one takes a tenth of it.
-const MOST_TIME = 10000;
+// Of a machine that does much else; a quiet one takes less than a tenth of it.
+const MOST_TIME = 30000;
 const POINT = '0101000000000000000000f03f0000000000000040';
 let driver, session;
 
