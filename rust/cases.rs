@@ -36,6 +36,10 @@ mod cases {
 mod blocks;
 #[path = "cases/clients.rs"]
 mod clients;
+#[path = "cases/cut_inputs.rs"]
+mod cut_inputs;
+#[path = "cases/writing.rs"]
+mod writing;
 
 use calls::{below, erased::*};
 use cases::*;

@@ -3,9 +3,9 @@
 use crate::rt::{io, Fail};
 use crate::wkb::error::WkbError;
 use crate::wkb::geom::Dimensions;
-use crate::wkb::writer::Sink;
+use crate::wkb::writer::{write_multi_line_string, Sink};
 use crate::wkb_cases::support::{line_string_of, multi_line_string_of};
-use crate::wkb_tests::kinds::{put_multi_line_string, LITTLE};
+use crate::wkb_tests::kinds::LITTLE;
 use crate::wkb_tests::sinks::{LimitedSink, Limits, FULL};
 
 /// Where a sink's room ends: around the lengths of blocks, and of what goes through a small one.
@@ -36,7 +36,7 @@ fn each_length() -> Result<(), Fail> {
         let rooms = ROOMS.into_iter().chain([whole - 1, whole]).map(|room| (room, usize::MAX));
         for (room, most) in rooms.chain([(whole, 1)]) {
             let mut sink = LimitedSink::new(Limits { puts: usize::MAX, most, room });
-            let written = put_multi_line_string(&mut sink, &multi, &LITTLE);
+            let written = write_multi_line_string(&mut sink, &multi, &LITTLE);
             assert_eq!(sink.taken.as_slice(), &encoding[..room.min(whole)]);
             assert_eq!(sink.failed(), room < whole);
             match written {

@@ -24,14 +24,6 @@ pub fn iso(endianness: Endianness) -> WriteOptions {
     }
 }
 
-/// EWKB, little endian, with this SRID.
-pub fn ewkb(srid: Option<u32>) -> WriteOptions {
-    WriteOptions {
-        endianness: Endianness::LittleEndian,
-        form: Form::Ewkb { srid },
-    }
-}
-
 // The plain geometries. These helpers have no clauses, so that the proof of a test reads few facts.
 
 pub fn coord_of<'w>(dim: Dimensions, words: &'w [u64]) -> Result<Coord<'w>, Fail> {
@@ -40,10 +32,6 @@ pub fn coord_of<'w>(dim: Dimensions, words: &'w [u64]) -> Result<Coord<'w>, Fail
 
 pub fn point_of<'w>(dim: Dimensions, words: &'w [u64]) -> Result<Point<'w>, Fail> {
     Ok(Point::new(coord_of(dim, words)?))
-}
-
-pub fn empty_point_of(dim: Dimensions) -> Result<Point<'static>, Fail> {
-    Ok(Point::empty(dim).ok_or("no point")?)
 }
 
 pub fn line_string_of<'w>(dim: Dimensions, words: &'w [u64]) -> Result<LineString<'w>, Fail> {
@@ -101,11 +89,7 @@ pub fn collection_of_two<'w>(
     let mut members = Vec::with_capacity(alloc, 2)?;
     members.push(first)?;
     members.push(second)?;
-    Ok(collection_of(dim, members))
-}
-
-pub fn collection_of<'w>(dim: Dimensions, members: Vec<Geometry<'w>>) -> Geometry<'w> {
-    Geometry::GeometryCollection(GeometryCollection::new(dim, members))
+    Ok(Geometry::GeometryCollection(GeometryCollection::new(dim, members)))
 }
 
 /// The little endian ISO text of a geometry.

@@ -1,24 +1,25 @@
-//! Each kind's size and encoding. A short encoding is one write of `Out`, and a `VecSink` that has room for it does not
-//! allocate.
+//! Each kind's size and encoding, and a point in each sink. A short encoding is one write of `Out`, and a `VecSink` that
+//! has room for it does not allocate.
 
-use crate::answers::Answer;
-use crate::kinds::{Answers, ENCODINGS, Kind, TWO_WORDS, put_kind};
+use crate::kinds::{ENCODINGS, Kind, put_kind, put_point};
 use crate::sinks::LimitedWriter;
 use std::alloc::Global;
 use std::io;
 use std::test::Fail;
-use wkb::writer::{Out, Sink, VecSink};
+use wkb::Endianness;
+use wkb::geom::Dimensions;
+use wkb::writer::{Out, Sink, SliceSink, VecSink};
 use wkb_cases::spelled::{Spelled, bytes};
+use wkb_cases::support::{ONE, TWO, iso, point_of};
 
 // Whether a vector with room for the encoding holds it, and has grown no more.
 fn is_put_in_a_vec(alloc: Global, kind: Kind, encoding: &Spelled) -> Result<bool, Fail> {
     let empty = VecSink::with_capacity(alloc, encoding.len())?.into_vec();
     let mut sink = VecSink::with_capacity(alloc, encoding.len())?;
-    let Answers { size, written } = put_kind(alloc, &mut sink, kind, TWO_WORDS)?;
+    let size = put_kind(alloc, &mut sink, kind)?;
     let taken = sink.into_vec();
     Ok(
-        written == Answer::Written
-            && size == Answer::Size(encoding.len())
+        size == encoding.len()
             && taken.as_slice() == encoding.as_slice()
             && taken.capacity() == empty.capacity(),
     )
@@ -26,10 +27,10 @@ fn is_put_in_a_vec(alloc: Global, kind: Kind, encoding: &Spelled) -> Result<bool
 
 fn is_one_write(alloc: Global, kind: Kind, encoding: &Spelled) -> Result<bool, Fail> {
     let mut out = Out::new(LimitedWriter::new(usize::MAX, None));
-    let Answers { size: _, written } = put_kind(alloc, &mut out, kind, TWO_WORDS)?;
+    let size = put_kind(alloc, &mut out, kind)?;
     let writer = out.into_inner();
     Ok(
-        written == Answer::Written
+        size == encoding.len()
             && writer.writes == 1
             && writer.taken.as_slice() == encoding.as_slice(),
     )
@@ -46,6 +47,24 @@ fn each_kind(rt: HostRuntime) -> Result<(), Fail> {
             "{text}"
         );
     }
+    Ok(())
+}
+
+/// A point of 1.0 and 2.0, big endian.
+const POINT: &str = "00000000013ff00000000000004000000000000000";
+
+#[test]
+fn point_in_each_sink(rt: HostRuntime) -> Result<(), Fail> {
+    let point = point_of(Dimensions::Xy, &[ONE, TWO])?;
+    let expected = bytes(POINT)?;
+    let mut out = Out::new(Spelled::new());
+    put_point(&mut out, &point, &iso(Endianness::BigEndian))?;
+    assert!(rt; out.into_inner().as_slice() == expected.as_slice());
+    let mut slice = [0u8; 21];
+    let mut sink = SliceSink::new(&mut slice);
+    put_point(&mut sink, &point, &iso(Endianness::BigEndian))?;
+    assert!(rt; sink.written() == expected.as_slice());
+    assert!(rt; slice.as_slice() == expected.as_slice());
     Ok(())
 }
 

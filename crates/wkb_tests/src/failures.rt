@@ -3,7 +3,7 @@
 ghost use Rattle.std.specs.Prelude.{◌≡◌, false};
 
 use crate::answers::{Answer, writer_answer};
-use crate::kinds::{LITTLE, RECT, TWO_WORDS};
+use crate::kinds::{LITTLE, RECT, rect};
 use crate::sinks::{LimitedSink, LimitedWriter, Limits};
 use std::io;
 use std::test::Fail;
@@ -16,7 +16,7 @@ const ROOM: usize = 128;
 fn put<S: Sink>(sink: &mut S) -> Result<Answer, Fail>
     requires working { S.has_failed sink.old ≡ false }
 {
-    Ok(writer_answer(&write_rect(sink, &TWO_WORDS.rect()?, &LITTLE)))
+    Ok(writer_answer(&write_rect(sink, &rect()?, &LITTLE)))
 }
 
 /// What the writer returns that puts `len` bytes of the encoding into a sink, which fails with this kind of error.

@@ -2,13 +2,11 @@
 
 ghost use Rattle.std.specs.Prelude.{◌≡◌, false};
 
-use crate::answers::{Answer, size_answer, writer_answer};
 use std::alloc::Global;
-use std::io;
 use std::test::Fail;
 use wkb::Endianness;
 use wkb::error::WkbResult;
-use wkb::geom::{Dimensions, Geometry, GeometryCollection, MultiLineString, Point, Rect};
+use wkb::geom::{Dimensions, Geometry, GeometryCollection, Point, Rect};
 use wkb::writer::{
     Form, Sink, WriteOptions, geometry_collection_wkb_size, geometry_wkb_size_with,
     line_string_wkb_size, line_wkb_size, multi_line_string_wkb_size, multi_point_wkb_size,
@@ -79,39 +77,13 @@ pub const LITTLE: WriteOptions = WriteOptions {
     form: Form::Iso,
 };
 
-/// A corner of two words.
-pub const TWO_WORDS: Corner<'static> = Corner {
-    dim: Dimensions::Xy,
-    words: &[ONE, TWO],
-    origin: &[0, 0],
-};
-
-/// What size function and writer returned.
-#[derive(Clone, Copy)]
-pub struct Answers {
-    pub size: Answer,
-    pub written: Answer,
+/// The rectangle of which `RECT` is the encoding.
+pub fn rect() -> Result<Rect<'static>, Fail> {
+    rect_of(
+        coord_of(Dimensions::Xy, &[0, 0])?,
+        coord_of(Dimensions::Xy, &[ONE, TWO])?,
+    )
 }
-
-/// The words of a coordinate and those of the origin, and their dimension.
-#[derive(Clone, Copy)]
-pub struct Corner<'w> {
-    pub dim: Dimensions,
-    pub words: &'w [u64],
-    pub origin: &'w [u64],
-}
-
-impl<'w> Corner<'w> {
-    /// A rectangle from the origin.
-    pub fn rect(self) -> Result<Rect<'w>, Fail> {
-        rect_of(
-            coord_of(self.dim, self.origin)?,
-            coord_of(self.dim, self.words)?,
-        )
-    }
-}
-
-// Each test makes these calls here, so that what they take is proved once.
 
 pub fn put_point<S: Sink>(sink: &mut S, point: &Point<'_>, options: &WriteOptions) -> WkbResult<()>
     requires working { S.has_failed sink.old ≡ false }
@@ -119,51 +91,22 @@ pub fn put_point<S: Sink>(sink: &mut S, point: &Point<'_>, options: &WriteOption
     write_point(sink, point, options)
 }
 
-pub fn put_multi_line_string<S: Sink>(
-    sink: &mut S,
-    multi: &MultiLineString<'_>,
-    options: &WriteOptions,
-) -> WkbResult<()>
-    requires working { S.has_failed sink.old ≡ false }
-{
-    write_multi_line_string(sink, multi, options)
+// The size that a size function told of what a writer wrote.
+fn told(size: WkbResult<usize>, written: WkbResult<()>) -> Result<usize, Fail> {
+    written?;
+    Ok(size?)
 }
 
-/// Puts a geometry by `write_geometry`.
-pub fn put_any<S: Sink>(
-    sink: &mut S,
-    geometry: &Geometry<'_>,
-    options: &WriteOptions,
-) -> WkbResult<()>
-    requires working { S.has_failed sink.old ≡ false }
-{
-    write_geometry(sink, geometry, options)
-}
-
-/// The size of any geometry.
-pub fn any_size(geometry: &Geometry<'_>, options: &WriteOptions) -> WkbResult<usize> {
-    geometry_wkb_size_with(geometry, options)
-}
-
-/// What a size function and a writer returned.
-fn told(size: WkbResult<usize>, written: WkbResult<()>) -> Answers {
-    Answers {
-        size: size_answer(&size),
-        written: writer_answer(&written),
-    }
-}
-
-/// What `geometry_wkb_size_with` and `write_geometry` return for any geometry, little endian.
-pub fn any<S: Sink>(sink: &mut S, geometry: &Geometry<'_>) -> Answers
+fn any<S: Sink>(sink: &mut S, it: &Geometry<'_>) -> Result<usize, Fail>
     requires working { S.has_failed sink.old ≡ false }
 {
     told(
-        any_size(geometry, &LITTLE),
-        put_any(sink, geometry, &LITTLE),
+        geometry_wkb_size_with(it, &LITTLE),
+        write_geometry(sink, it, &LITTLE),
     )
 }
 
-fn collection<S: Sink>(sink: &mut S, it: &GeometryCollection<'_>) -> Answers
+fn collection<S: Sink>(sink: &mut S, it: &GeometryCollection<'_>) -> Result<usize, Fail>
     requires working { S.has_failed sink.old ≡ false }
 {
     told(
@@ -172,22 +115,17 @@ fn collection<S: Sink>(sink: &mut S, it: &GeometryCollection<'_>) -> Answers
     )
 }
 
-// What size function and writer return for a geometry of the kind, whose parts are this corner, twice if it has
-// several; of a collection the second is a line string.
-fn put_corner<S: Sink>(
-    alloc: Global,
-    sink: &mut S,
-    kind: Kind,
-    corner: Corner<'_>,
-) -> Result<Answers, Fail>
+/// Measures and puts a geometry of the kind, little endian, and returns its size. Its parts are a corner, twice if it has
+/// several; of a collection the second is a line string.
+pub fn put_kind<S: Sink>(alloc: Global, sink: &mut S, kind: Kind) -> Result<usize, Fail>
     requires working { S.has_failed sink.old ≡ false }
 {
-    let dim = corner.dim;
-    let coord = coord_of(dim, corner.words)?;
-    let point = point_of(dim, corner.words)?;
-    let line_string = line_string_of(dim, corner.words)?;
+    let (dim, words) = (Dimensions::Xy, &[ONE, TWO]);
+    let coord = coord_of(dim, words)?;
+    let point = point_of(dim, words)?;
+    let line_string = line_string_of(dim, words)?;
     let (points, rings) = ([point; 2], [line_string; 2]);
-    Ok(match kind {
+    match kind {
         Kind::Point => told(point_wkb_size(dim), put_point(sink, &point, &LITTLE)),
         Kind::LineString => told(
             line_string_wkb_size(&line_string),
@@ -208,7 +146,7 @@ fn put_corner<S: Sink>(
             let it = multi_line_string_of(dim, &rings)?;
             told(
                 multi_line_string_wkb_size(&it),
-                put_multi_line_string(sink, &it, &LITTLE),
+                write_multi_line_string(sink, &it, &LITTLE),
             )
         }
         Kind::MultiPolygon => {
@@ -223,11 +161,11 @@ fn put_corner<S: Sink>(
             let (first, second) = (Geometry::Point(point), Geometry::LineString(line_string));
             match &collection_of_two(alloc, dim, first, second)? {
                 Geometry::GeometryCollection(it) => collection(sink, it),
-                _ => return Err(Fail::new("no collection")),
+                _ => Err(Fail::new("no collection")),
             }
         }
         Kind::Rect => {
-            let it = corner.rect()?;
+            let it = rect()?;
             told(rect_wkb_size(&it), write_rect(sink, &it, &LITTLE))
         }
         Kind::Triangle => {
@@ -239,21 +177,5 @@ fn put_corner<S: Sink>(
             told(line_wkb_size(&it), write_line(sink, &it, &LITTLE))
         }
         Kind::Any => any(sink, &Geometry::Point(point)),
-    })
-}
-
-/// Measures and puts a geometry of the kind, little endian. A failed allocation is an error of its own.
-pub fn put_kind<S: Sink>(
-    alloc: Global,
-    sink: &mut S,
-    kind: Kind,
-    corner: Corner<'_>,
-) -> Result<Answers, Fail>
-    requires working { S.has_failed sink.old ≡ false }
-{
-    let answers = put_corner(alloc, sink, kind, corner)?;
-    if answers.written == Answer::Failed(io::ErrorKind::OutOfMemory) {
-        return Err(Fail::new("out of memory"));
     }
-    Ok(answers)
 }

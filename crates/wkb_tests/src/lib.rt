@@ -1,6 +1,6 @@
-//! What can't be a row of the worked cases, as tests of public calls: what outlives a geometry, cut inputs, printed
-//! texts, a caller's own geometries, sinks and writers, and the program over readers and writers that fail. The bytes
-//! and numbers that they expect were written down before the program ran.
+//! What can't be a row of the worked cases, as tests of public calls: what outlives a geometry, printed texts, sinks and
+//! writers, and the program over readers and writers that fail. The bytes and numbers that they expect were written down
+//! before the program ran. Tests that need no proof are in rust/cases.
 //!
 //! The inputs of the calls that allocate are made without an allocation, so that only those of the call under test can
 //! fail, each in turn: `checks/memory/run wkb_tests` does that. A test in which an allocation failed ends with that
@@ -16,8 +16,6 @@ mod cases;
 #[cfg(test)]
 mod clones;
 #[cfg(test)]
-mod cut_inputs;
-#[cfg(test)]
 mod each_kind;
 #[cfg(test)]
 mod equality;
@@ -26,15 +24,11 @@ mod failures;
 #[cfg(test)]
 pub mod kinds;
 #[cfg(test)]
-mod long_line;
-#[cfg(test)]
 mod printed;
 #[cfg(test)]
 mod program;
 #[cfg(test)]
 mod reading;
-#[cfg(test)]
-mod refusals;
 #[cfg(test)]
 pub mod sinks;
 #[cfg(test)]
@@ -43,5 +37,3 @@ mod views;
 mod whole;
 #[cfg(test)]
 mod without_memory;
-#[cfg(test)]
-mod writing;

@@ -1,0 +1,177 @@
+//! A caller's own geometries, as bytes, and what can't be written: then nothing is, and no sink has failed.
+
+use crate::rt::Fail;
+use crate::wkb::error::{General, Overflow, WkbError, WkbResult};
+use crate::wkb::geom::*;
+use crate::wkb::writer::*;
+use crate::wkb::Endianness;
+use crate::wkb_cases::reading::{answer_to, words, Outcome};
+use crate::wkb_cases::spelled::{bytes, Spelled};
+use crate::wkb_cases::support::*;
+use crate::wkb_tests::kinds::{LITTLE, RECT};
+use crate::wkb_tests::sinks::{LimitedSink, LimitedWriter, Limits};
+
+/// EWKB, little endian, with this SRID.
+fn ewkb(srid: Option<u32>) -> WriteOptions {
+    WriteOptions { endianness: Endianness::LittleEndian, form: Form::Ewkb { srid } }
+}
+
+fn empty_point(dim: Dimensions) -> Point<'static> {
+    Point::empty(dim).unwrap()
+}
+
+/// The encoding of a geometry, which is as long as its size function says.
+fn encoding_of(geometry: &Geometry<'_>) -> Result<Vec<u8>, Fail> {
+    let encoding = written(geometry)?;
+    assert_eq!(geometry_wkb_size_with(geometry, &LITTLE)?, encoding.len());
+    Ok(encoding)
+}
+
+// The cases empty-point, written-nans and ewkb-empty, and of unknown-dimensions the dimensions with a name.
+#[test]
+fn points() -> Result<(), Fail> {
+    let nans = [0xfff8_0000_0000_0001; 2];
+    for (point, options, text) in [
+        (empty_point(Dimensions::Xy), LITTLE, "01 01000000 000000000000f87f 000000000000f87f"),
+        (point_of(Dimensions::Xy, &nans)?, LITTLE, "01 01000000 010000000000f8ff 010000000000f8ff"),
+        (empty_point(Dimensions::Xyz), ewkb(None), "01 01000080 000000000000f87f 000000000000f87f 000000000000f87f"),
+        (point_of(Dimensions::Unknown(2), &[ONE, TWO])?, LITTLE, "01 01000000 P"),
+        (point_of(Dimensions::Unknown(3), &[ONE, TWO, THREE])?, LITTLE, "01 e9030000 P 0000000000000840"),
+        (
+            point_of(Dimensions::Unknown(4), &[ONE, TWO, THREE, 0])?,
+            LITTLE,
+            "01 b90b0000 P 0000000000000840 0000000000000000",
+        ),
+    ] {
+        let mut sink = VecSink::new();
+        write_point(&mut sink, &point, &options)?;
+        assert_eq!(sink.into_vec().as_slice(), bytes(text)?.as_slice());
+    }
+    Ok(())
+}
+
+// The cases rect-sizes and ewkb-sizes. Of corners past Xy, x and y alone are written.
+#[test]
+fn rects() -> Result<(), Fail> {
+    for (dim, min, max) in [
+        (Dimensions::Xy, &[0, 0][..], &[ONE, TWO][..]),
+        (Dimensions::Xyz, &[0, 0, THREE], &[ONE, TWO, THREE]),
+        (Dimensions::Xym, &[0, 0, THREE], &[ONE, TWO, ONE]),
+        (Dimensions::Xyzm, &[0, 0, THREE, ONE], &[ONE, TWO, THREE, TWO]),
+        (Dimensions::Unknown(4), &[0, 0, ONE, ONE], &[ONE, TWO, TWO, TWO]),
+    ] {
+        let rect = rect_of(coord_of(dim, min)?, coord_of(dim, max)?)?;
+        let mut sink = VecSink::new();
+        write_rect(&mut sink, &rect, &LITTLE)?;
+        assert_eq!(sink.into_vec().as_slice(), bytes(RECT)?.as_slice());
+        let size = |options| geometry_wkb_size_with(&Geometry::Rect(rect), &options).unwrap();
+        assert_eq!((rect_wkb_size(&rect)?, size(ewkb(Some(4326))), size(ewkb(None))), (93, 97, 93));
+    }
+    Ok(())
+}
+
+// Of the case line-triangle the collection.
+#[test]
+fn line_and_rect() -> Result<(), Fail> {
+    let (origin, corner) = (coord_of(Dimensions::Xy, &[0, 0])?, coord_of(Dimensions::Xy, &[ONE, TWO])?);
+    let (line, rect) = (Geometry::Line(line_of(corner, corner)?), Geometry::Rect(rect_of(origin, corner)?));
+    let encoding = encoding_of(&collection_of_two(Dimensions::Xy, line, rect)?)?;
+    let mut expected = bytes("01 07000000 02000000 01 02000000 02000000 P P")?;
+    expected.spell(RECT)?;
+    assert_eq!(encoding.as_slice(), expected.as_slice());
+    assert_eq!(encoding.len(), 143);
+    Ok(())
+}
+
+// The case line-plain.
+#[test]
+fn line_strings() -> Result<(), Fail> {
+    let line = line_string_of(Dimensions::Xyz, &[ONE, TWO, THREE, 4, 5, 6])?;
+    let coords: Vec<_> = (0..3).map(|i| line.coord(i).map(|it| words(&it))).collect();
+    assert_eq!(coords, [Some((Some(ONE), Some(TWO), Some(THREE))), Some((Some(4), Some(5), Some(6))), None]);
+    assert_eq!((line.num_coords(), line_string_of(Dimensions::Xyz, &[])?.num_coords()), (2, 0));
+    assert!(LineString::new(Dimensions::Xyz, &[0; 7]).is_none());
+    assert!(LineString::new(Dimensions::Unknown(0), &[]).is_none());
+    Ok(())
+}
+
+// The case plain-129: what is written is too deep to be read.
+#[test]
+fn nested() -> Result<(), Fail> {
+    let mut geometry = Geometry::Point(point_of(Dimensions::Xy, &[ONE, TWO])?);
+    for _level in 0..129 {
+        geometry = Geometry::GeometryCollection(GeometryCollection::new(Dimensions::Xy, vec![geometry]));
+    }
+    let encoding = encoding_of(&geometry)?;
+    assert_eq!(encoding.len(), 1182);
+    assert!(answer_to(&encoding) == Outcome::TooDeep(128));
+    Ok(())
+}
+
+/// Whether a point of five words is the reason.
+fn is_refused<T>(answer: WkbResult<T>) -> bool {
+    matches!(answer, Err(WkbError::General(General::UnsupportedDimensions(5))))
+}
+
+/// Tries a point of five words over a sink, which has to reject it and not to fail.
+fn refuses<S: Sink>(mut sink: S) -> Result<S, Fail> {
+    let point = Geometry::Point(point_of(Dimensions::Unknown(5), &[ONE, TWO, 0, 0, 0])?);
+    assert!(is_refused(geometry_wkb_size_with(&point, &LITTLE)));
+    assert!(is_refused(write_geometry(&mut sink, &point, &LITTLE)));
+    assert!(!sink.failed());
+    Ok(sink)
+}
+
+#[test]
+fn unknown_dimensions() -> Result<(), Fail> {
+    assert!(refuses(VecSink::new())?.into_vec().is_empty());
+    let mut room = [7; 128];
+    assert_eq!(refuses(SliceSink::new(&mut room))?.len(), 0);
+    assert_eq!(room, [7; 128]);
+    assert_eq!(refuses(Out::new(Spelled::new()))?.into_inner().len(), 0);
+    assert_eq!(refuses(Out::new(LimitedWriter::new(usize::MAX, Some(1))))?.into_inner().writes, 0);
+    for (puts, most) in [(0, 128), (128, 0), (128, 1)] {
+        assert_eq!(refuses(LimitedSink::new(Limits { puts, most, room: 128 }))?.taken.len(), 0);
+    }
+    let members = [Dimensions::Xy, Dimensions::Unknown(5)].map(|dim| Geometry::Point(empty_point(dim)));
+    let both = Geometry::GeometryCollection(GeometryCollection::new(Dimensions::Xy, members.into()));
+    assert!(is_refused(geometry_wkb_size_with(&both, &LITTLE)));
+    let mut sink = VecSink::new();
+    assert!(is_refused(write_geometry(&mut sink, &both, &LITTLE)));
+    assert!(!sink.failed() && sink.into_vec().is_empty());
+    Ok(())
+}
+
+/// A line string at the origin, of more coordinates than four bytes can count.
+struct LongLine;
+
+impl Dimensioned for LongLine {
+    fn dim(&self) -> Dimensions {
+        Dimensions::Xy
+    }
+}
+
+impl LineStringTrait for LongLine {
+    type CoordType = Coord<'static>;
+
+    fn num_coords(&self) -> usize {
+        1 << 32
+    }
+
+    fn coord(&self, _: usize) -> Option<Coord<'static>> {
+        Coord::new(Dimensions::Xy, &[0, 0])
+    }
+
+    fn coord_at(&self, i: usize) -> Coord<'static> {
+        self.coord(i).unwrap()
+    }
+}
+
+#[test]
+fn long_line() {
+    let mut sink = VecSink::new();
+    assert!(matches!(line_string_wkb_size(&LongLine), Err(WkbError::OverflowError(Overflow::Count))));
+    let written = write_line_string(&mut sink, &LongLine, &LITTLE);
+    assert!(matches!(written, Err(WkbError::OverflowError(Overflow::Count))));
+    assert!(!sink.failed() && sink.into_vec().is_empty());
+}
