@@ -117,22 +117,12 @@ module _ {l : Levels} {d : Dimensions} {i : ℕ} {singles : List (List (List (Li
       let cs = joined (joined singles) in
       let held : coordinates_in d (joined cs) ≡ cs =
       rw (joined_length (size d) cs h.wide, mul-div_cancel_left (length cs) h.some_words)
-      (runs_held (size d) cs h.wide) in
-      record {
-        many = h.coordinates;
-        within = omega (arith, within, length-runs (size d) (length l.words.now / size d) l.words.now);
-        are =
-            sym (coordinates_between d l.words.now (coordinates_begin l i) (coordinates_end l i) h.some_words
-            (omega (arith, h.coordinates)) within)
-            ∙ ap (coordinates_in d) h.words.are ∙ held;
-      }
+      (runs_held (size d) cs h.wide) in grind (arith, within, length-runs, coordinates_between)
 
   rings_are : HoldsItems (column_rings l d) (rings_begin l i) (rings_end l i) (joined singles)
   rings_are = record {
     many = h.rings;
-    within =
-        rw (length-pieces 0 (coordinates_in d l.words.now) (start_of l.ring_ends) (ends_of l.ring_ends))
-        h.ring_ends.within;
+    within = grind (arith, length-pieces);
     are =
         sym (slice_range-pieces 0 (coordinates_in d l.words.now) (start_of l.ring_ends) (ends_of l.ring_ends)
         (rings_begin l i) (rings_end l i) (omega (arith, h.ring_ends.many, h.ring_ends.within)))
@@ -144,8 +134,7 @@ module _ {l : Levels} {d : Dimensions} {i : ℕ} {singles : List (List (List (Li
   -- they are the row's singles
   pub singles_are : singles_of l d i ≡ singles
   singles_are =
-      sym (slice_range-pieces 0 (column_rings l d) (start_of l.single_ends) (ends_of l.single_ends)
-      (row_begin l i) (row_end l i) (omega (arith, h.single_ends.many, h.single_ends.within)))
+      sym (grind (arith, slice_range-pieces))
       ∙ ap (pieces_from 0 (column_rings l d) (rings_begin l i)) h.single_ends.are
       ∙ pieces_held singles (column_rings l d) (rings_begin l i) (rings_end l i) rings_are
 
