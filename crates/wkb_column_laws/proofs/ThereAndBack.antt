@@ -9,14 +9,13 @@ use Rattle.wkb_abi.proofs.Common.{ℕ, suc, ◌+◌, ◌*◌, ◌≤◌, ◌<◌
 use Rattle.std.proofs.Common.{take-append-drop, ◌-◌, take, sum, flat_map, slice_range}
 use Rattle.std.proofs.lemmas.Bool.Decides.{nat_tests}
 use Rattle.std.proofs.lemmas.List.{length-map}
-use Rattle.wkb_laws.specs.Prelude.{as_dimensions, Front, AreBytes, Ewkb}
+use Rattle.wkb_laws.specs.Prelude.{as_dimensions, Front, AreBytes}
 use Rattle.wkb_laws.proofs.Lengths.{named_width, width-least}
 use Rattle.wkb_laws.proofs.OneFront.{one_front_lem}
 use Rattle.wkb_laws.proofs.Values.{front_bytes, AreBytes-front, AreBytes-rest}
 use Rattle.wkb_levels.proofs.Pieces.{length-range}
 use Rattle.wkb_levels.specs.Columns.{IsClear, singles_of}
 use Rattle.wkb_levels.specs.Meant.{kind_meant}
-use Rattle.wkb_levels.specs.RowWrites.{HasRowEncoding}
 use Rattle.wkb_abi.specs.Columns.{is_unset_bit}
 use Rattle.wkb_abi.specs.Coordinates.{ends, ring_counts, Level, of_words, of_rings, of_singles, many_in, HoldLevels}
 use Rattle.wkb_abi.specs.LevelRows.{HasLevelEncoding, LacksLevels, null_row, unknown, unfit}
@@ -171,8 +170,7 @@ module _ {row rest : List ℕ} {s : Spelling} {t : Value} (front : Front row s t
   requested (OwnSrid order) none bytes is =
       let one = one_front_lem row is.s s is.t t is.rest rest is.front front in
       let srid : (header is.s).srid ≡ None = ap (λ z. (header z).srid) one.1 ∙ none order refl in
-      is.written ∙ (λ k. encoding order (Ewkb (srid k)) (geometry_of (one.2 k)))
-      ∙ sym (same_encoding order (Ewkb None) s t empty)
+      grind (arith, same_encoding)
 
 -- what a call tells of a row that has an encoding, which is its only one
 answered : {l : LevelColumn} {asked : Option LevelTarget} {i status start end : ℕ} {out encoding : List ℕ}
@@ -185,8 +183,7 @@ answered has (failed (null_row null is_status) end_is) = absurd cc
 answered has (failed (unknown present none is_status) end_is) = absurd cc
 answered {l} {i = i} {encoding = encoding} has (failed (unfit present t is_asked differ is_status) end_is) =
     let same : has.target ≡ t = cc in
-    absurd (differ encoding (subst (λ t. HasRowEncoding (levels_in l) t.kind t.dim t.options i encoding) same
-    has.encoding))
+    absurd (differ encoding (grind arith))
 
 -- both together
 pub there_and_back : ThereAndBack

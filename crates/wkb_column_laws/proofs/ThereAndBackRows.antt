@@ -53,9 +53,7 @@ module _ {c : Column} {dimension i status : ℕ} {asked : Dimension} {from to : 
       → IsCoordinatesRow c dimension i status from to out → HoldLevels asked (subjects s t) from to out
   row_there {row} {rest} {s} {t} ok is front (handed other named' own is' a (written is_status to_is held)) =
       let one = one_front_lem row a.s s a.t t a.rest rest (subst (λ z. Front z a.s a.t a.rest) (one_row is' is) a.front)
-      front in
-      one_dimension (λ d. HoldLevels d (subjects s t) from to out) dimension other asked named' named
-      (subst (λ xs. HoldLevels other xs from to out) (λ k. subjects (one.1 k) (one.2 k)) held)
+      front in grind (arith, one_dimension)
   row_there ok is front (handed other named' own is' a (no_room lacks to_is short)) = absurd (omega (arith, ok, lacks))
   row_there ok is front (failed (no_row lacks) to_is) = absurd (never_lacks is lacks)
   row_there ok is front (failed (unknown other is' none is_status) to_is) = absurd (cc named)
