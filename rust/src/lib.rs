@@ -27,27 +27,11 @@ mod views;
 pub mod writer;
 
 mod wkb; // A clone has these modules once tools/erase has made them.
-#[allow(clippy::all, unused_imports)]
-mod wkb_abi {
-    pub mod column;
-    pub mod fault;
-    pub mod level_slices;
-    pub mod parts;
-    pub mod status;
-    pub mod totals;
-}
+mod wkb_abi;
 mod wkb_bounds;
-#[allow(clippy::all, unused_imports)]
-mod wkb_c {
-    pub mod column_bounds;
-    pub mod column_check;
-    pub mod column_coordinates;
-}
+mod wkb_c;
 mod wkb_check;
-#[allow(clippy::all, unused_imports)]
-mod wkb_clients {
-    pub mod geopackage;
-}
+mod wkb_clients;
 mod wkb_geom;
 mod wkb_levels;
 mod wkb_plain;

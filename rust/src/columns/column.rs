@@ -8,9 +8,7 @@ use crate::rt::{try_filled, TryCopy};
 use crate::wkb_abi::column::{found_in, Column as Raw};
 use crate::wkb_abi::level_slices::LevelSlices;
 use crate::wkb_abi::totals::Totals;
-use crate::wkb_c::column_bounds::wkb_raw_column_bounds;
-use crate::wkb_c::column_check::wkb_raw_column_check;
-use crate::wkb_c::column_coordinates::wkb_raw_column_coordinates;
+use crate::wkb_c::{wkb_raw_column_bounds, wkb_raw_column_check, wkb_raw_column_coordinates};
 use crate::wkb_geom::header::SRID_SIZE;
 use crate::writer::{Form, WriteOptions};
 use crate::{AllocError, Endianness};
@@ -163,7 +161,7 @@ impl<'a> Column<'a> {
 
     fn write_by(&self, options: impl Fn(&Summary) -> WriteOptions) -> Result<Encodings, AllocError> {
         // An encoding is at most an SRID longer than its row, and rows with bytes don't overlap.
-        let room = self.rows().filter_map(Result::ok).map(|it| it.len() + SRID_SIZE).sum();
+        let room = self.rows().flatten().map(|it| it.len() + SRID_SIZE).sum();
         let (mut data, mut at, mut reach) = (try_filled(0, room)?, 0, 0);
         let (mut ends, mut statuses) = (try_filled(0, self.len())?, try_filled(Status::OK, self.len())?);
         for (i, (end, status)) in ends.iter_mut().zip(&mut statuses).enumerate() {
