@@ -1,13 +1,12 @@
 // SPDX-License-Identifier: MIT OR Apache-2.0
 //! What views and bounds have beside the proved calls: iterators over parts, numbers of envelopes, and copies.
 use crate::check::{Bounds, Range};
-use crate::geom::{self, MultiLineStringTrait, MultiPointTrait, MultiPolygonTrait, PolygonTrait};
+use crate::geom::{MultiLineStringTrait, MultiPointTrait, MultiPolygonTrait, PolygonTrait};
 use crate::reader::{
     Coord, GeometryCollection, LineString, LinearRing, MultiLineString, MultiPoint, MultiPolygon, Point, Polygon, Wkb,
 };
 use crate::TryClone;
 use alloc::alloc::{handle_alloc_error, Layout};
-use core::fmt;
 
 macro_rules! coords {
     ($($view:ident)*) => {$(
@@ -57,30 +56,6 @@ macro_rules! clones {
 }
 
 clones! { Polygon MultiLineString MultiPolygon GeometryCollection Wkb }
-
-impl fmt::Debug for geom::Geometry<'_> {
-    fn fmt(&self, f: &mut fmt::Formatter<'_>) -> fmt::Result {
-        match self {
-            geom::Geometry::Point(it) => it.fmt(f),
-            geom::Geometry::LineString(it) => it.fmt(f),
-            geom::Geometry::Polygon(it) => it.fmt(f),
-            geom::Geometry::MultiPoint(it) => it.fmt(f),
-            geom::Geometry::MultiLineString(it) => it.fmt(f),
-            geom::Geometry::MultiPolygon(it) => it.fmt(f),
-            geom::Geometry::GeometryCollection(it) => it.fmt(f),
-            geom::Geometry::Rect(it) => it.fmt(f),
-            geom::Geometry::Triangle(it) => it.fmt(f),
-            geom::Geometry::Line(it) => it.fmt(f),
-        }
-    }
-}
-
-impl fmt::Debug for geom::GeometryCollection<'_> {
-    fn fmt(&self, f: &mut fmt::Formatter<'_>) -> fmt::Result {
-        f.write_str("GeometryCollection ")?;
-        f.debug_list().entries(geom::GeometryCollectionTrait::geometries(self)).finish()
-    }
-}
 
 impl Range {
     /// The least number; infinity where there is none.

@@ -15,7 +15,7 @@ use wkb_plain::{
 
 /// A plain geometry of any kind.
 #[cycle(geometry)]
-#[derive(Drop)]
+#[derive(Debug, Drop)]
 pub enum Geometry<'w> {
     /// A point.
     Point(Point<'w>),
@@ -42,6 +42,7 @@ pub enum Geometry<'w> {
 /// Geometries of any kinds and dimensions. It holds the list of its members, and so is neither
 /// `Copy` nor `Clone`.
 #[cycle(geometry)]
+#[derive(Debug)]
 pub struct GeometryCollection<'w> {
     dim: Dimensions,
     members: Vec<Geometry<'w>>,
