@@ -8,19 +8,6 @@ use crate::AllocError;
 use alloc::vec::Vec;
 
 /// What occurs in the rows of a column. Of rows that are no geometries only the numbers are kept.
-///
-/// ```
-/// use porchsorrel_wkb::check::WkbType;
-/// use porchsorrel_wkb::columns::Rows;
-/// use porchsorrel_wkb::reader::Dimension;
-///
-/// let point = [1, 1, 0, 0, 0, 0, 0, 0, 0, 0, 0, 0xf0, 0x3f, 0, 0, 0, 0, 0, 0, 0, 0x40];
-/// let facts = Rows::of([Some(&point[..]), None, Some(&point[..20])])?.column().facts()?;
-/// assert_eq!((facts.rows, facts.accepted, facts.null_rows, facts.refused), (3, 1, 1, 1));
-/// assert_eq!(facts.types, [(WkbType::Point(Dimension::Xy), 1)]);
-/// assert_eq!((facts.bounds.x.min(), facts.bounds.y.max()), (1.0, 2.0));
-/// # Ok::<(), porchsorrel_wkb::AllocError>(())
-/// ```
 #[derive(Clone, Debug, Default, PartialEq, Eq, Hash)]
 pub struct Facts {
     /// How many rows there are.
