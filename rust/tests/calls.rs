@@ -1,7 +1,6 @@
 // SPDX-License-Identifier: MIT OR Apache-2.0
 //! What users meet first: a program in the manner of the crate `wkb`, errors and their texts, and iterators of views.
-use porchsorrel_wkb::canon::{canonical, same};
-use porchsorrel_wkb::check::{bounds, check, Refused, WkbType};
+use porchsorrel_wkb::check::{check, Refused, WkbType};
 use porchsorrel_wkb::columns::{Encodings, Facts, Levels, NotCollected, Status};
 use porchsorrel_wkb::error::{General, Overflow, WkbError};
 use porchsorrel_wkb::geom::{self, Coord, PointTrait, PolygonTrait};
@@ -38,10 +37,6 @@ fn a_program_for_upstream() -> Result<(), Box<dyn std::error::Error>> {
     assert_eq!(slice[..], output);
     let full = write_geometry(&mut &mut slice[..20], &wkb, &options).unwrap_err();
     assert!(matches!(full, WkbError::IOError(why) if why.kind() == std::io::ErrorKind::WriteZero));
-    match read_wkb(&output[..20]) {
-        Ok(_) => panic!("a point without its end"),
-        Err(why) => println!("{why}"),
-    }
     Ok(())
 }
 
@@ -49,23 +44,18 @@ fn a_program_for_upstream() -> Result<(), Box<dyn std::error::Error>> {
 #[test]
 fn copies_and_keys() {
     #[derive(Clone, Debug)]
-    struct Row<'a>(Wkb<'a>, geom::Dimensions);
+    struct Row<'a>(Wkb<'a>);
     let polygon = b"\x01\x03\0\0\0\x01\0\0\0\0\0\0\0".as_slice();
     let lines = b"\x01\x05\0\0\0\x01\0\0\0\x01\x02\0\0\0\0\0\0\0";
     let polygons = [b"\x01\x06\0\0\0\x01\0\0\0", polygon].concat();
     let all = [b"\x01\x07\0\0\0\x04\0\0\0", POINT, polygon, lines, &polygons].concat();
-    let row = Row(read_wkb(&all).unwrap(), geom::Dimensions::Xy);
+    let row = Row(read_wkb(&all).unwrap());
     assert_eq!((row.clone().0.buf(), format!("{:?}", row.clone())), (&all[..], format!("{row:?}")));
 
     let types = [WkbType::Point(Dimension::Xy), WkbType::Point(Dimension::Xyz), WkbType::Point(Dimension::Xy)];
     assert_eq!(types.iter().collect::<std::collections::HashSet<_>>().len(), 2);
     fn is_key<K: std::hash::Hash + Eq>(_: K) {}
-    is_key((WriteOptions::default(), Facts::default(), Encodings::default(), Status::OK, AllocError));
-
-    let point = geom::Point::empty(row.1).unwrap();
-    let own = geom::GeometryCollection::new(row.1, vec![geom::Geometry::Point(point)]);
-    let printed = format!("{:?}", geom::Geometry::GeometryCollection(own));
-    assert_eq!(printed, format!("GeometryCollection [{point:?}]"));
+    is_key((WriteOptions::default(), Facts::default(), Encodings::default(), Status::OK, AllocError, Dimensions::Xy));
 }
 
 /// A writer that is interrupted before each write, and then takes one byte.
@@ -101,22 +91,6 @@ fn errors_are_errors() {
     is_error::<Refused>();
     is_error::<NotCollected>();
     is_error::<NoHeader>();
-    fn all(bytes: &[u8]) -> Result<(), Box<dyn std::error::Error>> {
-        check(bytes)?;
-        bounds(bytes)?;
-        canonical(bytes, &WriteOptions::default())?;
-        same(bytes, bytes)?;
-        read_wkb(bytes)?;
-        Ok(())
-    }
-    all(POINT).unwrap();
-    let text = "the input ends inside a point, at byte 0 (part 0): it needs 21 bytes and has 20";
-    assert_eq!(all(&POINT[..20]).unwrap_err().to_string(), text);
-    fn as_read(bytes: &[u8]) -> Result<WkbType, WkbError> {
-        Ok(check(bytes)?.wkb_type)
-    }
-    assert_eq!(as_read(POINT).unwrap(), WkbType::Point(Dimension::Xy));
-    assert_eq!(as_read(b"\x02").unwrap_err().to_string(), read_wkb(b"\x02").unwrap_err().to_string());
 }
 
 /// Why an input isn't read, and what its header of a GeoPackage says.
@@ -262,51 +236,37 @@ fn sizes_that_usize_may_not_hold() {
     }
 }
 
-/// Iterators go from both ends, and know how long they are; numbers have the bits of words.
+/// Generic calls return the numbers that the view's own return, which have the bits of words; iterators go from both
+/// ends, and know how long they are; and an index that isn't below its count returns nothing else, even if its product
+/// with a size is no `usize`.
 #[test]
-fn views() {
-    let mut line = b"\x01\xba\x0b\0\0\x03\0\0\0".to_vec();
-    line.extend((1..=12).flat_map(|it| f64::from(it).to_le_bytes()));
-    let wkb = read_wkb(&line).unwrap();
-    let line = match wkb.as_type() {
-        GeometryType::LineString(line) => line,
-        _ => panic!("no line string"),
-    };
-    let mut coords = line.coords();
-    assert_eq!((coords.len(), coords.next_back().map(|it| it.x_y())), (3, Some((9.0, 10.0))));
-    assert_eq!((coords.next().map(|it| it.x_y()), coords.len()), (Some((1.0, 2.0)), 1));
-    let coord = line.coord(1).unwrap();
-    assert_eq!([0, 1, 2, 3, 4].map(|n| coord.nth(n)), [Some(5.0), Some(6.0), Some(7.0), Some(8.0), None]);
-    assert_eq!([0, 3].map(|n| coord.nth_word(n)), [5.0, 8.0].map(|it: f64| Some(it.to_bits())));
-}
-
-/// A generic call returns the numbers that the view's own returns; and an index that isn't below its count returns
-/// nothing else, even if its product with a size is no `usize`.
-#[test]
-fn indices_that_are_none() {
+fn coordinates_of_views() {
     fn sum<L: LineStringTrait>(line: &L) -> f64 {
-        (0..line.num_coords()).map(|i| line.coord_at(i).x() + line.coord_at(i).nth_or_panic(1)).sum()
+        (0..line.num_coords()).map(|i| line.coord_at(i).x() + line.coord_at(i).nth_or_panic(3)).sum()
     }
     fn panics<T>(call: impl FnOnce() -> T) -> bool {
         std::panic::catch_unwind(std::panic::AssertUnwindSafe(call)).is_err()
     }
-    let bytes = [&b"\x01\x02\0\0\0\x02\0\0\0"[..], &[1.0, 2.0, 3.0, 4.0].map(f64::to_le_bytes).concat()].concat();
-    let wkb = read_wkb(&bytes).unwrap();
-    let line = match wkb.as_type() {
-        GeometryType::LineString(line) => line,
-        _ => panic!("no line string"),
+    let words: Vec<u64> = (1..=16).map(|it| f64::from(it).to_bits()).collect();
+    let coords: Vec<u8> = words.iter().flat_map(|it| it.to_le_bytes()).collect();
+    let (line, polygon) = (b"\x01\xba\x0b\0\0\x04\0\0\0", b"\x01\xbb\x0b\0\0\x01\0\0\0\x04\0\0\0");
+    let (line, polygon) = ([&line[..], &coords].concat(), [&polygon[..], &coords].concat());
+    let (line, polygon) = (read_wkb(&line).unwrap(), read_wkb(&polygon).unwrap());
+    let (line, ring) = match (line.as_type(), polygon.as_type()) {
+        (GeometryType::LineString(line), GeometryType::Polygon(polygon)) => (line, polygon.exterior().unwrap()),
+        _ => panic!("no line string or no polygon"),
     };
-    let polygon = [&b"\x01\x03\0\0\0\x01\0\0\0"[..], &bytes[5..]].concat();
-    let polygon = read_wkb(&polygon).unwrap();
-    let ring = match polygon.as_type() {
-        GeometryType::Polygon(polygon) => polygon.exterior().unwrap(),
-        _ => panic!("no polygon"),
-    };
-    let words = [1.0, 2.0, 3.0, 4.0].map(f64::to_bits);
-    let own = geom::LineString::new(Dimensions::Xy, &words).unwrap();
-    assert_eq!((sum(line), sum(&ring), sum(&own)), (10.0, 10.0, 10.0));
-    let (coord, own_coord) = (line.coord(0).unwrap(), own.coord(0).unwrap());
-    for i in (1..usize::BITS).map(|shift| 1_usize << shift).flat_map(|it| [it, it + 1, usize::MAX - it + 1]) {
+    let own = geom::LineString::new(Dimensions::Xyzm, &words).unwrap();
+    assert_eq!((sum(line), sum(&ring), sum(&own)), (68.0, 68.0, 68.0));
+
+    let mut coords = line.coords();
+    assert_eq!((coords.len(), coords.next_back().map(|it| it.x_y())), (4, Some((13.0, 14.0))));
+    assert_eq!((coords.next().map(|it| it.x_y()), coords.len()), (Some((1.0, 2.0)), 2));
+    let (coord, own_coord) = (line.coord(1).unwrap(), own.coord(1).unwrap());
+    assert_eq!([0, 1, 2, 3, 4].map(|n| coord.nth(n)), [Some(5.0), Some(6.0), Some(7.0), Some(8.0), None]);
+    assert_eq!([0, 3].map(|n| coord.nth_word(n)), [5.0, 8.0].map(|it: f64| Some(it.to_bits())));
+
+    for i in (2..usize::BITS).map(|shift| 1_usize << shift).flat_map(|it| [it, it + 1, usize::MAX - it + 1]) {
         assert!(line.coord(i).is_none() && ring.coord(i).is_none() && own.coord(i).is_none());
         assert_eq!((coord.nth_word(i), own_coord.nth_word(i), coord.nth(i)), (None, None, None));
         if cfg!(panic = "unwind") {

@@ -1,15 +1,18 @@
 // SPDX-License-Identifier: MIT OR Apache-2.0
-//! The inputs of c/test/lasting.rows, whose answers are those of a model (`checks/library/lasting --help`): one by one,
-//! by each way of writing, and as a column with null rows; and with faults, where each target has to answer alike.
+//! The inputs of c/test/lasting.rows: one by one, by each way of writing, and as a column with null rows; and with faults,
+//! where each target has to answer alike.
 use porchsorrel_wkb::canon::{canonical, canonical_into, canonical_with_srid, same};
 use porchsorrel_wkb::check::{bounds, check, Bounds, Cause, Refused, Summary, WkbType};
 use porchsorrel_wkb::columns::*;
 use porchsorrel_wkb::error::General;
 use porchsorrel_wkb::geom::{CoordTrait, GeometryTrait, GeometryType, PointTrait, PolygonTrait};
 use porchsorrel_wkb::parts::{parts, parts_before};
-use porchsorrel_wkb::reader::{read_wkb, Dimension, LineString, LinearRing, Point, Polygon, Wkb};
-use porchsorrel_wkb::writer::{to_vec, write_geometry, write_to_slice, Form, Out, SliceSink, VecSink, WriteOptions};
-use porchsorrel_wkb::Endianness;
+use porchsorrel_wkb::reader::{read_wkb, Dimension, Polygon, Wkb};
+use porchsorrel_wkb::writer::{to_vec, write_geometry, write_to_slice, Out, SliceSink, VecSink, WriteOptions};
+
+#[path = "shared/lasting.rs"]
+mod shared;
+use shared::{options, rows, summed, Row, ORDERS};
 
 const TYPES: [fn(Dimension) -> WkbType; 7] = [
     WkbType::Point,
@@ -21,44 +24,6 @@ const TYPES: [fn(Dimension) -> WkbType; 7] = [
     WkbType::GeometryCollection,
 ];
 const DIMENSIONS: [Dimension; 4] = [Dimension::Xy, Dimension::Xyz, Dimension::Xym, Dimension::Xyzm];
-const ORDERS: [Endianness; 2] = [Endianness::BigEndian, Endianness::LittleEndian];
-
-/// An input, and the numbers of its answer: its status, what is found or the fault, and sums of what is written under
-/// each option, of the bounds, of the parts and of the levels.
-struct Row {
-    input: Vec<u8>,
-    status: u8,
-    fields: Vec<u64>,
-    sums: Vec<u32>,
-}
-
-fn row(line: &str) -> Row {
-    let mut words = line.split(' ');
-    let digits = words.next().unwrap();
-    let byte = |i| u8::from_str_radix(&digits[i..i + 2], 16).unwrap();
-    let input = (0..digits.len()).step_by(2).map(byte).collect();
-    let status = words.next().unwrap().parse().unwrap();
-    let fields = words.by_ref().take(if status == 0 { 11 } else { 5 });
-    let fields = fields.map(|it| it.parse().unwrap()).collect();
-    Row { input, status, fields, sums: words.map(|it| u32::from_str_radix(it, 16).unwrap()).collect() }
-}
-
-fn rows() -> Vec<Row> {
-    let lines = include_str!("../../c/test/lasting.rows").lines();
-    let rows: Vec<Row> = lines.filter(|it| !it.starts_with('#')).map(row).collect();
-    assert_eq!(rows.iter().filter(|it| it.sums.len() >= 11).count(), 672);
-    rows
-}
-
-fn options(number: usize, own: Option<u32>) -> WriteOptions {
-    let form = match number % 4 {
-        0 => Form::Iso,
-        1 => Form::Ewkb { srid: own },
-        2 => Form::Ewkb { srid: Some(4326) },
-        _ => Form::Ewkb { srid: None },
-    };
-    WriteOptions { endianness: ORDERS[number / 4], form }
-}
 
 impl Row {
     fn found(&self) -> Summary {
@@ -73,11 +38,6 @@ impl Row {
         }
     }
 
-    /// The options of a sum.
-    fn options(&self, number: usize) -> WriteOptions {
-        options(number, self.found().srid)
-    }
-
     fn has_refused(&self, why: &Refused) -> bool {
         let code = match why.cause {
             Cause::General(General::CodeOutOfRange(code)) => code,
@@ -87,11 +47,6 @@ impl Row {
         let fields = [why.part as u64, why.offset as u64, end, len as u64, code.into()];
         (why.status().number(), why.ends().is_some(), &fields[..]) == (self.status, self.status >= 48, &self.fields)
     }
-}
-
-/// FNV-1a in 32 bits.
-fn summed(bytes: &[u8]) -> u32 {
-    bytes.iter().fold(0x811c_9dc5, |sum, byte| (sum ^ u32::from(*byte)).wrapping_mul(0x0100_0193))
 }
 
 fn sum_of(bounds: &Bounds) -> u32 {
@@ -170,32 +125,16 @@ fn members<'a>(wkb: &Wkb<'a>) -> Option<Vec<&'a [u8]>> {
     }
 }
 
-fn walk_point(point: &Point<'_>, found: &mut Vec<f64>) {
-    let (x, y) = point.coord().map_or((f64::NAN, f64::NAN), |it| it.x_y());
-    found.extend([x, y]);
-}
-
-fn walk_line(line: &LineString<'_>, found: &mut Vec<f64>) {
-    found.extend(line.coords().flat_map(|it| [it.x(), it.y()]));
-}
-
-fn walk_polygon(polygon: &Polygon<'_>, found: &mut Vec<f64>) {
-    let mut walk = |ring: LinearRing<'_>| found.extend(ring.coords().flat_map(|it| [0, 1].map(|n| it.nth(n).unwrap())));
-    polygon.exterior().into_iter().for_each(&mut walk);
-    polygon.interiors().for_each(walk);
-}
-
 /// The numbers of all coordinates, by the iterators of views.
 fn walk(wkb: &Wkb<'_>, found: &mut Vec<f64>) {
     match wkb.as_type() {
-        GeometryType::Point(it) => walk_point(it, found),
-        GeometryType::LineString(it) => walk_line(it, found),
-        GeometryType::Polygon(it) => walk_polygon(it, found),
-        GeometryType::MultiPoint(all) => all.points().for_each(|it| walk_point(&it, found)),
-        GeometryType::MultiLineString(all) => all.line_strings().for_each(|it| walk_line(&it, found)),
-        GeometryType::MultiPolygon(all) => all.polygons().for_each(|it| walk_polygon(it, found)),
-        GeometryType::GeometryCollection(all) => all.iter().for_each(|it| walk(it, found)),
-        _ => unreachable!("no view is another geometry"),
+        GeometryType::Point(it) => found.extend(it.coord().map_or([f64::NAN; 2], |it| [it.x(), it.y()])),
+        GeometryType::LineString(it) => found.extend(it.coords().flat_map(|it| [it.x(), it.y()])),
+        GeometryType::Polygon(it) => {
+            let rings = it.exterior().into_iter().chain(it.interiors());
+            rings.for_each(|it| found.extend(it.coords().flat_map(|it| [0, 1].map(|n| it.nth(n).unwrap()))));
+        }
+        _ => members(wkb).unwrap().into_iter().for_each(|it| walk(&read_wkb(it).unwrap(), found)),
     }
 }
 
@@ -243,7 +182,7 @@ fn each_input() {
         walk(&wkb, &mut walked);
         assert_eq!(bits(&walked), bits(&coordinates(&it.input, Dimension::Xy).words), "{:x?}", it.input);
         for (i, sum) in it.sums[..8].iter().enumerate() {
-            let options = it.options(i);
+            let options = options(i, found.srid);
             canonical_into(&it.input, &options, &mut out).unwrap();
             let mut all = vec![canonical(&it.input, &options).unwrap(), written(&wkb, &options), out.clone()];
             assert!(same(&it.input, &all[0]).unwrap(), "{:x?}", it.input);
@@ -279,7 +218,7 @@ fn as_a_column() {
         assert_eq!((sum_of(&boxes[2 * i]), boxes[2 * i + 1]), (expected, Bounds::empty()), "{:x?}", it.input);
     }
     for number in 0..8 {
-        let options = rows[0].options(number);
+        let options = options(number, None);
         let own = number % 4 == 1;
         let written = if own { column.write_with_srids(options.endianness) } else { column.write(&options) }.unwrap();
         assert_eq!(written.statuses, statuses);

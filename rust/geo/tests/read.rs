@@ -1,46 +1,25 @@
 //! What was read, by the traits.
 use geo_traits::*;
 use porchsorrel_wkb::reader::read_wkb;
-use porchsorrel_wkb::writer::{Form, WriteOptions};
-use porchsorrel_wkb::Endianness;
 use porchsorrel_wkb_geo::{to_vec, Geometry};
 
-/// FNV-1a in 32 bits.
-fn summed(bytes: &[u8]) -> String {
-    let sum = bytes.iter().fold(0x811c_9dc5, |sum: u32, byte| (sum ^ u32::from(*byte)).wrapping_mul(0x0100_0193));
-    format!("{sum:08x}")
-}
+#[path = "../../tests/shared/lasting.rs"]
+#[allow(dead_code)]
+mod shared;
+use shared::{options, rows, summed};
 
-/// The options of a sum, for a geometry with this SRID.
-fn options(number: usize, own: Option<u32>) -> WriteOptions {
-    let form = match (number % 4, own) {
-        (0, _) => Form::Iso,
-        (1, Some(_)) => Form::Ewkb { srid: own },
-        (2, _) => Form::Ewkb { srid: Some(4326) },
-        _ => Form::Ewkb { srid: None },
-    };
-    WriteOptions { endianness: [Endianness::BigEndian, Endianness::LittleEndian][number / 4], form }
-}
-
-/// The inputs of c/test/lasting.rows, whose answers are those of a model: what is read by the traits is written as the
-/// model writes it.
+/// What is read by the traits is written as the model writes it.
 #[test]
 fn each_input() {
-    let mut accepted = 0;
-    for row in include_str!("../../../c/test/lasting.rows").lines().filter(|it| !it.starts_with('#')) {
-        let words: Vec<&str> = row.split(' ').collect();
-        let byte = |i| u8::from_str_radix(&words[0][i..i + 2], 16).unwrap();
-        let input: Vec<u8> = (0..words[0].len()).step_by(2).map(byte).collect();
-        let read = read_wkb(&input);
-        assert_eq!(read.is_ok(), words[1] == "0", "{row}");
+    for it in rows() {
+        let read = read_wkb(&it.input);
+        assert_eq!(read.is_ok(), it.status == 0, "{:x?}", it.input);
         let Ok(wkb) = read else { continue };
-        for (number, sum) in words[13..21].iter().enumerate() {
+        for (number, sum) in it.sums[..8].iter().enumerate() {
             let written = to_vec(&Geometry::from(&wkb), &options(number, wkb.srid())).unwrap();
-            assert_eq!(summed(&written), *sum, "{number} of {row}");
+            assert_eq!(summed(&written), *sum, "{number} of {:x?}", it.input);
         }
-        accepted += 1;
     }
-    assert!(accepted > 500);
 }
 
 /// A polygon of XYZM in big endian, whose rings have two coordinates each: an exterior and three interiors.

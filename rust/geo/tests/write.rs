@@ -173,14 +173,12 @@ fn bytes(code: u32, counts: &[u32], words: &[f64]) -> Vec<u8> {
     made
 }
 
-fn big(form: Form) -> WriteOptions {
-    WriteOptions { endianness: Endianness::BigEndian, form }
-}
+const BIG: WriteOptions = WriteOptions { endianness: Endianness::BigEndian, form: Form::Iso };
 
 /// What is written has these bytes.
 fn expect(geometry: &impl GeometryTrait<T = f64>, expected: &[u8]) {
     let mut out = Vec::new();
-    write_geometry(&mut out, geometry, &big(Form::Iso)).unwrap();
+    write_geometry(&mut out, geometry, &BIG).unwrap();
     assert!(out == expected, "{out:x?} for {expected:x?}");
     assert_eq!(geometry_wkb_size(geometry).unwrap(), expected.len());
 }
@@ -217,27 +215,8 @@ fn points() {
     }
 }
 
-#[test]
-fn an_srid() {
-    let whole = collection(vec![point(Dimensions::Xyz, &[1., 2., 3.])]);
-    let mut expected = bytes(0x2000_0007, &[4326, 1], &[]);
-    expected.extend(bytes(0x8000_0001, &[], &[1., 2., 3.]));
-    assert_eq!(to_vec(&whole, &big(Form::Ewkb { srid: Some(4326) })).unwrap(), expected);
-}
-
-/// More coordinates, and more members, than 16 bits count.
-#[test]
-fn counts() {
-    let numbers: Vec<f64> = (0..140_000).map(f64::from).collect();
-    let coords = numbers.chunks(2).map(|it| coord(Dimensions::Xy, it)).collect();
-    expect(&made(Of::LineString, Dimensions::Xy, coords), &bytes(2, &[70_000], &numbers));
-    let mut expected = bytes(7, &[70_000], &[]);
-    expected.extend(bytes(2, &[0], &[]).repeat(70_000));
-    expect(&collection(vec![made(Of::LineString, Dimensions::Xy, vec![]); 70_000]), &expected);
-}
-
 fn refused(geometry: &impl GeometryTrait<T = f64>) -> WkbError {
-    to_vec(geometry, &big(Form::Iso)).unwrap_err()
+    to_vec(geometry, &BIG).unwrap_err()
 }
 
 /// An empty member of another dimension is rejected as one with a coordinate is, and so are a ring and a coordinate.
@@ -260,7 +239,7 @@ fn parts_of_another_dimension() {
         }
         for whole in wholes {
             if code == other {
-                assert!(to_vec(&whole, &big(Form::Iso)).is_ok(), "{:?} {outer:?} of {inner:?}", whole.0);
+                assert!(to_vec(&whole, &BIG).is_ok(), "{:?} {outer:?} of {inner:?}", whole.0);
             } else {
                 let why = refused(&whole);
                 assert!(matches!(why, WkbError::IncorrectType(_)), "{:?} {outer:?} of {inner:?}: {why}", whole.0);
