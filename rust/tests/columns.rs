@@ -131,7 +131,7 @@ fn bounds_of_all() {
     }
 }
 
-/// Facts of SRIDs in and out of order, and of a row that begins inside another.
+/// Facts of two points, of SRIDs in and out of order, and of a row that begins inside another.
 #[test]
 fn facts_of_many_rows() {
     let srids = |count: u32| (0..count).map(move |it| it * 7919 % count);
@@ -140,6 +140,8 @@ fn facts_of_many_rows() {
     let facts = made.column().facts().unwrap();
     assert_eq!((facts.rows, facts.without_srid, facts.types[0].1), (1500, 0, 1500));
     assert_eq!(facts.srids, (0..1000).collect::<Vec<_>>());
+    let Bounds { x, y, .. } = rows().column().facts().unwrap().bounds;
+    assert_eq!([x.min(), x.max(), y.min(), y.max()], [1.0, 3.0, -4.0, 2.0]);
     let data = [point(5), point(4)].concat();
     let offsets = large(&[0, 25, 50, 25, 50]);
     let facts = Column::large_binary(&data, &offsets).facts().unwrap();

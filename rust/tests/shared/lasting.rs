@@ -3,8 +3,6 @@
 use porchsorrel_wkb::writer::{Form, WriteOptions};
 use porchsorrel_wkb::Endianness;
 
-pub const ORDERS: [Endianness; 2] = [Endianness::BigEndian, Endianness::LittleEndian];
-
 /// An input, and the numbers of its answer: its status, what is found or the fault, and sums of what is written under
 /// each option, of the bounds, of the parts and of the levels.
 pub struct Row {
@@ -40,7 +38,7 @@ pub fn options(number: usize, own: Option<u32>) -> WriteOptions {
         2 => Form::Ewkb { srid: Some(4326) },
         _ => Form::Ewkb { srid: None },
     };
-    WriteOptions { endianness: ORDERS[number / 4], form }
+    WriteOptions { endianness: [Endianness::BigEndian, Endianness::LittleEndian][number / 4], form }
 }
 
 /// FNV-1a in 32 bits.
