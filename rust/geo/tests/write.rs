@@ -9,19 +9,14 @@ use porchsorrel_wkb_geo::{geometry_wkb_size, to_vec, write_geometry};
 #[derive(Clone)]
 struct Made(Of, Dimensions, Vec<Made>, Vec<f64>);
 
-#[derive(Clone, Copy, Debug)]
-enum Of {
-    Coord,
-    Point,
-    LineString,
-    Polygon,
-    MultiPoint,
-    MultiLineString,
-    MultiPolygon,
-    GeometryCollection,
-    Rect,
-    Triangle,
-    Line,
+/// How a geometry says of which kind it is.
+type Of = fn(&Made) -> GeometryType<'_, Made, Made, Made, Made, Made, Made, Made, Made, Made, Made>;
+
+/// The kind of this name.
+macro_rules! of {
+    ($kind:ident) => {
+        |it| GeometryType::$kind(it)
+    };
 }
 
 impl CoordTrait for Made {
@@ -62,19 +57,7 @@ impl GeometryTrait for Made {
     }
 
     fn as_type(&self) -> GeometryType<'_, Made, Made, Made, Made, Made, Made, Made, Made, Made, Made> {
-        match self.0 {
-            Of::Point => GeometryType::Point(self),
-            Of::LineString => GeometryType::LineString(self),
-            Of::Polygon => GeometryType::Polygon(self),
-            Of::MultiPoint => GeometryType::MultiPoint(self),
-            Of::MultiLineString => GeometryType::MultiLineString(self),
-            Of::MultiPolygon => GeometryType::MultiPolygon(self),
-            Of::GeometryCollection => GeometryType::GeometryCollection(self),
-            Of::Rect => GeometryType::Rect(self),
-            Of::Triangle => GeometryType::Triangle(self),
-            Of::Line => GeometryType::Line(self),
-            Of::Coord => unreachable!("a coordinate is no geometry"),
-        }
+        self.0(self)
     }
 }
 
@@ -143,7 +126,7 @@ impl PolygonTrait for Made {
 }
 
 fn coord(dimensions: Dimensions, numbers: &[f64]) -> Made {
-    Made(Of::Coord, dimensions, vec![], numbers.to_vec())
+    Made(of!(Point), dimensions, vec![], numbers.to_vec())
 }
 
 fn made(of: Of, dimensions: Dimensions, parts: Vec<Made>) -> Made {
@@ -151,11 +134,11 @@ fn made(of: Of, dimensions: Dimensions, parts: Vec<Made>) -> Made {
 }
 
 fn point(dimensions: Dimensions, numbers: &[f64]) -> Made {
-    made(Of::Point, dimensions, vec![coord(dimensions, numbers)])
+    made(of!(Point), dimensions, vec![coord(dimensions, numbers)])
 }
 
 fn collection(members: Vec<Made>) -> Made {
-    made(Of::GeometryCollection, Dimensions::Xy, members)
+    made(of!(GeometryCollection), Dimensions::Xy, members)
 }
 
 /// A geometry of these corners.
@@ -185,12 +168,12 @@ fn expect(geometry: &impl GeometryTrait<T = f64>, expected: &[u8]) {
 
 #[test]
 fn kinds_that_no_input_has() {
-    let line = cornered(Of::Line, &[&[1., 2., 3.], &[4., 5., 6.]]);
+    let line = cornered(of!(Line), &[&[1., 2., 3.], &[4., 5., 6.]]);
     expect(&line, &bytes(1002, &[2], &[1., 2., 3., 4., 5., 6.]));
     // A rectangle is written in x and y.
     let corners = [1., 2., 1., 5., 4., 5., 4., 2., 1., 2.];
-    expect(&cornered(Of::Rect, &[&[1., 2., 3.], &[4., 5., 6.]]), &bytes(3, &[1, 5], &corners));
-    let triangle = cornered(Of::Triangle, &[&[0., 0.], &[1., 0.], &[0., 1.]]);
+    expect(&cornered(of!(Rect), &[&[1., 2., 3.], &[4., 5., 6.]]), &bytes(3, &[1, 5], &corners));
+    let triangle = cornered(of!(Triangle), &[&[0., 0.], &[1., 0.], &[0., 1.]]);
     expect(&triangle, &bytes(3, &[1, 4], &[0., 0., 1., 0., 0., 1., 0., 0.]));
 }
 
@@ -210,7 +193,7 @@ fn points() {
     for (dimensions, code, width) in DIMENSIONS {
         let words = &[1., 2., 3., 4.][..width];
         expect(&point(dimensions, words), &bytes(code, &[], words));
-        let empty = made(Of::Point, dimensions, vec![]);
+        let empty = made(of!(Point), dimensions, vec![]);
         expect(&empty, &bytes(code, &[], &[nan; 4][..width]));
     }
 }
@@ -224,25 +207,26 @@ fn refused(geometry: &impl GeometryTrait<T = f64>) -> WkbError {
 fn parts_of_another_dimension() {
     for ((outer, code, _), (inner, other, _)) in DIMENSIONS.iter().flat_map(|a| DIMENSIONS.map(|b| (*a, b))) {
         let coords = || vec![coord(inner, &[1.; 4])];
-        let rings = || vec![made(Of::LineString, inner, coords())];
+        let rings = || vec![made(of!(LineString), inner, coords())];
         let mut wholes = vec![
-            made(Of::LineString, outer, coords()),
-            made(Of::Polygon, outer, rings()),
-            made(Of::Polygon, outer, vec![made(Of::LineString, inner, vec![])]),
+            made(of!(LineString), outer, coords()),
+            made(of!(Polygon), outer, rings()),
+            made(of!(Polygon), outer, vec![made(of!(LineString), inner, vec![])]),
         ];
-        for (kind, of, parts) in [
-            (Of::MultiPoint, Of::Point, coords()),
-            (Of::MultiLineString, Of::LineString, coords()),
-            (Of::MultiPolygon, Of::Polygon, rings()),
-        ] {
+        let multis: [(Of, Of, Vec<Made>); 3] = [
+            (of!(MultiPoint), of!(Point), coords()),
+            (of!(MultiLineString), of!(LineString), coords()),
+            (of!(MultiPolygon), of!(Polygon), rings()),
+        ];
+        for (kind, of, parts) in multis {
             wholes.extend([vec![], parts].map(|it| made(kind, outer, vec![made(of, inner, it)])));
         }
         for whole in wholes {
             if code == other {
-                assert!(to_vec(&whole, &BIG).is_ok(), "{:?} {outer:?} of {inner:?}", whole.0);
+                assert!(to_vec(&whole, &BIG).is_ok(), "{outer:?} of {inner:?}");
             } else {
                 let why = refused(&whole);
-                assert!(matches!(why, WkbError::IncorrectType(_)), "{:?} {outer:?} of {inner:?}: {why}", whole.0);
+                assert!(matches!(why, WkbError::IncorrectType(_)), "{outer:?} of {inner:?}: {why}");
             }
         }
     }
@@ -253,9 +237,9 @@ fn words_without_a_dimension() {
     for words in [0, 1, 5] {
         let dimensions = Dimensions::Unknown(words);
         let corners = vec![coord(dimensions, &[1.; 5]); 3];
-        let kinds = [Of::Point, Of::GeometryCollection, Of::Rect, Of::Triangle, Of::Line];
+        let kinds: [Of; 5] = [of!(Point), of!(GeometryCollection), of!(Rect), of!(Triangle), of!(Line)];
         let mut all = kinds.map(|of| made(of, dimensions, corners.clone())).to_vec();
-        all.push(made(Of::MultiPoint, Dimensions::Xy, vec![made(Of::Point, dimensions, vec![])]));
+        all.push(made(of!(MultiPoint), Dimensions::Xy, vec![made(of!(Point), dimensions, vec![])]));
         for it in all {
             let why = refused(&it);
             assert!(matches!(why, WkbError::General(General::UnsupportedDimensions(n)) if n == words), "{why}");
