@@ -32,8 +32,6 @@ mod cases {
     pub mod wkb_tests;
 }
 
-#[path = "cases/blocks.rs"]
-mod blocks;
 #[path = "cases/clients.rs"]
 mod clients;
 #[path = "cases/cut_inputs.rs"]
