@@ -201,11 +201,8 @@ fn as_a_column() {
     assert_eq!(column.check().unwrap(), statuses);
     for (i, it) in rows.iter().enumerate() {
         assert_eq!((statuses[2 * i].number(), statuses[2 * i + 1]), (it.status, Status::NULL_ROW), "{:x?}", it.input);
-        assert!(
-            found[2 * i].map_or_else(|why| why == statuses[2 * i], |found| it.has_found(&found)),
-            "{:x?}",
-            it.input
-        );
+        let is_found = found[2 * i].map_or_else(|why| why == statuses[2 * i], |found| it.has_found(&found));
+        assert!(is_found, "{:x?}", it.input);
         assert_eq!(found[2 * i + 1], Err(Status::NULL_ROW));
         let expected = if it.status == 0 { it.sums[8] } else { sum_of(&Bounds::empty()) };
         assert_eq!((sum_of(&boxes[2 * i]), boxes[2 * i + 1]), (expected, Bounds::empty()), "{:x?}", it.input);
@@ -227,22 +224,16 @@ fn as_a_column() {
 fn levels_of_a_column() {
     let rows = rows();
     let made = Rows::of(rows.iter().flat_map(|it| [Some(&it.input), None])).unwrap();
+    let sizes = |ends: &[u64]| [&[0], ends].concat().windows(2).map(|it| it[1] - it[0]).collect::<Vec<_>>();
     for dimension in DIMENSIONS {
-        let (mut all, mut count) = (Coordinates::default(), 0);
-        for it in &rows {
-            let own = coordinates(&it.input, dimension);
-            let (rings, singles) = (all.ring_ends.len() as u64, all.single_ends.len() as u64);
-            all.ring_ends.extend(own.ring_ends.iter().map(|it| it + count));
-            all.single_ends.extend(own.single_ends.iter().map(|it| it + rings));
-            all.row_ends.extend([singles + own.row_ends[0]; 2]);
-            all.statuses.extend([own.statuses[0], Status::NULL_ROW]);
-            count += (own.words.len() / dimension.width()) as u64;
-            all.words.extend(own.words);
-        }
-        let found = made.column().coordinates(dimension).unwrap();
-        assert!(found.words.iter().map(|it| it.to_bits()).eq(all.words.iter().map(|it| it.to_bits())));
-        assert_eq!((found.ring_ends, found.single_ends), (all.ring_ends, all.single_ends));
-        assert_eq!((found.row_ends, found.statuses), (all.row_ends, all.statuses));
+        let all = made.column().coordinates(dimension).unwrap();
+        let each: Vec<_> = rows.iter().map(|it| coordinates(&it.input, dimension)).collect();
+        let words = each.iter().flat_map(|it| &it.words).map(|it| it.to_bits());
+        assert!(words.eq(all.words.iter().map(|it| it.to_bits())));
+        assert!(each.iter().flat_map(|it| sizes(&it.ring_ends)).eq(sizes(&all.ring_ends)));
+        assert!(each.iter().flat_map(|it| sizes(&it.single_ends)).eq(sizes(&all.single_ends)));
+        assert!(each.iter().flat_map(|it| [it.row_ends[0], 0]).eq(sizes(&all.row_ends)));
+        assert!(each.iter().flat_map(|it| [it.statuses[0], Status::NULL_ROW]).eq(all.statuses));
     }
 }
 
