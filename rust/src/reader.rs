@@ -28,12 +28,14 @@ pub use crate::wkb::reader::{
 
 use crate::check::check;
 use crate::error::WkbResult;
+use crate::wkb_read::read::read_wkb_within;
 
 /// Reads the geometry at the start of the bytes. Bytes after it are not looked at.
 ///
-/// At most 9 bytes are allocated for each byte of input, and 20 KB, whatever it claims. So a collection is checked first,
-/// by [`check`]: of collections in one another, each may claim the rest of the input. [`Wkb::try_new`] returns the
-/// same without a check, and may allocate 840 bytes for each byte of input that it then rejects.
+/// At most 9 bytes are allocated for each byte of input, and 20 KB, whatever it claims: of collections in one another,
+/// each may claim the rest of the input. So as soon as the members of a collection, at every level, are more than the
+/// bytes can hold, [`check`] finds the fault, and nothing more is allocated. [`Wkb::try_new`] returns the same without
+/// this limit, and may allocate 840 bytes for each byte of input that it then rejects.
 ///
 /// # Errors
 ///
@@ -43,20 +45,23 @@ use crate::error::WkbResult;
 #[inline]
 pub fn read_wkb(bytes: &[u8]) -> WkbResult<Wkb<'_>> {
     if may_be_collection(bytes) {
-        return read_checked(bytes);
+        return read_within(bytes);
     }
     Wkb::try_new(bytes)
 }
 
 #[inline(never)]
-fn read_checked(bytes: &[u8]) -> WkbResult<Wkb<'_>> {
+fn read_within(bytes: &[u8]) -> WkbResult<Wkb<'_>> {
+    if let Some(read) = read_wkb_within(bytes) {
+        return read;
+    }
     check(bytes)?;
     Wkb::try_new(bytes)
 }
 
-/// Whether the lowest byte of the type code is that of 7, 1007, 2007 or 3007.
+/// Whether the three lowest bits of the type code, which tell its kind, since 8 divides 1000, are those of 7.
 #[inline]
 fn may_be_collection(bytes: &[u8]) -> bool {
     let lowest = if bytes.first() == Some(&1) { bytes.get(1) } else { bytes.get(4) };
-    matches!(lowest, Some(0x07 | 0xef | 0xd7 | 0xbf))
+    matches!(lowest, Some(byte) if byte & 7 == 7)
 }

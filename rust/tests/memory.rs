@@ -97,7 +97,9 @@ fn hostile_counts_take_little() {
     let nested = long(&vec![claims(7); 128]);
     assert!(taken(|bytes| Wkb::try_new(bytes).is_ok(), &nested) > 12 * size_of::<Wkb<'_>>() * LONG);
     assert_eq!((taken(reads, &nested), taken(|bytes| check(bytes).is_ok(), &nested)), (0, 0));
-    let rejected = (1..8).map(|code| long(&[claims(code)])).chain([long(&[claims(6), claims(3)])]);
+    let fits = |code| head(code, (LONG / 9) as u32);
+    let members = [vec![claims(6), claims(3)], vec![fits(7); 128], vec![fits(7), fits(6), claims(3)]];
+    let rejected = (1..8).map(|code| long(&[claims(code)])).chain(members.map(|heads| long(&heads)));
     let deep = [head(7, 1).repeat(127), head(7, 0)].concat();
     let accepted = [deep, many(7, &head(7, 0)), many(6, &head(3, 0)), many(6, &[head(3, 1), vec![0; 4]].concat())];
     for input in rejected.chain(accepted) {

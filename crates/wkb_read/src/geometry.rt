@@ -248,7 +248,7 @@ impl<'a> Wkb<'a> {
     ghost use Rattle.wkb_read.specs.Reads.{Reads, Lends};
 
     /// The geometry at the start of the bytes, as `read_wkb` returns it. They aren't checked first: for a hostile
-    /// megabyte hundreds may be allocated before it is rejected. In Rust, `reader::read_wkb` checks collections first.
+    /// megabyte hundreds may be allocated before it is rejected. In Rust, `reader::read_wkb` has a limit.
     ///
     /// Rejected as `read_wkb` rejects the bytes.
     pub fn try_new(alloc: Global, buf: &'a [u8]) -> WkbResult<Wkb<'a>>

@@ -9,6 +9,7 @@ ghost use Rattle.wkb_read.specs.Stack.{collection_inside, around, outward, first
 ghost use Rattle.wkb_read.specs.Stack.{IsOpen, AreOpen, IsFinished, BeginsAs, Settles, ReadsAs};
 
 use crate::geometry::{GeometryCollection, View, Wkb};
+use crate::read::claims::Claims;
 use crate::read::{MAX_WKB_NESTING_DEPTH, read_front};
 use crate::srids::count_with_srids;
 use std::alloc::{AllocError, Global};
@@ -43,6 +44,7 @@ pub(crate) fn begin_collection<'a>(
     depth: usize,
     layout: Layout,
     bytes: &'a [u8],
+    claims: &mut Claims,
     counts: &mut Counts,
 ) -> Result<Begun<'a>, ReadError>
     requires head { HasHead (λ d. kinds.GeometryCollection d) layout bytes.now }
@@ -54,6 +56,9 @@ pub(crate) fn begin_collection<'a>(
 {
     if depth >= MAX_WKB_NESTING_DEPTH {
         return Err(ReadError::Cause(Cause::NestingDepthExceeded(MAX_WKB_NESTING_DEPTH)));
+    }
+    if !claims.take(layout, bytes) {
+        return Err(ReadError::Memory);
     }
     let (count, members) = counted_list(alloc, layout, bytes, MIN_MEMBER_SIZE, counts)?;
     let (buf, rest) = bytes.split_at(layout.header_length() + COUNT_SIZE);
@@ -149,6 +154,7 @@ pub(crate) fn read_collection<'a>(
     alloc: Global,
     outermost: Open<'a>,
     members: &'a [u8],
+    claims: &mut Claims,
     counts: &mut Counts,
 ) -> Result<Wkb<'a>, ReadError>
     requires stands { IsOpen 0 outermost members.now }
@@ -159,7 +165,7 @@ pub(crate) fn read_collection<'a>(
     push_collection(&mut stack, outermost, counts)?;
     let mut bytes = members;
     loop {
-        match read_front(alloc, stack.len(), bytes, counts) {
+        match read_front(alloc, stack.len(), bytes, claims, counts) {
             Ok(Begun::Opened(collection, rest)) => {
                 push_collection(&mut stack, collection, counts)?;
                 bytes = rest;

@@ -74,9 +74,9 @@ returns-in_err-multi-in-MultiLineString-clause-begins c =
     hands_on _ _ _ _ _ _ _ c.from_residual-in_err-multi-in-MultiLineString.ensures.1
     (by_type p _ c.in-MultiLineString.is) c.in_err-multi-in-MultiLineString.ensures.answer
 
-pub read-requires-in-MultiPolygon-clause-fits : goal.read-requires-in-MultiPolygon-clause-fits
-read-requires-in-MultiPolygon-clause-fits c =
-    fits (goal.at.read-requires-in-MultiPolygon-clause-fits c).After-dimension _ c.in-MultiPolygon.is
+pub read_multi_polygon-requires-clause-fits : goal.read_multi_polygon-requires-clause-fits
+read_multi_polygon-requires-clause-fits c =
+    fits (goal.at.read_multi_polygon-requires-clause-fits c).After-dimension _ c.in-MultiPolygon.is
 
 pub returns-in_err-multi-in-MultiPolygon-clause-begins : goal.returns-in_err-multi-in-MultiPolygon-clause-begins
 returns-in_err-multi-in-MultiPolygon-clause-begins c =
