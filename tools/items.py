@@ -2,6 +2,7 @@
 import functools
 import re
 import sys
+import textwrap
 
 from pages import text_of
 from specs import CRATES, ROOT, split_items
@@ -39,7 +40,8 @@ def on_one_line(text):
 
 
 class Item:
-    """An item: its comments, what it derives, its kind, name and signature, its clauses, and what is in its braces."""
+    """An item: its comments, what it derives, its kind, name and signature, its clauses, what is in its braces, and what
+    its source has before these."""
 
     def __init__(self, before, header, clauses, body):
         self.doc = re.findall(r"(?m)^\s*///(.*)$", before)
@@ -99,7 +101,10 @@ def items(text, end=";"):
     while (first := header_at(bare, last)) < len(bare):
         before = text[last:first]
         header, clauses, body, last = parts_at(text, bare, first, end)
-        yield Item(before, header, clauses, body)
+        it = Item(before, header, clauses, body)
+        whole = text[first : last if body is None else last - len(body) - 2]
+        it.source = textwrap.dedent(" " * (first - text.rfind("\n", 0, first) - 1) + whole).strip()
+        yield it
 
 
 def read_in(found):
