@@ -1,8 +1,6 @@
 """Each file that has the version has the one of tools/version."""
-import pathlib
 import re
 import subprocess
-import tempfile
 import unittest
 
 from checks.judge import pages
@@ -57,23 +55,6 @@ class Versions(unittest.TestCase):
             with self.subTest(path=path, pattern=pattern):
                 self.assertEqual({*re.findall(pattern, pages.text_of(path))}, {self.version})
 
-    def test_another_one_is_set_and_taken_back(self):
-        with tempfile.TemporaryDirectory() as folder:
-            top = pathlib.Path(folder)
-            pages.copy_files(top)
-            texts = []
-            for version in "1.10.0", self.version:
-                subprocess.run([top / "tools/version", "--set", version], check=True)
-                texts.append({str(it.relative_to(top)): it.read_bytes() for it in top.rglob("*") if it.is_file()})
-            there, back = texts
-            self.assertEqual([it for it, text in back.items() if text != (pages.ROOT / it).read_bytes()], [])
-            earlier = re.search(r"(?m)^EARLIER = .*", pages.text_of("postgres/Makefile"))[0]
-            self.assertIn(f"{earlier} {self.version}\n", there["postgres/Makefile"].decode())
-            self.assertIn("postgres/wkb--1.10.0.sql", there)
-            for path, pattern in NAMED:
-                if path != "CHANGELOG.md":
-                    self.assertEqual({*re.findall(pattern, there[path].decode())}, {"1.10.0"}, path)
-
     def test_the_packages_have_the_licences(self):
         stated, = {*re.findall(r"(?m)^License: (.*)$", pages.text_of(".reuse/dep5"))}
         for path in LICENSED:
@@ -93,4 +74,8 @@ class Versions(unittest.TestCase):
         self.assertEqual(re.findall(RUST[1], pages.text_of(RUST[0])), [oldest])
 
     def test_the_script_of_postgres_is_of_it(self):
+        """And its Makefile has each version before among those that a database may have."""
         self.assertEqual(pages.paths("postgres/wkb--*.sql"), [f"postgres/wkb--{self.version}.sql"])
+        earlier = re.search(r"(?m)^EARLIER = (.*)", pages.text_of("postgres/Makefile"))[1].split()
+        released = re.findall(rf"(?m)^## ({NUMBER})", pages.text_of("CHANGELOG.md"))
+        self.assertEqual({*released} - {*earlier}, {self.version})
