@@ -4,7 +4,6 @@ import contextlib
 import ctypes
 import gc
 import itertools
-import os
 import pickle
 import struct
 import unittest
@@ -356,20 +355,6 @@ class FromArrow(unittest.TestCase):
         del it
         gc.collect()
         self.assertEqual(found, 20 * [[*STATUSES, *(16 if it else 0 for it in STATUSES)]])
-
-    @unittest.skipUnless(hasattr(os, "fork"), "there are no forks")
-    def test_forked(self):
-        """A forked child has columns and arrays of its own, and ends them."""
-        column = Column.from_arrow(Arrow())
-        capsules = column.write().__arrow_c_array__()
-        child = os.fork()
-        if not child:
-            is_right = statuses(column) == STATUSES
-            del column, capsules
-            gc.collect()
-            os._exit(not is_right)
-        self.assertEqual(os.waitpid(child, 0)[1], 0)
-        self.assertEqual((statuses(column), len(capsules)), (STATUSES, 2))
 
     def test_pickled_slices(self):
         """A slice is pickled with the bytes, the offsets and the bits of its own rows."""

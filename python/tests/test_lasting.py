@@ -117,15 +117,6 @@ class Lasting(unittest.TestCase):
         sums = [summed(parts._memory[64 * a : 64 * b]) for a, b in zip(offsets, offsets[1:])]
         self.assertEqual(sums, [*self.sums[9]])
 
-    def test_writing_of_a_column_that_grows(self):
-        """Rows without SRIDs, which each get one: no column needs more room."""
-        rows = [it for it in self.accepted if it.answer.srid is None and it.answer.parts == 1]
-        rows = [it for it in rows if it.answer.size == len(it.data)]
-        self.assertGreater(len(rows), 50)
-        for number in (2, 6):
-            written = Column.of([it.data for it in rows]).write(*OPTIONS[number]).rows
-            self.assertEqual([summed(data) for data in written], [it.sums[number] for it in rows])
-
     def test_levels_of_a_column(self):
         columns = [self.column.coordinates(dimension) for dimension in Dimension]
         words = [memoryview(it.coordinates).cast("B") for it in columns]

@@ -1,16 +1,12 @@
 """Which calls give the interpreter's lock back: those over columns and long inputs, and no others."""
-import array
-import random
 import struct
-import subprocess
 import sys
 import threading
-import time
 import unittest
 
 import porchsorrel_wkb as wkb
 from samples import POINT
-from porchsorrel_wkb import Column, Kind, Order, collect, column_from_coordinates
+from porchsorrel_wkb import Column, Kind, collect, column_from_coordinates
 
 COUNT = 100_000
 # A collection of points, whose parts are read one by one.
@@ -48,34 +44,6 @@ def order_of(call, times):
     return happened
 
 
-def flip(seconds):
-    """Calls over bytes that another thread flips."""
-    size, end = len(POINT), time.process_time() + seconds
-    data = bytearray(100 * POINT)
-    column = Column(data, array.array("q", range(0, len(data) + 1, size)))
-    long = bytearray(struct.pack("<BII", 1, 7, 1000) + 1000 * POINT)
-    calls = (column.write, column.coordinates, column.parts, column.bounds, lambda: wkb.parts(long),
-             lambda: wkb.write(long, Order.BIG), lambda: collect(column, Kind.MULTI_POINT))
-
-    def other():
-        while time.process_time() < end:
-            for it in (data, long):
-                place, bit = random.randrange(len(it)), 1 << random.randrange(8)
-                it[place] ^= bit
-                it[place] ^= bit
-
-    thread = threading.Thread(target=other)
-    sys.setswitchinterval(1e-6)
-    thread.start()
-    while thread.is_alive():
-        for call in calls:
-            try:
-                call()
-            except (wkb.Refused, RuntimeError):
-                pass
-    thread.join()
-
-
 def calls(data, column, levels):
     """The calls over a long input, a column, and the coordinates of points."""
     return (lambda: wkb.check(data), lambda: wkb.bounds(data), lambda: wkb.write(data), lambda: wkb.same(LONG, data),
@@ -94,16 +62,8 @@ class Lock(unittest.TestCase):
         for call in calls(WRITABLE, COPY, memoryview(NUMBERS).cast("d")):
             self.assertEqual(order_of(call, 20), ["begin", "end", "meanwhile"])
 
-    def test_written_meanwhile(self):
-        """A thread that flips bytes of the input of every call ends no process."""
-        ran = subprocess.run([sys.executable, __file__, "flip"], stderr=subprocess.PIPE, timeout=300)
-        self.assertEqual((ran.returncode, ran.stderr), (0, b""))
-
     def test_kept(self):
         """Calls over short inputs, many of them one after another."""
         for call in (wkb.check, wkb.bounds, wkb.write, wkb.parts, lambda it: wkb.same(it, it)):
             self.assertEqual(order_of(lambda: call(POINT), 50_000), ["begin", "end", "meanwhile"])
 
-
-if __name__ == "__main__":
-    flip(1)
