@@ -1,15 +1,16 @@
-// speed ROUNDS: how many times as long as calls over random geometries of one shape after another the readers of GEOS and
-// OGR take, where they are, and plain C, which checks/hosts/fuzz compares with the library. All calls of a shape are
-// timed in each round, and the shortest of the rounds counts. It prints a table in Markdown.
+// speed ROUNDS: how many times as long as our bounds of random geometries, of one shape after another, the readers of GEOS
+// and OGR take, where they are. All calls of a shape are timed in each round, and the shortest of the rounds counts. It
+// prints the table of times of docs/SPEED.md.
 // speed --count: calls each once over all geometries of a shape, between two looks at the clock, and prints a line for
-// it: the shape, the call and the geometries, with tabs between them. bench/instructions counts what lies between.
+// it: the shape, the call and the geometries, with tabs between them. bench/instructions counts what lies between, also
+// of plain C, which checks/hosts/fuzz compares with the library.
 #include "plain_columns.h"
 #include "plain_geometry.h"
 #include "speed_shapes.hpp"
 
 #include <cstdio>
 #include <ctime>
-#include <limits>
+#include <string>
 #ifdef WITH_GEOS
 #include <geos_c.h>
 #endif
@@ -21,35 +22,8 @@ namespace {
 
 using namespace speed;
 
-bool counts = false;
-int rounds = 5, passes = 20;
 // What all calls compute goes here, so that none is left out by the compiler.
 double sum = 0;
-
-constexpr double NEVER = std::numeric_limits<double>::infinity();
-
-// A call for a geometry and its like for a column, where there is one, over rows in little or in big endian, and the
-// nanoseconds of their shortest rounds, divided by the rows and by what a row has of what is timed.
-struct timed {
-  const char *name;
-  void (*call)(const row &);
-  void (*column_call)(whole_column &) = nullptr;
-  double per_row = 1;
-  bool is_big = false;
-  double shortest = NEVER;
-  double shortest_of_column = NEVER;
-};
-
-// What was timed for a shape.
-struct shape_times {
-  const char *shape;
-  std::vector<timed> calls;
-
-  const timed *of(const std::string &name) const {
-    const auto it = std::find_if(calls.begin(), calls.end(), [&](const timed &call) { return name == call.name; });
-    return it == calls.end() ? nullptr : &*it;
-  }
-};
 
 std::vector<wkb_part> table(1024);
 std::vector<double> words(4096);
@@ -87,15 +61,6 @@ void call_parts_and_words(const row &input) {
     if (table[i].kind > WKB_KIND_LINE_STRING) continue;
     wkb_words(input.data(), &table[i], 0, table[i].count, words.data());
     sum += words[0];
-  }
-}
-
-void call_parts_and_each_word(const row &input) {
-  const std::size_t count = parts_of(input);
-  for (std::size_t i = 0; i < count; i++) {
-    if (table[i].kind > WKB_KIND_LINE_STRING) continue;
-    for (std::uint64_t k = 0; k < table[i].count; k++)
-      sum += wkb_word(input.data(), &table[i], k, 0) + wkb_word(input.data(), &table[i], k, 1);
   }
 }
 
@@ -175,16 +140,23 @@ void ogr_read(const row &input) {
 }
 #endif
 
-const std::vector<timed> CALLS{
+// A call for a geometry and its like for a column, where there is one, over rows in little or in big endian.
+struct call {
+  const char *name;
+  void (*one)(const row &);
+  void (*column)(whole_column &) = nullptr;
+  bool is_big = false;
+};
+
+const call COUNTED[] = {
     {"check", call_check, column_check},
     {"found", nullptr, wkb_column_found ? column_found : nullptr},
     {"bounds", call_bounds, column_bounds},
     {"bounds in plain C", plain_call_bounds},
-    {"big endian bounds", call_bounds, column_bounds, 1, true},
-    {"big endian bounds in plain C", plain_call_bounds, nullptr, 1, true},
+    {"big endian bounds", call_bounds, column_bounds, true},
+    {"big endian bounds in plain C", plain_call_bounds, nullptr, true},
     {"parts", call_parts, column_parts},
     {"parts, words", call_parts_and_words},
-    {"parts, each word", call_parts_and_each_word},
     {"write", call_write<BIG>, column_write<BIG>},
     {"write in plain C", plain_call_write<BIG>},
     {"write as it is", call_write<LITTLE>, column_write<LITTLE>},
@@ -192,6 +164,10 @@ const std::vector<timed> CALLS{
     {"coordinates", nullptr, column_coordinates},
     {"coordinates in plain C", nullptr, plain_coordinates},
     {"from coordinates", nullptr, column_from_coordinates},
+};
+const call TIMED[] = {
+    {"check, ns", call_check},
+    {"bounds, ns", call_bounds},
 #ifdef WITH_OGR
     {"OGR", ogr_read},
 #endif
@@ -206,13 +182,12 @@ double now() {
   return 1e9 * static_cast<double>(time.tv_sec) + static_cast<double>(time.tv_nsec);
 }
 
-// Times some passes over so many items, and keeps the shortest time of an item.
+// The nanoseconds of some passes over all geometries, for one.
 template <typename Pass>
-void time_passes(const char *shape, const std::string &name, double &shortest, double items, const Pass &pass) {
+double time_of(int passes, const Pass &pass) {
   const double start = now();
   for (int i = 0; i < passes; i++) pass();
-  shortest = std::min(shortest, (now() - start) / (passes * items));
-  if (counts) std::printf("%s\t%s\t%.0f\n", shape, name.c_str(), items);
+  return (now() - start) / (passes * static_cast<double>(ROWS));
 }
 
 // What is called for: geometries one by one, and as a column.
@@ -223,132 +198,63 @@ struct inputs {
   explicit inputs(std::vector<row> of) : rows(std::move(of)), column(rows) {}
 };
 
-void time_call(shape_times &to, timed &it, inputs &of) {
-  const double items = static_cast<double>(of.rows.size()) * it.per_row;
-  if (it.call)
-    time_passes(to.shape, it.name, it.shortest, items, [&] {
-      for (const row &input : of.rows) it.call(input);
-    });
-  if (!it.column_call) return;
-  time_passes(to.shape, std::string(it.name) + ", column", it.shortest_of_column, items,
-              [&] { it.column_call(of.column); });
-  if (of.column.statuses != wkb::statuses(of.rows.size())) std::exit(1);
+void call_each(const std::vector<row> &rows, const call &it) {
+  for (const row &input : rows) it.one(input);
 }
 
-shape_times time_shape(const char *shape, const std::vector<row> &rows, std::vector<timed> calls) {
-  shape_times times{shape, std::move(calls)};
+void count(const shape &of, const call &it, inputs &from) {
+  if (it.one) {
+    time_of(1, [&] { call_each(from.rows, it); });
+    std::printf("%s\t%s\t%zu\n", of.name, it.name, ROWS);
+  }
+  if (!it.column) return;
+  time_of(1, [&] { it.column(from.column); });
+  std::printf("%s\t%s, column\t%zu\n", of.name, it.name, ROWS);
+  if (from.column.statuses != wkb::statuses(ROWS)) std::exit(1);
+}
+
+void count_shape(const shape &of, const std::vector<row> &rows) {
   std::vector<row> turned;
   for (const row &it : rows) turned.push_back(written(it, BIG));
   inputs little(rows), big(std::move(turned));
+  for (const call &it : COUNTED)
+    if (of.has_levels || std::strstr(it.name, "coordinates") == nullptr) count(of, it, it.is_big ? big : little);
+}
+
+int width_of(const call &it) { return std::max(7, static_cast<int>(std::strlen(it.name))); }
+
+// A row of the table: our times, and theirs by that of our bounds.
+void time_shape(const shape &of, const std::vector<row> &rows, int rounds) {
+  double shortest[std::size(TIMED)];
+  std::fill(std::begin(shortest), std::end(shortest), 1e9);
   for (int round = 0; round < rounds; round++)
-    for (timed &it : times.calls) time_call(times, it, it.is_big ? big : little);
-  return times;
-}
-
-std::vector<shape_times> time_shapes() {
-  std::vector<shape_times> all;
-  for (const shape &it : SHAPES) {
-    std::vector<timed> calls = CALLS;
-    if (!it.has_levels)
-      std::erase_if(calls, [](const timed &call) { return std::strstr(call.name, "coordinates") != nullptr; });
-    all.push_back(time_shape(it.name, rows_of(it), std::move(calls)));
-  }
-  return all;
-}
-
-constexpr std::uint32_t LONG = 2000;
-
-void each_word(const row &input) {
-  for (std::uint64_t i = 0; i < LONG; i++)
-    sum += wkb_word(input.data(), table.data(), i, 0) + wkb_word(input.data(), table.data(), i, 1);
-}
-
-void all_words(const row &input) {
-  wkb_words(input.data(), table.data(), 0, LONG, words.data());
-  sum += words[1];
-}
-
-// One long line string in each order, so that the words alone are counted.
-void time_words() {
-  const row little = line<LONG>();
-  const char *name = "little endian";
-  for (const row &input : {little, written(little, BIG)}) {
-    parts_of(input);
-    time_shape(name, std::vector<row>(100, input), {{"wkb_word", each_word, nullptr, 2 * LONG},
-                                                    {"wkb_words", all_words, nullptr, 2 * LONG}});
-    name = "big endian";
-  }
-}
-
-// A table: its head, with a line below, and then a row after the other.
-void print_head(const std::vector<std::string> &heads) {
-  for (const std::string &it : heads) std::printf(&it == &heads[0] ? "| %-24s |" : " %7s |", it.c_str());
-  std::printf("\n|%s|", std::string(26, '-').c_str());
-  for (std::size_t i = 1; i < heads.size(); i++)
-    std::printf("%s:|", std::string(std::max<std::size_t>(heads[i].size(), 7) + 1, '-').c_str());
+    for (std::size_t i = 0; i < std::size(TIMED); i++)
+      shortest[i] = std::min(shortest[i], time_of(20, [&] { call_each(rows, TIMED[i]); }));
+  std::printf("| %-24s |", of.name);
+  for (std::size_t i = 0; i < std::size(TIMED); i++)
+    std::printf(" %*.*f |", width_of(TIMED[i]), i < 2 ? 1 : 2, i < 2 ? shortest[i] : shortest[i] / shortest[1]);
   std::printf("\n");
 }
 
-// A number below its head, or nothing if there is none.
-void print_cell(const std::string &head, double number, int digits) {
-  const int width = static_cast<int>(std::max<std::size_t>(head.size(), 7));
-  if (number < NEVER)
-    std::printf(" %*.*f |", width, digits, number);
-  else
-    std::printf(" %*s |", width, "");
-}
-
-double time_of(const timed *it, bool of_column) {
-  return it == nullptr ? NEVER : of_column ? it->shortest_of_column : it->shortest;
-}
-
-// A call beside theirs, and the head of the column of their quotient.
-struct pair {
-  const char *head;
-  const char *name;
-  const char *theirs;
-  bool of_column = false;
-};
-
-constexpr pair PAIRS[] = {{"OGR", "bounds", "OGR"},
-                          {"GEOS", "bounds", "GEOS"},
-                          {"bounds", "bounds", "bounds in plain C"},
-                          {"big endian bounds", "big endian bounds", "big endian bounds in plain C"},
-                          {"other order", "write", "write in plain C"},
-                          {"as it is", "write as it is", "write as it is in plain C"},
-                          {"coordinates", "coordinates", "coordinates in plain C", true}};
-
-// Our times of a check and of the bounds, and their times by ours, of those that were timed.
-void print_times(const std::vector<shape_times> &all) {
-  std::vector<std::string> heads{"their time / ours", "check, ns", "bounds, ns"};
-  std::vector<pair> here;
-  std::copy_if(std::begin(PAIRS), std::end(PAIRS), std::back_inserter(here),
-               [&](const pair &of) { return all[0].of(of.theirs); });
-  for (const pair &of : here) heads.emplace_back(of.head);
-  print_head(heads);
-  for (const shape_times &it : all) {
-    std::printf("| %-24s |", it.shape);
-    print_cell(heads[1], time_of(it.of("check"), false), 1);
-    print_cell(heads[2], time_of(it.of("bounds"), false), 1);
-    for (const pair &of : here)
-      print_cell(of.head, time_of(it.of(of.theirs), of.of_column) / time_of(it.of(of.name), of.of_column), 2);
-    std::printf("\n");
-  }
+void print_head() {
+  std::printf("| their time / ours        |");
+  for (const call &it : TIMED) std::printf(" %*s |", width_of(it), it.name);
+  std::printf("\n|--------------------------|");
+  for (const call &it : TIMED) std::printf("%s:|", std::string(static_cast<std::size_t>(width_of(it)) + 1, '-').c_str());
   std::printf("\n");
 }
 
 }  // namespace
 
 int main(int argc, char **argv) {
-  counts = argc == 2 && std::strcmp(argv[1], "--count") == 0;
-  if (counts)
-    rounds = passes = 1;
-  else if (argc == 2)
-    rounds = std::atoi(argv[1]);
-  const std::vector<shape_times> shapes = time_shapes();
-  if (counts)
-    time_words();
-  else
-    print_times(shapes);
+  const bool counts = argc == 2 && std::strcmp(argv[1], "--count") == 0;
+  if (!counts) print_head();
+  for (const shape &of : SHAPES) {
+    const std::vector<row> rows = rows_of(of);
+    if (counts)
+      count_shape(of, rows);
+    else
+      time_shape(of, rows, argc == 2 ? std::atoi(argv[1]) : 5);
+  }
   return sum == 0.5 ? 1 : 0;
 }

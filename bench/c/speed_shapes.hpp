@@ -39,90 +39,50 @@ inline void put_words(row &out, std::uint32_t count) {
   }
 }
 
-inline void put_header(row &out, std::uint32_t code) {
-  out.push_back(std::byte{WKB_ORDER_LITTLE});
-  put(out, code);
+inline row header(wkb_kind kind, wkb_dim dimension = WKB_DIM_XY) {
+  row out{std::byte{WKB_ORDER_LITTLE}};
+  put(out, 1000 * dimension + kind);
+  return out;
 }
 
-// A ring, or the body of a line string. A ring ends as it begins, as GEOS asks.
-inline void put_line(row &out, std::uint32_t count, bool is_ring) {
+inline row point(wkb_dim dimension = WKB_DIM_XY) {
+  row out = header(WKB_KIND_POINT, dimension);
+  put_words(out, static_cast<std::uint32_t>(wkb::width_of(dimension)));
+  return out;
+}
+
+inline row line(std::uint32_t count, wkb_dim dimension = WKB_DIM_XY) {
+  row out = header(WKB_KIND_LINE_STRING, dimension);
   put(out, count);
-  put_words(out, 2 * count);
-  if (is_ring) std::copy_n(out.end() - 16 * static_cast<std::ptrdiff_t>(count), 16, out.end() - 16);
+  put_words(out, static_cast<std::uint32_t>(wkb::width_of(dimension)) * count);
+  return out;
 }
 
-inline void put_polygon(row &out, std::uint32_t rings, std::uint32_t count) {
-  put_header(out, WKB_KIND_POLYGON);
+// A ring ends as it begins, as GEOS asks.
+inline row polygon(std::uint32_t rings, std::uint32_t count) {
+  row out = header(WKB_KIND_POLYGON);
   put(out, rings);
-  for (std::uint32_t i = 0; i < rings; i++) put_line(out, count, true);
-}
-
-inline row point() {
-  row out;
-  put_header(out, WKB_KIND_POINT);
-  put_words(out, 2);
-  return out;
-}
-
-inline row point_with_z() {
-  row out;
-  put_header(out, 1000 * WKB_DIM_XYZ + WKB_KIND_POINT);
-  put_words(out, 3);
-  return out;
-}
-
-template <std::uint32_t COUNT>
-row line() {
-  row out;
-  put_header(out, WKB_KIND_LINE_STRING);
-  put_line(out, COUNT, false);
-  return out;
-}
-
-inline row line_with_z() {
-  row out;
-  put_header(out, 1000 * WKB_DIM_XYZ + WKB_KIND_LINE_STRING);
-  put(out, 10);
-  put_words(out, 30);
-  return out;
-}
-
-template <std::uint32_t RINGS, std::uint32_t COUNT>
-row polygon() {
-  row out;
-  put_polygon(out, RINGS, COUNT);
-  return out;
-}
-
-template <std::uint32_t MEMBERS, std::uint32_t COUNT>
-row multi_polygon() {
-  row out;
-  put_header(out, WKB_KIND_MULTI_POLYGON);
-  put(out, MEMBERS);
-  for (std::uint32_t i = 0; i < MEMBERS; i++) put_polygon(out, 1, COUNT);
-  return out;
-}
-
-inline row multi_point() {
-  row out;
-  put_header(out, WKB_KIND_MULTI_POINT);
-  put(out, 50);
-  for (int i = 0; i < 50; i++) {
-    put_header(out, WKB_KIND_POINT);
-    put_words(out, 2);
+  for (std::uint32_t i = 0; i < rings; i++) {
+    put(out, count);
+    put_words(out, 2 * count);
+    std::copy_n(out.end() - 16 * static_cast<std::ptrdiff_t>(count), 16, out.end() - 16);
   }
   return out;
 }
 
-inline row collection_of(const std::vector<row> &members) {
-  row out;
-  put_header(out, WKB_KIND_GEOMETRY_COLLECTION);
+inline row geometry_of(wkb_kind kind, const std::vector<row> &members) {
+  row out = header(kind);
   put(out, static_cast<std::uint32_t>(members.size()));
   for (const row &it : members) out.insert(out.end(), it.begin(), it.end());
   return out;
 }
 
-inline row small_collection() { return collection_of({point(), line<10>(), polygon<1, 5>(), point()}); }
+template <typename Make>
+row geometry_of(wkb_kind kind, std::size_t count, const Make &make) {
+  std::vector<row> members(count);
+  std::generate(members.begin(), members.end(), make);
+  return geometry_of(kind, members);
+}
 
 // Makes a word of a line string a NaN.
 inline void put_nan(row &line_string, std::size_t word) {
@@ -131,16 +91,13 @@ inline void put_nan(row &line_string, std::size_t word) {
 }
 
 inline row line_with_nan() {
-  row out = line<100>();
+  row out = line(100);
   put_nan(out, random_numbers() % 200);
   return out;
 }
 
 inline row line_without_z_and_m() {
-  row out;
-  put_header(out, 1000 * WKB_DIM_XYZM + WKB_KIND_LINE_STRING);
-  put(out, 10);
-  put_words(out, 40);
+  row out = line(10, WKB_DIM_XYZM);
   for (std::size_t i = 0; i < 10; i++) put_nan(out, 4 * i + 2), put_nan(out, 4 * i + 3);
   return out;
 }
@@ -151,19 +108,20 @@ struct shape {
   bool has_levels = true;
 };
 
-constexpr shape SHAPES[] = {
-    {"point", point},
-    {"point with z", point_with_z},
-    {"line of 10", line<10>},
-    {"line of 10 with z", line_with_z},
-    {"line of 100", line<100>},
-    {"polygon of 5", polygon<1, 5>},
-    {"polygon of 20", polygon<1, 20>},
-    {"polygon of 2 x 12", polygon<2, 12>},
-    {"multi polygon of 5 x 12", multi_polygon<5, 12>},
-    {"multi polygon of 1 x 5", multi_polygon<1, 5>},
-    {"multi point of 50", multi_point},
-    {"collection of 4", small_collection, false},
+const shape SHAPES[] = {
+    {"point", [] { return point(); }},
+    {"point with z", [] { return point(WKB_DIM_XYZ); }},
+    {"line of 10", [] { return line(10); }},
+    {"line of 10 with z", [] { return line(10, WKB_DIM_XYZ); }},
+    {"line of 100", [] { return line(100); }},
+    {"polygon of 5", [] { return polygon(1, 5); }},
+    {"polygon of 20", [] { return polygon(1, 20); }},
+    {"polygon of 2 x 12", [] { return polygon(2, 12); }},
+    {"multi polygon of 5 x 12", [] { return geometry_of(WKB_KIND_MULTI_POLYGON, 5, [] { return polygon(1, 12); }); }},
+    {"multi polygon of 1 x 5", [] { return geometry_of(WKB_KIND_MULTI_POLYGON, {polygon(1, 5)}); }},
+    {"multi point of 50", [] { return geometry_of(WKB_KIND_MULTI_POINT, 50, [] { return point(); }); }},
+    {"collection of 4",
+     [] { return geometry_of(WKB_KIND_GEOMETRY_COLLECTION, {point(), line(10), polygon(1, 5), point()}); }, false},
     {"line of 100, one NaN", line_with_nan},
     {"line of 10, z and m NaN", line_without_z_and_m},
 };
