@@ -1,5 +1,5 @@
-// Times calls of C and C++ and the dump over files of checks/hosts/cost_inputs.py: prints the call, the file, and the
-// processor's seconds of the shorter of two runs. Usage: cost PART_OF_A_NAME FILE..
+// Times calls of C and C++ and the dump over files of checks/hosts/cost_inputs.py that are columns: prints the call, the
+// file, and the processor's seconds of the shorter of two runs. Usage: cost PART_OF_A_NAME FILE..
 #include "wkb_dump.h"
 #include "wkb_facts.hpp"
 
@@ -12,37 +12,6 @@
 
 namespace {
 
-constexpr wkb_options LITTLE{WKB_ORDER_LITTLE, WKB_FORM_ISO, 0}, BIG{WKB_ORDER_BIG, WKB_FORM_ISO, 0};
-
-// A column, or levels if it has singles.
-struct input {
-  std::vector<std::uint64_t> numbers;
-  wkb_column column{};
-  wkb::levels levels{};
-
-  explicit input(const char *path) {
-    std::ifstream file(path, std::ios::binary);
-    const std::string held{std::istreambuf_iterator<char>(file), {}};
-    numbers.resize(held.size() / 8);
-    std::memcpy(numbers.data(), held.data(), held.size());
-    const std::uint64_t rows = numbers[0], singles = numbers[1], rings = numbers[2], size = numbers[3];
-    const std::uint64_t *at = numbers.data() + 5;
-    if (singles == 0) {
-      const std::uint64_t *validity = at + rows + 1, *data = validity + numbers[4];
-      column = {data, size, at, 8, numbers[4] == 0 ? nullptr : validity, 0, rows};
-      return;
-    }
-    const auto ends = [&](std::uint64_t count) { return std::span(std::exchange(at, at + count), count); };
-    levels.row_ends = ends(rows), levels.single_ends = ends(singles), levels.ring_ends = ends(rings);
-    levels.words = {reinterpret_cast<const double *>(at), size};
-  }
-  bool is_levels() const { return column.offsets == nullptr; }
-  wkb::bytes bytes() const {
-    const auto *offsets = static_cast<const std::uint64_t *>(column.offsets);
-    return {static_cast<const std::byte *>(column.data) + offsets[0], offsets[1] - offsets[0]};
-  }
-};
-
 double sum_of(const wkb::part &part) {
   double sum = 0;
   if (part.has_coordinates()) for (const double word : part.words()) sum += word;
@@ -50,46 +19,42 @@ double sum_of(const wkb::part &part) {
   return sum;
 }
 
-void dump(wkb::bytes bytes, wkb_dump_options options) {
+void dump(wkb::bytes bytes) {
+  const wkb_dump_options options{5000, 10};
   const auto put = [](void *to, const char *, std::size_t size) { return *static_cast<std::size_t *>(to) += size, 0; };
   std::size_t size = 0;
   wkb_dump(bytes.data(), bytes.size(), &options, put, &size, nullptr);
 }
 
-enum takes { ONE, COLUMN, LEVELS };
-struct call {
-  const char *name;
-  takes what;
-  void (*run)(const input &);
-};
-template <wkb_kind KIND>
-void from_coordinates(const input &it) { (void)wkb::rows_from_coordinates(it.levels, KIND, WKB_DIM_XY, LITTLE); }
-
+constexpr wkb_options LITTLE{WKB_ORDER_LITTLE, WKB_FORM_ISO, 0}, BIG{WKB_ORDER_BIG, WKB_FORM_ISO, 0};
 constexpr wkb_kind ANY = WKB_KIND_GEOMETRY_COLLECTION;
-const call CALLS[] = {
-    {"check", ONE, [](const input &it) { (void)wkb::check(it.bytes()); }},
-    {"bounds", ONE, [](const input &it) { (void)wkb::try_bounds(it.bytes()); }},
-    {"write", ONE, [](const input &it) { std::vector<std::byte> out; (void)wkb::try_write(it.bytes(), LITTLE, out); }},
-    {"write_big", ONE, [](const input &it) { std::vector<std::byte> out; (void)wkb::try_write(it.bytes(), BIG, out); }},
-    {"same", ONE, [](const input &it) { (void)wkb::try_same(it.bytes(), it.bytes()); }},
-    {"parts", ONE, [](const input &it) { wkb::reader all; if (auto of = all.try_read(it.bytes())) sum_of(*of); }},
-    {"dump", ONE, [](const input &it) { dump(it.bytes(), {5000, 10}); }},
-    {"check_rows", COLUMN, [](const input &it) { (void)wkb::check_rows(it.column); }},
-    {"facts_of_rows", COLUMN, [](const input &it) { (void)wkb::facts_of_rows(it.column); }},
-    {"parts_of_rows", COLUMN, [](const input &it) { (void)wkb::parts_of_rows(it.column); }},
-    {"write_rows", COLUMN, [](const input &it) { (void)wkb::write_rows(it.column, LITTLE); }},
-    {"write_rows_big", COLUMN, [](const input &it) { (void)wkb::write_rows(it.column, BIG); }},
-    {"collect", COLUMN, [](const input &it) {
-       std::vector<std::byte> out;
-       (void)wkb::try_collect(it.column, ANY, WKB_DIM_XY, LITTLE, out);
-     }},
-    {"coordinates_of_rows", COLUMN, [](const input &it) { (void)wkb::coordinates_of_rows(it.column, WKB_DIM_XYZM); }},
-    {"points_from_coordinates", LEVELS, from_coordinates<WKB_KIND_POINT>},
-    {"lines_from_coordinates", LEVELS, from_coordinates<WKB_KIND_LINE_STRING>},
-    {"polygons_from_coordinates", LEVELS, from_coordinates<WKB_KIND_POLYGON>},
-    {"multi_points_from_coordinates", LEVELS, from_coordinates<WKB_KIND_MULTI_POINT>},
-    {"multi_lines_from_coordinates", LEVELS, from_coordinates<WKB_KIND_MULTI_LINE_STRING>},
-    {"multi_polygons_from_coordinates", LEVELS, from_coordinates<WKB_KIND_MULTI_POLYGON>}};
+std::vector<std::byte> out;
+
+struct call_of_one {
+  const char *name;
+  void (*run)(wkb::bytes);
+};
+const call_of_one OF_ONE[] = {
+    {"check", [](wkb::bytes it) { (void)wkb::check(it); }},
+    {"bounds", [](wkb::bytes it) { (void)wkb::try_bounds(it); }},
+    {"write", [](wkb::bytes it) { (void)wkb::try_write(it, LITTLE, out); }},
+    {"write_big", [](wkb::bytes it) { (void)wkb::try_write(it, BIG, out); }},
+    {"same", [](wkb::bytes it) { (void)wkb::try_same(it, it); }},
+    {"parts", [](wkb::bytes it) { wkb::reader all; if (auto of = all.try_read(it)) sum_of(*of); }},
+    {"dump", dump}};
+
+struct call_of_rows {
+  const char *name;
+  void (*run)(const wkb_column &);
+};
+const call_of_rows OF_ROWS[] = {
+    {"check_rows", [](const wkb_column &it) { (void)wkb::check_rows(it); }},
+    {"facts_of_rows", [](const wkb_column &it) { (void)wkb::facts_of_rows(it); }},
+    {"parts_of_rows", [](const wkb_column &it) { (void)wkb::parts_of_rows(it); }},
+    {"write_rows", [](const wkb_column &it) { (void)wkb::write_rows(it, LITTLE); }},
+    {"write_rows_big", [](const wkb_column &it) { (void)wkb::write_rows(it, BIG); }},
+    {"collect", [](const wkb_column &it) { (void)wkb::try_collect(it, ANY, WKB_DIM_XY, LITTLE, out); }},
+    {"coordinates_of_rows", [](const wkb_column &it) { (void)wkb::coordinates_of_rows(it, WKB_DIM_XYZM); }}};
 
 double now() {
   std::timespec time{};
@@ -98,7 +63,9 @@ double now() {
 }
 
 // A run is of as many calls as take a millisecond, since the clock may stand still for shorter.
-double seconds_of(const call &it, const input &from) {
+template <typename Call, typename Input>
+void time(const Call &it, const Input &from, char **words, const char *file) {
+  if (std::strstr(it.name, words[1]) == nullptr) return;
   double shortest = 1e9;
   for (int round = 0; round < 2; round++) {
     const double begin = now();
@@ -106,18 +73,24 @@ double seconds_of(const call &it, const input &from) {
     for (; taken < 0.001; taken = now() - begin, calls++) it.run(from);
     shortest = std::min(shortest, taken / calls);
   }
-  return shortest;
+  std::printf("%s %s %.9f\n", it.name, file, shortest);
 }
 
 }  // namespace
 
 int main(int count, char **words) {
   for (int i = 2; i < count; i++) {
-    const input from(words[i]);
-    for (const call &it : CALLS) {
-      if ((it.what == LEVELS) != from.is_levels() || (it.what == ONE && from.column.rows != 1)) continue;
-      if (std::strstr(it.name, words[1]) == nullptr) continue;
-      std::printf("%s %s %.9f\n", it.name, words[i], seconds_of(it, from));
-    }
+    std::ifstream file(words[i], std::ios::binary);
+    const std::string held{std::istreambuf_iterator<char>(file), {}};
+    std::vector<std::uint64_t> numbers(held.size() / 8);
+    std::memcpy(numbers.data(), held.data(), held.size());
+    const std::uint64_t rows = numbers[0], *offsets = numbers.data() + 5, *validity = offsets + rows + 1;
+    if (numbers[1] != 0) continue;  // levels
+    const void *data = validity + numbers[4];
+    const wkb_column column{data, numbers[3], offsets, 8, numbers[4] == 0 ? nullptr : validity, 0, rows};
+    const wkb::bytes bytes(static_cast<const std::byte *>(data) + offsets[0], offsets[1] - offsets[0]);
+    for (const auto &it : OF_ROWS) time(it, column, words, words[i]);
+    if (rows == 1)
+      for (const auto &it : OF_ONE) time(it, bytes, words, words[i]);
   }
 }

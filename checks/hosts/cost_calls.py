@@ -27,15 +27,18 @@ def of_python():
     columns |= {"joined": lambda column: wkb.Facts.joined(it.facts() for it in column.split(9))}
     columns |= {"collect": lambda column: wkb.collect(column, wkb.Kind.GEOMETRY_COLLECTION)}
 
-    def from_coordinates(rows, singles, rings, words):
-        # Offsets are ends with a 0 before them.
-        offsets = [memoryview(bytes(8) + it).cast("q") for it in (rings, singles, rows)]
-        return wkb.column_from_coordinates(wkb.Kind.MULTI_POLYGON, words.cast("d"), *offsets)
+    def from_coordinates(kind):
+        def call(rows, singles, rings, words):
+            # Offsets are ends with a 0 before them.
+            offsets = [memoryview(bytes(8) + it).cast("q") for it in (rings, singles, rows)]
+            return wkb.column_from_coordinates(kind, words.cast("d"), *offsets)
+
+        return call
 
     def column(offsets, bitmap, data):
         return wkb.Column(data, offsets.cast("q"), bitmap or None)
 
-    return one, columns, column, {"column_from_coordinates": from_coordinates}
+    return one, columns, column, {f"{it.name}_from_coordinates": from_coordinates(it) for it in list(wkb.Kind)[1:7]}
 
 
 def of_sqlite(extension):
