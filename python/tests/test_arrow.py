@@ -340,22 +340,6 @@ class FromArrow(unittest.TestCase):
         gc.collect()
         self.assertEqual((source.released, statuses(again)), (["schema", "array"], STATUSES[2:]))
 
-    def test_finalizers(self):
-        """The end of an object reads a column in a cycle with it, whose memory isn't released before."""
-        found = []
-
-        class User:
-            def __del__(self):
-                found.append([*self.column.check(), *self.again.check()])
-
-        for _ in range(20):
-            it = User()
-            it.column, it.again = Column.from_arrow(Arrow()), Column.from_arrow(Column.of(ROWS).write())
-            it.me = it.column.user = it.again.user = it
-        del it
-        gc.collect()
-        self.assertEqual(found, 20 * [[*STATUSES, *(16 if it else 0 for it in STATUSES)]])
-
     def test_pickled_slices(self):
         """A slice is pickled with the bytes, the offsets and the bits of its own rows."""
         rows = [POINT, None, b"\2", POLYGON] * 250

@@ -59,14 +59,6 @@ class Together(unittest.TestCase):
                 self.assertEqual((joined, repr(joined.box)), (column.facts(), repr(column.facts().box)))
         self.assertEqual(wkb.Facts.joined([]), Column.of([]).facts())
 
-    def test_signs(self):
-        """-0 is below +0, and NaNs don't count, in each order of the rows."""
-        point = lambda x: struct.pack("<BI2d", 1, 1, x, 0)
-        for zeros in ((0.0, -0.0), (-0.0, 0.0)):
-            self.assertEqual(str(Column.of(map(point, zeros)).facts().box.x), str(Range(-0.0, 0.0, 2)))
-        for others in itertools.permutations((1.0, math.nan, -math.inf, math.inf)):
-            self.assertEqual(Column.of(map(point, others)).facts().box.x, Range(-math.inf, math.inf, 3))
-
 
 class Whole(unittest.TestCase):
     """Results are compared as a whole, and tables show their first rows."""

@@ -117,19 +117,6 @@ class Lasting(unittest.TestCase):
         sums = [summed(parts._memory[64 * a : 64 * b]) for a, b in zip(offsets, offsets[1:])]
         self.assertEqual(sums, [*self.sums[9]])
 
-    def test_levels_of_a_column(self):
-        columns = [self.column.coordinates(dimension) for dimension in Dimension]
-        words = [memoryview(it.coordinates).cast("B") for it in columns]
-        _, rows, singles, rings, _ = columns[0]
-        for i, it in enumerate(self.rows):
-            own_singles = [int(end) for end in singles[rows[2 * i] : rows[2 * i + 1] + 1]]
-            own_rings = [int(end) for end in rings[own_singles[0] : own_singles[-1] + 1]]
-            levels = b"".join(all[8 * its.width * own_rings[0] : 8 * its.width * own_rings[-1]]
-                              for all, its in zip(words, Dimension))
-            ends = [end - own[0] for own in (own_rings, own_singles) for end in own[1:]]
-            found = summed(levels + struct.pack(f"<{len(ends)}Q", *ends))
-            self.assertEqual(found, it.sums[10], it.data.hex())
-
     def test_rows_of_levels(self):
         """The rows of each kind come back from the levels of all where the others are null."""
         for dimension in Dimension:
