@@ -1,13 +1,9 @@
 """What a user of the crate `wkb` can say of its public calls, and what these say."""
 import re
-import subprocess
 
 from checks import judge
 from items import Paths
-from pages import ROOT, text_of
-from public_words import WORDS, wrong
-
-PASSED_ON = re.compile(r"pub use Rattle\.wkb\.specs\.(\w+)\.\{?([^}\n]*)")
+from public_words import wrong
 
 
 class PublicWords(judge.Judge):
@@ -15,27 +11,6 @@ class PublicWords(judge.Judge):
 
     def wrong(self):
         return wrong()
-
-
-def words_in(text):
-    """The words of that file, each with its module."""
-    return {f"{module}.{it.split(' as ')[0]}" for module, names in PASSED_ON.findall(text) for it in names.split(", ")}
-
-
-class LostWords(judge.Judge):
-    """CHANGELOG names each word that the last release had, and that is gone: proofs above the library cite them."""
-
-    def wrong(self):
-        command, path = "git describe --tags --abbrev=0 --match v[0-9]*", WORDS.relative_to(ROOT)
-        tag = subprocess.run(command.split(), cwd=ROOT, capture_output=True, text=True).stdout.strip()
-        if not tag:
-            print("\nno release is tagged yet, so that no word for proofs can be lost")
-            return
-        earlier = subprocess.check_output(["git", "show", f"{tag}:{path}"], cwd=ROOT, text=True)
-        changes = text_of("CHANGELOG.md")
-        for it in words_in(earlier) - words_in(text_of(path)):
-            if f"`{it}`" not in changes:
-                yield f"CHANGELOG.md: no `{it}`, which {tag} has"
 
 
 def calls():
