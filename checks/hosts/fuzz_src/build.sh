@@ -6,7 +6,7 @@ set -euo pipefail
 own=$(dirname "$(readlink -f "${BASH_SOURCE[0]}")")
 c=$own/../../../c bench=$own/../../../bench/c
 cp -r "$c/wkb_proved.S" "$c/proved" "$WORK/"
-python3 "$own/blocks.py" mark "$WORK/proved/x86_64.s"
+python3 "$own/blocks.py" "$WORK/proved/x86_64.s"
 for it in "$own"/{one,column,levels}.c "$bench"/plain_{geometry,columns}.c "$c"/wkb{,_dump}.c "$WORK/wkb_proved.S"; do
   # shellcheck disable=SC2086
   "$CC" -std=c11 $CFLAGS -I"$WORK" -I"$c" -I"$bench" -c "$it" -o "$WORK/$(basename "$it").o"

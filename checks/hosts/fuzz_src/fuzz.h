@@ -4,13 +4,11 @@
 #include "plain_geometry.h"
 
 #include <math.h>
-#include <stdio.h>
-#include <stdlib.h>
 #include <sys/mman.h>
 
 #define EXPECT(holds) ((holds) ? (void)0 : __builtin_trap())
 
-enum { MORE = 4, UNTOUCHED = 0x5a, BLOCKS_MOST = 32, ROOM_MOST = 1 << 20, PAGE = 1 << 16, REACHED_MOST = 1 << 11 };
+enum { MORE = 4, UNTOUCHED = 0x5a, BLOCKS_MOST = 32, ROOM_MOST = 1 << 20, PAGE = 1 << 16 };
 
 /* How many blocks are used: a run begins with none, and a function that is called often sets it back. */
 static size_t used_blocks;
@@ -88,30 +86,12 @@ static inline wkb_box box_of(const uint8_t *data, const wkb_part *parts, size_t 
   return box;
 }
 
-/* The bytes that the marked assembly sets, cleared before each run, eight to a word, and those of all runs. */
-extern uint64_t __start___libfuzzer_extra_counters[] __attribute__((weak));
-extern uint64_t __stop___libfuzzer_extra_counters[] __attribute__((weak));
-static uint64_t reached[REACHED_MOST];
-
-static inline size_t reached_words(void) {
-  return (size_t)(__stop___libfuzzer_extra_counters - __start___libfuzzer_extra_counters);
-}
-
-static inline void put_reached(void) {
-  FILE *file = fopen(getenv("WKB_REACHED"), "wb");
-  EXPECT(file != NULL && fwrite(reached, 8, reached_words(), file) == reached_words() && fclose(file) == 0);
-}
-
 /* What a target tries. */
 static void try_input(const uint8_t *data, size_t len);
 
 int LLVMFuzzerTestOneInput(const uint8_t *data, size_t len);
 int LLVMFuzzerTestOneInput(const uint8_t *data, size_t len) {
-  static int has_begun;
-  if (!has_begun++ && getenv("WKB_REACHED")) atexit(put_reached);
   used_blocks = 0;
   try_input(memcpy(block(len), data, len), len);
-  EXPECT(reached_words() <= REACHED_MOST);
-  for (size_t i = 0; i < reached_words(); i++) reached[i] |= __start___libfuzzer_extra_counters[i];
   return 0;
 }
