@@ -1,13 +1,9 @@
 /* The dump over worked cases, whose lines are in test/dump.cases; and over the inputs of test/lasting.rows, in its last
- * line: its walk ends at the part and the byte that wkb_check rejects, or at the size that it finds,
- * and it puts no more lines than its options say. */
+ * line, which says what wkb_check does. checks/hosts/fuzz has its walk and the lines of other options. */
 #include "../../wkb_dump.h"
 #include "../lasting.h"
 
 enum { LINE_ROOM = 2048, CASES = 41 };
-
-static const wkb_dump_options LIMITS[] = {{3, 1000}, {0, 0}, {1, 1}, {2, 20}, {0, 40}, {4, 0}};
-enum { LIMITS_COUNT = sizeof LIMITS / sizeof LIMITS[0] };
 
 /* What was put. */
 typedef struct output {
@@ -24,27 +20,6 @@ static int count_line(void *to, const char *line, size_t length) {
   memcpy(out->last, line, length - 1), out->last[length - 1] = 0;
   out->lines++;
   return out->most > 0 && out->lines == out->most;
-}
-
-/* What is wrong with a dump of these bytes, or NULL. */
-static const char *wrong_dump(const uint8_t *bytes, size_t len, const wkb_dump_options *options) {
-  wkb_found found;
-  wkb_fault fault;
-  wkb_dump_walk walk;
-  output out = {0};
-  bool is_good = wkb_check(bytes, len, &found, &fault) == WKB_STATUS_OK;
-  int status = wkb_dump(bytes, len, options, count_line, &out, &walk);
-  bool is_cut_short = options->lines > 0 && out.lines > options->lines;
-  if (options->lines > 0 && out.lines > options->lines + WKB_DUMP_LINES_MORE) return "too many lines";
-  if (status != (is_good && found.size == len ? WKB_DUMP_ALONE : WKB_DUMP_OTHER)) return "another status";
-  if (!is_good) {
-    if (walk.parts != fault.part + 1) return "it ends at another part";
-    if (walk.begin != fault.offset) return "the refused part begins elsewhere";
-    return walk.end >= fault.offset && walk.end <= len ? NULL : "it ends elsewhere";
-  }
-  if (is_cut_short) return walk.parts <= found.parts && walk.end <= found.size ? NULL : "it goes on past the end";
-  if (walk.parts != found.parts) return "another number of parts";
-  return walk.end == found.size ? NULL : "it ends elsewhere";
 }
 
 /* The dump ends at the line that is no longer taken, whichever it is. */
@@ -67,14 +42,6 @@ static bool walks_behind_a_header(const uint8_t *bytes, size_t len) {
   int status = wkb_dump(bytes, len, NULL, count_line, &out, &alone);
   return wkb_dump(behind, len + 8, NULL, count_line, &out, &walk) == status && walk.parts == alone.parts &&
          walk.begin == alone.begin && walk.end == alone.end;
-}
-
-/* What is wrong with the walks over these bytes, or NULL. */
-static const char *wrong_walk(const uint8_t *bytes, size_t len) {
-  const char *wrong = NULL;
-  for (size_t i = 0; i < LIMITS_COUNT && wrong == NULL; i++) wrong = wrong_dump(bytes, len, &LIMITS[i]);
-  if (wrong == NULL && !stops(bytes, len)) wrong = "it goes on";
-  return wrong != NULL || walks_behind_a_header(bytes, len) ? wrong : "it walks another way behind a header";
 }
 
 /* The next line of the worked cases, without comments. */
@@ -180,9 +147,9 @@ static const char *wrong_row(const lasting *r) {
   if (bytes == NULL) exit(3);
   memcpy(bytes, r->bytes, r->len);
   wkb_dump(bytes, r->len, NULL, seek, &it, NULL);
-  const char *wrong = it.is_put ? wrong_walk(bytes, r->len) : "its end is another one";
+  const bool is_right = stops(bytes, r->len) && walks_behind_a_header(bytes, r->len);
   free(bytes);
-  return wrong;
+  return !it.is_put ? "its end is another one" : is_right ? NULL : "it goes on, or walks another way behind a header";
 }
 
 static size_t try_lasting(void) {
