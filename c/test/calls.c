@@ -155,6 +155,11 @@ static void null_is_allowed_in_collections(void) {
   wkb_column column = {data, sizeof data, OFFSETS, 8, NULL, 0, 2};
   wkb_status status = wkb_collect(&column, KIND, 0, &LITTLE_ISO, out, sizeof out, NULL, NULL, NULL);
   expect(status == WKB_STATUS_SHORT_POINT, "null", "a refused row");
+  wkb_fault fault;
+  size_t row = 77;
+  status = wkb_collect(&column, KIND, 0, &LITTLE_ISO, out, sizeof out, &size, &fault, &row);
+  expect(status == fault.status && fault.offset == 0 && fault.end == 21 && fault.len == 20, "the fault of a member", "");
+  expect(row == 1 && size == 9, "which row is no member", "");
   column.rows = 1;
   expect(wkb_collect(&column, KIND, 0, &LITTLE_ISO, NULL, 0, NULL, NULL, NULL) == no_room, "null", "no size");
   expect(wkb_collect(&column, KIND, 0, &LITTLE_ISO, out, 30, NULL, NULL, NULL) == GOOD, "null", "a row");

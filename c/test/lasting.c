@@ -125,15 +125,6 @@ static const char *wrong_bounds(const lasting *r) {
   return wkb_status_is_early_end(status) ? NULL : "a byte less is no early end";
 }
 
-/* Whether the bytes of a part are a geometry by themselves, if it is one. */
-static bool is_slice(const uint8_t *bytes, const wkb_part *p) {
-  const size_t size = (size_t)(p->end - p->begin);
-  wkb_found f;
-  if (p->kind == WKB_KIND_RING) return true;
-  return wkb_check(bytes + p->begin, size, &f, NULL) == WKB_STATUS_OK && f.size == size && f.kind == p->kind &&
-         f.order == p->order && f.srid == p->srid && f.has_srid == p->has_srid;
-}
-
 /* The words of a row under each dimension, and the ends of its rings and singles. */
 typedef struct levels {
   double words[4][INPUT_MOST / 4];
@@ -220,14 +211,8 @@ static const char *wrong_parts(const lasting *r) {
   if (wrong || status != WKB_STATUS_OK) return wrong;
   const uint32_t sum = summed(NO_SUM, parts, count * sizeof parts[0], sizeof parts[0]);
   if (count != wanted || sum != r->sums[OF_PARTS]) return "a part changes";
-  for (size_t i = 0; i < count; i++)
-    if (!is_slice(r->bytes, &parts[i])) return "the bytes of a part are another geometry";
   wrong = wrong_words(r, parts, count);
   if (wrong) return wrong;
-  wkb_found found;
-  wkb_check(r->bytes, r->len, &found, NULL);
-  const wkb_part whole = wkb_whole(&found);
-  if (memcmp(&whole, &parts[0], sizeof whole) != 0) return "the whole is another part";
   memset(parts, UNTOUCHED, sizeof parts);
   status = wkb_parts(r->bytes, r->len, parts, wanted - 1, &count, NULL);
   if (status != WKB_STATUS_NO_ROOM || count != wanted) return "room for all parts but one is enough";

@@ -8,6 +8,8 @@
 enum { ROWS = LASTING_MOST + 2, DATA_MOST = BYTES_MOST + 2 * 21, OUT_MOST = 2 * DATA_MOST, PARTS_MOST = 20000 };
 enum { WORDS_MOST = 40000, ENDS_MOST = 20000, FAR = 67 };
 static const size_t WIDTHS[] = {2, 3, 3, 4};
+/* The options under which no row keeps an SRID of its own. */
+static const uint32_t NUMBERS[] = {0, 2, 3, 4, 6, 7};
 
 static const lasting *of;
 static size_t rows, size;
@@ -182,7 +184,7 @@ static uint64_t are_back(const wkb_levels *levels, uint32_t kind, uint32_t dimen
 
 /* The rows of each kind come back from the levels of all. Those that have points are the last. */
 static void come_back(const wkb_coordinates *it, uint32_t dimension) {
-  static const uint32_t KINDS[] = {2, 3, 5, 6, 1, 4}, NUMBERS[] = {0, 2, 3, 4, 6, 7};
+  static const uint32_t KINDS[] = {2, 3, 5, 6, 1, 4};
   static uint8_t own[ROWS / 8 + 10];
   double *all = at_the_end(3, words, 8 * it->words_room);
   wkb_levels levels = {all, it->words_room, at_the_end(4, ring_ends, 8 * it->ring_room), it->ring_room,
@@ -232,7 +234,8 @@ static void are_split(const wkb_column *column) {
 
 /* The members of a geometry as rows are collected into what is written of it, and not in less room. */
 enum { MEMBERS_MOST = ROW_PARTS_MOST };
-static void members_are_collected(const lasting *r, wkb_options options, uint32_t sum) {
+static void members_are_collected(const lasting *r, uint32_t number) {
+  const wkb_options options = {number / 4, number % 4, CALLER_SRID};
   static wkb_part table[ROW_PARTS_MOST];
   static int64_t begins[MEMBERS_MOST + 1];
   const uint32_t kind = (uint32_t)r->fields[7], dimension = (uint32_t)r->fields[8];
@@ -243,39 +246,17 @@ static void members_are_collected(const lasting *r, wkb_options options, uint32_
   for (uint64_t at = 1; at < table[0].next; at = table[at].next) begins[++column.rows] = (int64_t)table[at].end;
   memset(out, UNTOUCHED, r->len + 5);
   wkb_status status = wkb_collect(&column, kind, dimension, &options, out, r->len + 4, &size, NULL, NULL);
-  expect(status == WKB_STATUS_OK && summed(NO_SUM, out, size, 1) == sum, "what is collected", "");
+  expect(status == WKB_STATUS_OK && summed(NO_SUM, out, size, 1) == r->sums[number], "what is collected", "");
   expect(is_kept(out + size, r->len + 5 - size), "more is collected", "");
   memset(out, UNTOUCHED, size);
   status = wkb_collect(&column, kind, dimension, &options, out, size - 1, &needed, NULL, NULL);
   expect(status == WKB_STATUS_NO_ROOM && needed == size && is_kept(out, size), "a collection without room", "");
 }
 
-/* A row that is rejected is told, unless one more collection around it is too many, and nothing is written. */
-static void is_no_member(wkb_column column, size_t row) {
-  const lasting *r = &of[row - 1];
-  wkb_fault fault = {0};
-  size_t at = 7, size = 7;
-  column.offsets = (const uint8_t *)column.offsets + row * column.offset_size, column.validity_offset += row;
-  column.rows = 1;
-  memset(out, UNTOUCHED, r->len);
-  const wkb_status status = wkb_collect(&column, WKB_KIND_GEOMETRY_COLLECTION, WKB_DIM_XY, &LITTLE_ISO, out, OUT_MOST,
-                                        &size, &fault, &at);
-  if (r->fields[0] >= 127) return;
-  const uint64_t found_fault[FAULT_COUNT] = {fault.part, fault.offset, fault.end, fault.len, fault.code};
-  expect(status == r->status && memcmp(found_fault, r->fields, sizeof found_fault) == 0, "the fault of a member", "");
-  expect(at == 0 && size == 7 && is_kept(out, r->len), "what a member that is none writes", "");
-}
-
-static void are_collected(const wkb_column *column) {
-  static const uint32_t NUMBERS[] = {0, 2, 3, 4, 6, 7};
-  for (size_t i = 1; i + 1 < rows; i++) {
-    const lasting *r = &of[i - 1];
-    if (!is_good(i)) is_no_member(*column, i);
-    for (int k = 0; k < 6 && is_good(i) && r->fields[7] >= WKB_KIND_MULTI_POINT; k++) {
-      const wkb_options options = {NUMBERS[k] / 4, NUMBERS[k] % 4, CALLER_SRID};
-      members_are_collected(r, options, r->sums[NUMBERS[k]]);
-    }
-  }
+static void are_collected(void) {
+  for (size_t i = 1; i + 1 < rows; i++)
+    for (int k = 0; k < 6 && is_good(i) && of[i - 1].fields[7] >= WKB_KIND_MULTI_POINT; k++)
+      members_are_collected(&of[i - 1], NUMBERS[k]);
 }
 
 /* Each row as a slice of the column, and each of the last ones with those behind it, of which the last is null. */
@@ -306,6 +287,6 @@ void what_lasts_is_as_it_was_in_columns(void) {
     are_written(&column);
     are_split(&column);
     are_sliced(&column);
-    if (i >= 4) are_collected(&column);
   }
+  are_collected();
 }
