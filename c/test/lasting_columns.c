@@ -1,12 +1,12 @@
 /* The inputs of test/lasting.rows as one column, between null rows, in each call for columns: its answers are those of
- * the rows, which come back from their levels, and are the members of collections. Validity begins at some bit, and
- * offsets have either size and any address. */
+ * the rows, and members are collected again. wkb_hpp_test.cpp has the rows come back from their levels. Validity begins
+ * at some bit, and offsets have either size and any address. */
 #include "lasting.h"
 #include <math.h>
 
 /* The rows of the column, with the null ones. Levels have at most a coordinate for 16 bytes. */
 enum { ROWS = LASTING_MOST + 2, DATA_MOST = BYTES_MOST + 2 * 21, OUT_MOST = 2 * DATA_MOST, PARTS_MOST = 20000 };
-enum { WORDS_MOST = 40000, ENDS_MOST = 20000, FAR = 67 };
+enum { WORDS_MOST = 40000, ENDS_MOST = 20000 };
 static const size_t WIDTHS[] = {2, 3, 3, 4};
 /* The options under which no row keeps an SRID of its own. */
 static const uint32_t NUMBERS[] = {0, 2, 3, 4, 6, 7};
@@ -149,58 +149,6 @@ static uint32_t summed_from(uint32_t sum, const uint64_t *all, uint64_t begin, u
   return sum;
 }
 
-/* Whether a row is a geometry of this kind and dimension. */
-static bool is_of(size_t row, uint32_t kind, uint32_t dimension) {
-  return is_good(row) && of[row - 1].fields[7] == kind && of[row - 1].fields[8] == dimension;
-}
-
-/* Coordinates that have no number have quiet NaNs alone, as empty points are written. */
-static void quiet(double *all, size_t count, size_t width) {
-  for (size_t i = 0; i < count; i += width) {
-    size_t numbers = 0;
-    for (size_t k = 0; k < width; k++) numbers += !isnan(all[i + k]);
-    for (size_t k = 0; k < width && numbers == 0; k++) all[i + k] = NAN;
-  }
-}
-
-/* What is written in a room of levels whose rows are null but for those of a kind. Returns the end of all. */
-static uint64_t are_back(const wkb_levels *levels, uint32_t kind, uint32_t dimension, uint32_t number, size_t room) {
-  const wkb_options options = {number / 4, number % 4, CALLER_SRID};
-  uint64_t start = 0, put = 0;
-  clear(out, sizeof out);
-  const size_t total = wkb_column_from_coordinates(levels, kind, dimension, &options, out, room, ends, statuses);
-  for (size_t i = 0; i < rows; start = ends[i++]) {
-    const bool is_own = is_of(i, kind, dimension), has_room = ends[i] <= room;
-    const uint32_t status = !is_own ? WKB_STATUS_NULL_ROW : has_room ? WKB_STATUS_OK : WKB_STATUS_NO_ROOM;
-    expect(statuses[i] == status && ends[i] >= start, "the status of levels", "");
-    if (!has_room) continue;
-    const uint32_t sum = summed(NO_SUM, out + start, (size_t)(ends[i] - start), 1);
-    expect(sum == (is_own ? of[i - 1].sums[number] : NO_SUM), "a row of levels", "");
-    put = ends[i];
-  }
-  expect(ends[rows - 1] == total && is_kept(out + put, total + 1 - (size_t)put), "all rows of levels", "");
-  return total;
-}
-
-/* The rows of each kind come back from the levels of all. Those that have points are the last. */
-static void come_back(const wkb_coordinates *it, uint32_t dimension) {
-  static const uint32_t KINDS[] = {2, 3, 5, 6, 1, 4};
-  static uint8_t own[ROWS / 8 + 10];
-  double *all = at_the_end(3, words, 8 * it->words_room);
-  wkb_levels levels = {all, it->words_room, at_the_end(4, ring_ends, 8 * it->ring_room), it->ring_room,
-                       at_the_end(5, single_ends, 8 * it->single_room), it->single_room,
-                       at_the_end(6, ends, 8 * rows), rows, NULL, FAR};
-  for (int k = 0; k < 36; k++) {
-    const uint32_t kind = KINDS[k / 6], number = NUMBERS[k % 6];
-    memset(own, 0, sizeof own);
-    for (size_t i = 0; i < rows; i++) own[(i + FAR) / 8] |= (uint8_t)(is_of(i, kind, dimension) << (i + FAR) % 8);
-    levels.validity = at_the_end(7, own, (FAR + rows + 7) / 8);
-    if (kind == WKB_KIND_POINT) quiet(all, levels.word_count, WIDTHS[dimension]);
-    const uint64_t total = are_back(&levels, kind, dimension, number, OUT_MOST);
-    if (total > 0) are_back(&levels, kind, dimension, number, (size_t)total - 1);
-  }
-}
-
 /* The levels under each dimension, in just enough room. */
 static void are_split(const wkb_column *column) {
   static uint32_t sums[ROWS];
@@ -228,7 +176,6 @@ static void are_split(const wkb_column *column) {
     }
     expect(end.coordinates == it.coordinates && end.rings == it.rings && end.singles == it.singles, "the totals", "");
     expect(is_kept(words + it.words_room, sizeof words[0]), "words more", "");
-    come_back(&it, dimension);
   }
 }
 

@@ -1,5 +1,4 @@
-/* Levels that no input has, and what wkb.h says of them; lasting_columns.c has the levels of all inputs, all options
- * and smaller rooms. */
+/* Levels that no input has, and what wkb.h says of them; wkb_hpp_test.cpp has those of all inputs under each option. */
 #include "shared.h"
 
 enum { ROWS_MOST = 6, OUT_MOST = 512 };
@@ -46,15 +45,16 @@ static const worked WORKED[] = {
      {NULL, "01 02000000 01000000 WX", "01 02000000 00000000"}, {BAD, OK, OK}},
 };
 
-/* The bit of the first row is bit 5, so that other rows have bits of the byte behind. */
+/* The bit of the first row is bit 5, so that other rows have bits of the byte behind. In a room that is a byte too
+ * small the last encoding has none. */
 static void rows_are_written(const worked *w) {
   double words[32];
-  uint8_t out[OUT_MOST], statuses[ROWS_MOST], wanted[OUT_MOST], present[2] = {255, 255}, bytes[sizeof words];
+  uint8_t out[OUT_MOST], statuses[ROWS_MOST], wanted[OUT_MOST], present[2] = {0, 0}, bytes[sizeof words];
   uint64_t ends[ROWS_MOST];
   size_t count = spelled(w->words, bytes) / sizeof words[0], start = 0;
   const wkb_part part = {.width = 1, .order = WKB_ORDER_LITTLE};
   wkb_words(bytes, &part, 0, count, words);
-  for (size_t i = 0; i < w->rows; i++) present[(5 + i) / 8] ^= (uint8_t)((w->statuses[i] == NONE) << (5 + i) % 8);
+  for (size_t i = 0; i < w->rows; i++) present[(5 + i) / 8] |= (uint8_t)((w->statuses[i] != NONE) << (5 + i) % 8);
   const wkb_levels levels = {words, count, w->ring_ends, w->rings, w->single_ends, w->singles, w->row_ends, w->rows,
                              present, 5};
   wkb_column_from_coordinates(&levels, w->kind, w->dimension, &LITTLE_ISO, out, OUT_MOST, ends, statuses);
@@ -63,6 +63,13 @@ static void rows_are_written(const worked *w) {
     expect(statuses[i] == w->statuses[i] && ends[i] == start + size, "a row of levels", w->words);
     expect(memcmp(out + start, wanted, size) == 0, "an encoding of levels", w->words);
   }
+  memset(out, 0x5a, sizeof out);
+  wkb_column_from_coordinates(&levels, w->kind, w->dimension, &LITTLE_ISO, out, start - 1, ends, statuses);
+  for (size_t i = 0; i < w->rows; i++) {
+    const bool is_last = w->statuses[i] == OK && ends[i] == start;
+    expect(statuses[i] == (is_last ? WKB_STATUS_NO_ROOM : w->statuses[i]), "a status without room", w->words);
+  }
+  expect(out[start - 1] == 0x5a, "a byte without room", w->words);
 }
 
 void levels_are_right(void) {
