@@ -1,5 +1,4 @@
-/* Each call of wkb.h, for the tests that make all of them: where signals interrupt, in children, over a painted stack,
- * and on Windows through faults. */
+/* Each call of wkb.h, for the tests that make all of them: over a painted stack, and on Windows through faults. */
 #ifndef EVERY_H
 #define EVERY_H
 

@@ -232,7 +232,8 @@ static const char *wrong_comparison(const lasting *r, const lasting *other) {
   return status == r->status && which == 1 && is_fault(r, &fault) ? NULL : "wkb_same refuses the second of two first";
 }
 
-const char *wrong_answer(const lasting *r, const lasting *other) {
+/* What is wrong with the library's answer for a row, of which OTHER is an accepted one to compare it with, or NULL. */
+static const char *wrong_answer(const lasting *r, const lasting *other) {
   wkb_found found;
   wkb_fault fault;
   memset(&found, UNTOUCHED, sizeof found), memset(&fault, UNTOUCHED, sizeof fault);

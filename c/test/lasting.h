@@ -23,9 +23,6 @@ typedef struct lasting {
 size_t lasting_rows(const lasting **to);
 bool is_found(const lasting *r, const wkb_found *f);
 
-/* What is wrong with the library's answer for a row, of which OTHER is an accepted one to compare it with, or NULL. */
-const char *wrong_answer(const lasting *r, const lasting *other);
-
 /* Whether all bytes from one on are as they were. */
 bool is_kept(const void *from, size_t len);
 

@@ -47,7 +47,6 @@ void calls_are_right(void);
 void texts_are_right(void);
 void levels_are_right(void);
 void little_stack_is_taken(void);
-void calls_run_anywhere(void);
 void what_lasts_is_as_it_was(void);
 
 #endif

@@ -9,7 +9,7 @@ from checks import judge
 from pages import text_of
 
 DECLARED = "c/wkb_raw.h"
-# In handlers and children, over a painted stack, and through a fault on Windows; and where a page ends.
+# Over a painted stack, and through a fault on Windows; and where a page ends.
 EVERY = [f"c/test/{it}.c" for it in ("every", "lasting")]
 
 
