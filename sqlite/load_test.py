@@ -31,8 +31,11 @@ CALLS = """select wkb_well_formed(g) and wkb_fault(b) is not null and wkb_fault(
   x'47500001e61000000101000080000000000000f03f00000000000000400000000000000840' as e,
   x'47500001e61000000107000000010000000101000000000000000000f03f0000000000000040' as g)"""
 
-# Calls whose results take memory, each alone. Of a statement that is prepared nothing else does.
+# Calls whose results take memory, each alone, and others, over a blob of a GeoPackage too. Of a statement that is
+# prepared nothing else takes any.
 TAKING = [f"select wkb_{it} is not null" for it in ("fault(x'01')", "dump(x'01')", "canonical(x'010200000000000000')")]
+LINES = "x'0107000000020000000102000000000000000102000000000000'", "x'47500001e6100000010200000000000000'"
+OTHERS = [f"select {it}({line}) is not 2" for it in ("wkb_well_formed", "wkb_kind", "wkb_xmin") for line in LINES]
 
 
 def opened():
@@ -124,6 +127,8 @@ def main():
     loads, calls = without_memory(load_by_query), without_memory(answer, load)
     for query in TAKING:
         assert without_memory(lambda it: answer(it, query), lambda it: (load(it), answer(it, query))), query
+    for query in OTHERS:
+        assert not without_memory(lambda it: answer(it, query), lambda it: (load(it), answer(it, query))), query
     assert loads > 30 and calls > 30, (loads, calls)
     print(f"sqlite: a load fails in {loads} rooms, or by a statement, and can be tried again; calls fail in {calls}")
 
