@@ -153,22 +153,6 @@ void outputs() {
   expect(point == POINT && point.capacity() < 100, "the room of a short geometry");
 }
 
-// Each call allocates its results, and little meanwhile.
-void allocations() {
-  const filled all("0103000020e610000001000000" "01000000" + ONE_AND_TWO);
-  const wkb_column column = all.column();
-  const auto it = wkb::coordinates_of_rows(column, WKB_DIM_XY);
-  const wkb::levels from{it.words, it.ring_ends, it.single_ends, it.row_ends};
-  const auto allocate = [](auto... calls) {
-    for (const std::size_t count : {refusals(calls, nothing)...}) expect(0 < count && count < 8, "allocations");
-  };
-  allocate([&] { (void)wkb::check_rows(column); }, [&] { (void)wkb::found_of_rows(column); },
-           [&] { (void)wkb::bounds_of_rows(column); }, [&] { (void)wkb::parts_of_rows(column); },
-           [&] { (void)wkb::write_rows(column, BIG); }, [&] { (void)wkb::coordinates_of_rows(column, WKB_DIM_XY); },
-           [&] { (void)wkb::rows_from_coordinates(from, WKB_KIND_POLYGON, WKB_DIM_XY, BIG); },
-           [&] { (void)wkb::facts_of_rows(column); });
-}
-
 // What wkb.hpp says that allocates nothing; so it throws nothing.
 static_assert(noexcept(wkb::check({})) && noexcept(wkb::try_bounds({})) && noexcept(wkb::try_same({}, {})));
 static_assert(noexcept(wkb::try_write({}, BIG, std::span<std::byte>())));
@@ -266,7 +250,6 @@ int main() {
   rows_that_are_no_members();
   readers();
   outputs();
-  allocations();
   ranges();
   levels_without_ends();
   facts();
