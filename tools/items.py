@@ -65,10 +65,6 @@ class Item:
         fields = ", ".join(it.signature for it in self.inside) if self.kind == "" else ""
         return self.signature + (f" {{ {fields} }}" if fields else "")
 
-    def said(self, word):
-        """The clauses after `requires` or `ensures`, each with its name, or None."""
-        return [(name, clause) for it, name, clause in self.clauses if it == word]
-
 
 def header_at(bare, at):
     """Where the next header begins, behind comments and attributes."""

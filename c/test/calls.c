@@ -5,7 +5,7 @@
 #define BAD WKB_STATUS_BAD_OFFSETS
 #define GOOD WKB_STATUS_OK
 #define NONE WKB_STATUS_NULL_ROW
-enum { MOST = ASKED_MOST, FIRST_BIT = 5, ROOM = 512, UNTOUCHED = 0x5a };
+enum { MOST = 13, UNKNOWN = 6, COLUMN_CALLS = 8, FIRST_BIT = 5, ROOM = 512, UNTOUCHED = 0x5a };
 static const wkb_options NO_ORDER = {2, WKB_FORM_ISO, 4326}, NO_FORM = {WKB_ORDER_BIG, 4, 4326};
 static const wkb_kind KIND = WKB_KIND_MULTI_POINT;
 static const wkb_column NO_ROWS = {NULL, 0, NULL, 0, NULL, 0, 0};
@@ -34,7 +34,8 @@ static const struct {
     {{0, 21, 42, 63, 84}, 4, 15, {GOOD, GOOD, GOOD, GOOD}},
 };
 
-void ask(int call, const wkb_column *of, uint8_t *statuses) {
+/* One of the calls that give each row of a column a status. Those from UNKNOWN on are asked for what has no meaning. */
+static void ask(int call, const wkb_column *of, uint8_t *statuses) {
   static uint8_t out[ROOM];
   static uint64_t ends[MOST], ring_ends[ROOM], single_ends[ROOM];
   static double words[ROOM];

@@ -44,23 +44,6 @@ size_t lasting_rows(const lasting **to) {
   return rows;
 }
 
-/* Of all over the table. */
-void fill(filled *f) {
-  memset(f->offsets, 0, sizeof f->offsets), memset(f->validity, 0xff, sizeof f->validity);
-  const lasting *r;
-  for (size_t row = 0; row < SHORT_ROWS; row++) {
-    size_t i = row * 1009 % lasting_rows(&r);
-    while (r[i].len > SHORT_MOST) i++;
-    memcpy(f->data + f->offsets[row], r[i].bytes, r[i].len);
-    f->offsets[row + 1] = f->offsets[row] + (int64_t)r[i].len, f->statuses[row] = r[i].status;
-  }
-  const int64_t size = f->offsets[SHORT_ROWS];
-  f->offsets[SHORT_ROWS + 1] = size, f->offsets[SHORT_ROWS + 2] = size + 1;
-  f->validity[SHORT_ROWS / 8] &= (uint8_t)~(1 << SHORT_ROWS % 8);
-  const wkb_column column = {f->data, (size_t)size, f->offsets, sizeof f->offsets[0], f->validity, 0, COLUMN_ROWS};
-  f->column = column;
-}
-
 uint32_t summed(uint32_t sum, const void *of, size_t len, size_t item) {
   const uint8_t *from = of;
   const uint16_t one = 1;

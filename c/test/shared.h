@@ -16,22 +16,6 @@ size_t spelled(const char *text, uint8_t *bytes);
 
 extern const wkb_options LITTLE_ISO;
 
-/* A column of short inputs of test/lasting.rows, and after them a null row and one with bad offsets. */
-enum { SHORT_ROWS = 30, SHORT_MOST = 64, COLUMN_ROWS = SHORT_ROWS + 2 };
-typedef struct filled {
-  uint8_t data[SHORT_ROWS * SHORT_MOST], validity[(COLUMN_ROWS + 7) / 8];
-  int64_t offsets[COLUMN_ROWS + 1];
-  wkb_status statuses[SHORT_ROWS];
-  wkb_column column;
-} filled;
-
-void fill(filled *f);
-
-/* One of the calls that give each row of a column a status, with room for all of so many short rows. Those from UNKNOWN
- * on are asked for what has no meaning. */
-enum { ASKED_MOST = 13, UNKNOWN = 6, COLUMN_CALLS = 8 };
-void ask(int call, const wkb_column *of, uint8_t *statuses);
-
 /* The end of pages of so many bytes that may be read and written, before one that may not. */
 uint8_t *end_of_pages(size_t size);
 

@@ -2,7 +2,7 @@
  * nothing. */
 #define _GNU_SOURCE
 #include "every.h"
-#include "shared.h"
+#include "lasting.h"
 #include <pthread.h>
 
 /* What wkb.h says of calls that return parts, and of the others, times what other compilers of the core take. */
@@ -15,7 +15,7 @@ enum { PARTS_MOST = STACK_TIMES * (20 << 10) };
 enum { PARTS_MOST = STACK_TIMES * (28 << 10) };
 #endif
 enum { OTHERS_MOST = STACK_TIMES * (2 << 10) };
-enum { DEPTH = 127, STACK_SIZE = 1 << 18, PAINT = 0xa5 };
+enum { DEPTH = 127, STACK_SIZE = 1 << 18, PAINT = 0xa5, STEP = 30, SHORT_MOST = 64 };
 
 static uint8_t bytes[EVERY_BYTES];
 static size_t len;
@@ -101,11 +101,10 @@ void little_stack_is_taken(void) {
   all_take_little(WKB_STATUS_OK, without, stack);
   len--;
   all_take_little(WKB_STATUS_SHORT_POINT, without, stack);
-  static filled inputs;
-  fill(&inputs);
-  for (int i = 0; i < SHORT_ROWS; i++) {
-    len = (size_t)(inputs.offsets[i + 1] - inputs.offsets[i]);
-    memcpy(bytes, inputs.data + inputs.offsets[i], len);
-    all_take_little(inputs.statuses[i], without, stack);
+  const lasting *r;
+  for (size_t i = 0; i < lasting_rows(&r); i += STEP) {
+    if (r[i].len > SHORT_MOST) continue;
+    memcpy(bytes, r[i].bytes, len = r[i].len);
+    all_take_little(r[i].status, without, stack);
   }
 }
