@@ -45,6 +45,10 @@ static const worked WORKED[] = {
      {NULL, "01 02000000 01000000 WX", "01 02000000 00000000"}, {BAD, OK, OK}},
 };
 
+static const uint64_t *ends_at(int place, const uint64_t *ends, size_t count) {
+  return ends ? at_the_end(place, ends, 8 * count) : NULL;
+}
+
 /* The bit of the first row is bit 5, so that other rows have bits of the byte behind. In a room that is a byte too
  * small the last encoding has none. */
 static void rows_are_written(const worked *w) {
@@ -55,8 +59,9 @@ static void rows_are_written(const worked *w) {
   const wkb_part part = {.width = 1, .order = WKB_ORDER_LITTLE};
   wkb_words(bytes, &part, 0, count, words);
   for (size_t i = 0; i < w->rows; i++) present[(5 + i) / 8] |= (uint8_t)((w->statuses[i] != NONE) << (5 + i) % 8);
-  const wkb_levels levels = {words, count, w->ring_ends, w->rings, w->single_ends, w->singles, w->row_ends, w->rows,
-                             present, 5};
+  const wkb_levels levels = {at_the_end(0, words, 8 * count), count, ends_at(1, w->ring_ends, w->rings), w->rings,
+                             ends_at(2, w->single_ends, w->singles), w->singles, ends_at(3, w->row_ends, w->rows),
+                             w->rows, at_the_end(4, present, (5 + w->rows + 7) / 8), 5};
   wkb_column_from_coordinates(&levels, w->kind, w->dimension, &LITTLE_ISO, out, OUT_MOST, ends, statuses);
   for (size_t i = 0; i < w->rows; start = (size_t)ends[i++]) {
     const size_t size = w->encodings[i] ? spelled(w->encodings[i], wanted) : 0;
