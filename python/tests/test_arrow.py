@@ -402,16 +402,10 @@ class Ogr:
     """OGR's stream of a layer, with the capsule protocol. Its structs live by OGR's own objects."""
 
     def __init__(self, layer, size):
-        options = [f"MAX_FEATURES_IN_BATCH={size}", "INCLUDE_FID=NO"]
-        self.kept = [layer.GetArrowStream(options)]
+        self.kept = layer.GetArrowStream([f"MAX_FEATURES_IN_BATCH={size}", "INCLUDE_FID=NO"])
 
     def __arrow_c_stream__(self, requested_schema=None):
-        return new_capsule(int(self.kept[0].this), b"arrow_array_stream", None)
-
-    def __arrow_c_array__(self, requested_schema=None):
-        self.kept += self.kept[0].GetSchema(), self.kept[0].GetNextRecordBatch()
-        schema, array = (it._getPtr() for it in self.kept[-2:])
-        return new_capsule(schema, b"arrow_schema", None), new_capsule(array, b"arrow_array", None)
+        return new_capsule(int(self.kept.this), b"arrow_array_stream", None)
 
 
 @unittest.skipUnless(ogr and hasattr(ogr.Layer, "GetArrowStream"), "OGR's bindings, of GDAL 3.6 or later, are not here")
@@ -437,6 +431,3 @@ class FromOgr(unittest.TestCase):
             columns = list(Column.chunks_from_arrow(source, "wkb_geometry"))
             self.assertEqual([row for it in columns for row in it.write().rows], expected)
             del source  # OGR allows one stream of a layer at a time
-        source = Ogr(layer, 12)
-        for at in range(0, 60, 12):
-            self.assertEqual(list(Column.from_arrow(source, "wkb_geometry").write().rows), expected[at : at + 12])
