@@ -1,6 +1,6 @@
-// speed ROUNDS: how many times as long as our bounds of random geometries, of one shape after another, the readers of GEOS
-// and OGR take, where they are. All calls of a shape are timed in each round, and the shortest of the rounds counts. It
-// prints the table of times of docs/SPEED.md.
+// speed ROUNDS: how many times as long as our bounds of random geometries, of one shape after another, the readers of
+// GEOS and OGR take, where they are. All calls of a shape are timed in each round, and the shortest of the rounds
+// counts. It prints the table of times of docs/SPEED.md.
 // speed --count: calls each once over all geometries of a shape, between two looks at the clock, and prints a line for
 // it: the shape, the call and the geometries, with tabs between them. bench/instructions counts what lies between, also
 // of plain C, which checks/hosts/fuzz compares with the library.
@@ -10,7 +10,6 @@
 
 #include <cstdio>
 #include <ctime>
-#include <string>
 #ifdef WITH_GEOS
 #include <geos_c.h>
 #endif
@@ -240,7 +239,7 @@ void print_head() {
   std::printf("| their time / ours        |");
   for (const call &it : TIMED) std::printf(" %*s |", width_of(it), it.name);
   std::printf("\n|--------------------------|");
-  for (const call &it : TIMED) std::printf("%s:|", std::string(static_cast<std::size_t>(width_of(it)) + 1, '-').c_str());
+  for (const call &it : TIMED) std::printf("%.*s:|", width_of(it) + 1, "--------------------");
   std::printf("\n");
 }
 
