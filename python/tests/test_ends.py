@@ -56,7 +56,8 @@ ENVIRONMENT = dict(os.environ, PYTHONDEVMODE="1", PYTHONPATH=os.pathsep.join(fil
 class Processes(unittest.TestCase):
     def test_holders(self):
         programs = {**HOLDERS, "late": LATE, "again": AGAIN}
-        for before, (name, code) in itertools.product(("", "import sys; sys.modules['numpy'] = None\n"), programs.items()):
+        without = "import sys; sys.modules['numpy'] = None\n"
+        for before, (name, code) in itertools.product(("", without), programs.items()):
             with self.subTest(name, before=before):
                 ran = subprocess.run([sys.executable, "-c", before + BEGIN + code], env=ENVIRONMENT,
                                      stderr=subprocess.PIPE, timeout=120)

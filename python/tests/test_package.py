@@ -130,7 +130,8 @@ class Names(unittest.TestCase):
 
 class Inside(unittest.TestCase):
     def test_types(self):
-        """The package works whatever types others give the functions of ctypes.pythonapi, which it leaves as they are."""
+        """The package works whatever types others give the functions of ctypes.pythonapi, and leaves these as they are.
+        """
         program = ("import ctypes, re, sys; sys.modules['numpy'] = None\n"
                    "own = [getattr(ctypes.pythonapi, it) for it in "
                    "re.findall(r'\\bPy[A-Z]\\w+_\\w+', ''.join(open(it).read() for it in sys.argv[1:]))]\n"

@@ -1,5 +1,5 @@
-"""Marks the blocks of the proved calls' assembly for x86-64: at the front of each a store of 1 to a byte of its own, which
-leaves the flags alone. libFuzzer takes the bytes for counters, and clears its section in words of eight.
+"""Marks the blocks of the proved calls' assembly for x86-64: at the front of each a store of 1 to a byte of its own,
+which leaves the flags alone. libFuzzer takes the bytes for counters, and clears its section in words of eight.
 
     python3 blocks.py TEXT
 """
@@ -24,4 +24,5 @@ def marked(lines):
 
 
 file = pathlib.Path(sys.argv[1])
-file.write_text("".join(f"{line}\n" for line in marked(file.read_text(encoding="utf-8").splitlines())), encoding="utf-8")
+lines = marked(file.read_text(encoding="utf-8").splitlines())
+file.write_text("".join(f"{line}\n" for line in lines), encoding="utf-8")
