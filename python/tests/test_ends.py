@@ -1,5 +1,5 @@
-"""What is held when a process ends, when an interpreter ends, and when another one begins: each in a process of its
-own, in Python's development mode."""
+"""What is held when a process ends, when no interpreter is left, and in sub-interpreters: each in a process of its own, in
+Python's development mode."""
 import itertools
 import os
 import subprocess
