@@ -2,7 +2,7 @@
 //! Encodings of one's own coordinates.
 use super::{Encodings, Status};
 use crate::check::WkbType;
-use crate::rt::{try_filled, TryVec};
+use crate::rt::try_filled;
 use crate::wkb_levels::{self as proved, Ends, Kind, Place};
 use crate::writer::WriteOptions;
 use crate::AllocError;
@@ -66,8 +66,9 @@ impl Levels<'_> {
             WkbType::GeometryCollection(_) => panic!("rows of {wkb_type:?}"),
         };
         let (dim, width) = (wkb_type.dimension().into(), wkb_type.dimension().width());
-        let mut words = Vec::try_with_room(self.words.len())?;
-        words.extend(self.words.iter().map(|it| it.to_bits()));
+        // Not by `extend`, for which rustc 1.63 takes a number through the x87 of i686, where it has no SSE.
+        let mut words = try_filled(0, self.words.len())?;
+        words.iter_mut().zip(self.words).for_each(|(word, it)| *word = it.to_bits());
         let levels = self.proved(&words, width);
         let rows = levels.row_ends.len();
         let (mut ends, mut statuses) = (try_filled(0, rows)?, try_filled(Status::BAD_LEVELS, rows)?);
