@@ -1,7 +1,8 @@
 // SPDX-License-Identifier: MIT OR Apache-2.0
 //! The core of the C library by rustc, for any processor: the calls of `calls.rs`, with each index tested. A test that
-//! failed would end the program. No call takes memory. Over std the library would call malloc, open and thirty more, with
-//! which a panic is printed; so it is without, by two things that are `unsafe` and a feature, stable since Rust 1.68.
+//! failed would end the program. Over std, which prints a panic, the library would call malloc, open and thirty more.
+//! No call takes memory; but sources that none reaches name `Vec`, so that rustc asks for an allocator, which is as
+//! `unsafe` as `abort`, and before Rust 1.68 for this feature.
 #![no_std]
 #![feature(default_alloc_error_handler)]
 
