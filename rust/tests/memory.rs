@@ -109,3 +109,38 @@ fn hostile_counts_take_little() {
     let keeps = |bytes: &[u8]| canonical_into(bytes, &WriteOptions::default(), &mut Vec::new()).is_ok();
     assert!(taken(keeps, &long(&[head(2, 0)])) < 100);
 }
+
+/// Where `usize` has 32 bits: a line string of a gigabyte, of which calls make as many bytes; and no call finds room for
+/// them where little is left, or for more than there can be.
+#[cfg(target_pointer_width = "32")]
+#[test]
+#[ignore = "it takes two gigabytes"]
+fn gigabytes() {
+    use porchsorrel_wkb::{canon::same, check::bounds, columns::Column};
+    const COUNT: usize = (1 << 26) - 1;
+    let mut line = vec![0; 9 + 16 * COUNT];
+    line[..9].copy_from_slice(b"\x01\x02\0\0\0\xff\xff\xff\x03");
+    let found = check(&line).unwrap();
+    assert_eq!((found.bytes, found.coordinates, bounds(&line).unwrap().x.count), (line.len(), COUNT, COUNT as u64));
+    let options = WriteOptions { endianness: Endianness::BigEndian, form: Form::Iso };
+    let (wkb, offsets) = (read_wkb(&line).unwrap(), [0, line.len() as u32].map(u32::to_ne_bytes).concat());
+    let column = Column::binary(&line, &offsets);
+    let size = |made: &[u8]| if same(&line, made).unwrap() { made.len() } else { 0 };
+    let calls: [&dyn Fn() -> Result<usize, WkbError>; 4] = [
+        &|| Ok(size(&canonical(&line, &options)?)),
+        &|| Ok(size(&to_vec(&wkb, &options)?)),
+        &|| Ok(size(&column.write(&options)?.data)),
+        &|| Ok(9 + 8 * column.coordinates(Dimension::Xy)?.words.len()),
+    ];
+    calls.iter().for_each(|call| assert_eq!(call().unwrap(), line.len()));
+    let mut held = vec![Vec::<u8>::new(); 32];
+    let full = held.iter_mut().position(|it| it.try_reserve_exact(1 << 27).is_err());
+    assert!(full.is_some() && calls.iter().all(|call| matches!(call(), Err(WkbError::Memory(_)))));
+    // A list of so many empty collections has no size.
+    drop(held);
+    let members = COUNT * 16 / 9;
+    line.chunks_exact_mut(9).for_each(|it| it.copy_from_slice(b"\x01\x07\0\0\0\0\0\0\0"));
+    line[5..9].copy_from_slice(&(members as u32).to_le_bytes());
+    assert_eq!(check(&line).unwrap().parts, members + 1);
+    assert!(matches!(read_wkb(&line), Err(WkbError::Memory(_))));
+}
