@@ -1,7 +1,6 @@
 // SPDX-License-Identifier: MIT OR Apache-2.0
 // Columns of geometries, as Arrow has them: each call answers for all rows, and no row stops the others.
-import { DIMENSIONS, KINDS, asBytes, bytes, numbered, numbers, numbersAt, numbersEnd, numbersThere, offsets, put,
-  rangesAt, run, statuses } from './desk.js';
+import { DIMENSIONS, KINDS, asBytes, copyOf, numbered, put, rangesOf, result, run } from './desk.js';
 
 /** The bits of rows, least significant first: 1 for those that a function says. */
 function bitsOf(rows, isSet) {
@@ -69,31 +68,32 @@ export class Column {
 
   check() {
     this.#run('wkb_column_check');
-    return statuses();
+    return copyOf('statuses');
   }
 
   bounds() {
     this.#run('wkb_column_bounds');
-    return { bounds: numbers(), statuses: statuses() };
+    return { bounds: copyOf('numbers'), statuses: copyOf('statuses') };
   }
 
   facts() {
     this.#run('wkb_column_facts');
-    const at = numbersAt();
-    const [rows, accepted, nullRows, refused, withoutSrid, count] = numbersThere.subarray(at, at + 6);
+    const it = result('numbers');
+    const [rows, accepted, nullRows, refused, withoutSrid, count] = it;
     const types = Array.from({ length: count }, (_, i) => {
-      const [kind, dimension, of] = numbersThere.subarray(at + 18 + 3 * i);
+      const [kind, dimension, of] = it.subarray(18 + 3 * i);
       return { kind: KINDS[kind], dimension: DIMENSIONS[dimension], rows: of };
     });
-    const srids = Array.from(numbersThere.subarray(at + 18 + 3 * count, numbersEnd()));
-    return { rows, accepted, nullRows, refused, types, bounds: rangesAt(at + 6), srids, withoutSrid };
+    const srids = Array.from(it.subarray(18 + 3 * count));
+    return { rows, accepted, nullRows, refused, types, bounds: rangesOf(it, 6), srids, withoutSrid };
   }
 
   coordinates(dimension = 'xy') {
     const number = DIMENSIONS.indexOf(dimension);
     if (number < 0) throw new TypeError(`no dimension: ${dimension}`);
     this.#run('wkb_column_coordinates', number);
-    return { values: numbers(), rows: offsets(0), singles: offsets(1), rings: offsets(2), statuses: statuses() };
+    return { values: copyOf('numbers'), rows: copyOf('rows'), singles: copyOf('singles'), rings: copyOf('rings'),
+      statuses: copyOf('statuses') };
   }
 
   geoArrow(asked) {
@@ -107,6 +107,6 @@ export class Column {
 
   write(options) {
     this.#run('wkb_column_write', ...numbered(options));
-    return { data: bytes(), offsets: offsets(0), statuses: statuses() };
+    return { data: copyOf('bytes'), offsets: copyOf('rows'), statuses: copyOf('statuses') };
   }
 }

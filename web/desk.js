@@ -2,9 +2,9 @@
 // The calls of wasm.rs: an input is copied to where Rust has room for it, and a result is read where Rust says it is.
 import code from './code.js';
 
-let module, calls, desk;
-/** WebAssembly's memory, by its bytes and by its doubles. */
-export let bytesThere, numbersThere, viewThere;
+let module, calls, desk, bytesThere;
+/** A view of WebAssembly's memory. */
+export let viewThere;
 
 /** The kinds by their numbers, and the ordinates by those of dimensions. */
 export const KINDS = ['Ring', 'Point', 'LineString', 'Polygon', 'MultiPoint', 'MultiLineString', 'MultiPolygon',
@@ -20,7 +20,9 @@ export const STATUSES = { 0: 'OK', 16: 'NULL_ROW', 17: 'BAD_OFFSETS', 32: 'SHORT
   49: 'SHORT_LINE_STRING', 50: 'SHORT_MULTI_POINT', 51: 'SHORT_LINEAR_RING' };
 const NO_MEMORY = 'out of memory';
 const REFUSALS = { 1: NO_MEMORY, 3: 'there are fewer validity bits than rows' };
-const [NUMBERS, BYTES, ROWS, OFFSETS] = [0, 1, 2, 3];
+/** The results by their numbers in wasm.rs, and the arrays that they are. */
+const RESULTS = { numbers: [0, Float64Array], bytes: [1, Uint8Array], statuses: [2, Uint8Array], why: [3, Float64Array],
+  rows: [4, Int32Array], singles: [5, Int32Array], rings: [6, Int32Array] };
 
 const codeBytes = () => Uint8Array.from(atob(code), (it) => it.charCodeAt(0));
 
@@ -37,19 +39,18 @@ export async function start() {
 /** Makes a call, and looks at the memory, which is another one when it has grown. A call that doesn't come back, as of
  * a full stack or a number that didn't fit, may leave the desk in disorder; so the next one gets another. */
 function ask(name, ...values) {
-  let answer;
   try {
     if (!calls) settle(new WebAssembly.Instance(module ??= new WebAssembly.Module(codeBytes())));
-    answer = calls[name](desk, ...values);
+    const answer = calls[name](desk, ...values);
+    if (!bytesThere?.length) {
+      bytesThere = new Uint8Array(calls.memory.buffer);
+      viewThere = new DataView(calls.memory.buffer);
+    }
+    return answer;
   } catch (error) {
     calls = undefined;
     throw error;
   }
-  if (!bytesThere?.length) {
-    const { buffer } = calls.memory;
-    [bytesThere, numbersThere, viewThere] = [new Uint8Array(buffer), new Float64Array(buffer), new DataView(buffer)];
-  }
-  return answer;
 }
 
 /** Why some bytes are rejected: the first fault from their start on. */
@@ -77,38 +78,38 @@ export function put(input, which = 0) {
   return at;
 }
 
-const placeOf = (which) => calls.wkb_place(desk, which) >>> 0;
-const sizeOf = (which) => calls.wkb_size(desk, which) >>> 0;
-
-/** Where the numbers of the last call are among the doubles of the memory, and where they end. */
-export const numbersAt = () => placeOf(NUMBERS) / 8;
-export const numbersEnd = () => numbersAt() + sizeOf(NUMBERS);
-/** Copies of what the last call made. */
-export const numbers = () => numbersThere.slice(numbersAt(), numbersEnd());
-export const bytes = (which = BYTES) => bytesThere.slice(placeOf(which), placeOf(which) + sizeOf(which));
-export const statuses = () => bytes(ROWS);
-export const offsets = (level) =>
-  new Int32Array(calls.memory.buffer, placeOf(OFFSETS + level), sizeOf(OFFSETS + level)).slice();
+/** A result of the last call, where it is until the next one; and a copy of it. */
+export function result(name) {
+  const [which, Items] = RESULTS[name];
+  return new Items(bytesThere.buffer, calls.wkb_place(desk, which) >>> 0, calls.wkb_size(desk, which) >>> 0);
+}
+export const copyOf = (name) => result(name).slice();
 
 function failure(status) {
   if (status in REFUSALS) return new RangeError(REFUSALS[status]);
-  const [part, offset, ...more] = numbers();
+  const [part, offset, ...more] = result('why');
   const [needed, has, code] = more.map((it) => it < 0 ? null : it);
   const reason = STATUSES[status] ?? 'NO_HEADER';
-  return new WkbError(new TextDecoder().decode(bytes()), { reason, part, offset, code, needed, has });
+  return new WkbError(new TextDecoder().decode(result('bytes')), { reason, part, offset, code, needed, has });
+}
+
+/** Makes a call over the inputs that are there. Returns why it has no result, if it has none. */
+export function refusal(name, ...values) {
+  const status = ask(name, ...values);
+  return status === 0 ? null : failure(status);
 }
 
 /** Makes a call over the inputs that are there; throws if it has no result. */
 export function run(name, ...values) {
-  const status = ask(name, ...values);
-  if (status !== 0) throw failure(status);
+  const error = refusal(name, ...values);
+  if (error) throw error;
 }
 
-/** Makes a call over an input, whose place it returns. */
+/** Makes a call over an input, and returns its numbers. */
 export function over(input, name, ...values) {
-  const at = put(input);
+  put(input);
   run(name, ...values);
-  return at;
+  return result('numbers');
 }
 
 /** The numbers of the options, as wasm.rs takes them. */
@@ -121,8 +122,8 @@ export function numbered({ byteOrder = 'little', form = 'iso', srid } = {}) {
   return [order, form === 'iso' ? 0 : isNumber ? 2 : srid === null ? 3 : 1, srid ?? 0];
 }
 
-/** The ranges of x, y, z and m whose numbers are at a place. */
-export function rangesAt(at) {
-  const range = (i) => ({ min: numbersThere[i], max: numbersThere[i + 1], count: numbersThere[i + 2] });
+/** The ranges of x, y, z and m among numbers, from a place on. */
+export function rangesOf(numbers, at = 0) {
+  const range = (i) => ({ min: numbers[i], max: numbers[i + 1], count: numbers[i + 2] });
   return { x: range(at), y: range(at + 3), z: range(at + 6), m: range(at + 9) };
 }

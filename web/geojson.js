@@ -1,11 +1,12 @@
 // SPDX-License-Identifier: MIT OR Apache-2.0
 // GeoJSON (RFC 7946): it has neither M nor SRIDs.
-import { KINDS, PART_SIZE, numbersAt, numbersThere, over, viewThere } from './desk.js';
+import { DIMENSIONS, KINDS, PART_SIZE, put, result, run, viewThere } from './desk.js';
 import { write } from './wkb.js';
 
 export function toGeoJSON(bytes) {
-  const from = over(bytes, 'wkb_parts');
-  return geometryAt({ from, at: numbersAt() });
+  const from = put(bytes);
+  run('wkb_parts');
+  return geometryAt({ from, numbers: result('numbers'), at: 0 });
 }
 
 function listOf(count, item) {
@@ -16,7 +17,8 @@ function listOf(count, item) {
 
 /** Makes an object of the table of parts, and goes to the next one. */
 function geometryAt(table) {
-  const [kind, count] = [numbersThere[table.at], numbersThere[table.at + 7]];
+  const kind = table.numbers[table.at];
+  const count = table.numbers[table.at + 7];
   const type = KINDS[kind];
   if (kind < 3) return { type, coordinates: coordinatesAt(table, kind === 1) };
   table.at += PART_SIZE;
@@ -27,12 +29,14 @@ function geometryAt(table) {
 
 /** The coordinates of a point, a line string or a ring; none of an empty point. */
 function coordinatesAt(table, isPoint) {
-  const [it, view] = [table.at, viewThere];
-  const [dimension, isLittle] = [numbersThere[it + 1], numbersThere[it + 2] === 1];
-  const [hasZ, width] = [dimension % 2 === 1, [2, 3, 3, 4][dimension]];
+  const { from, numbers, at: it } = table;
+  const view = viewThere;
+  const axes = DIMENSIONS[numbers[it + 1]];
+  const isLittle = numbers[it + 2] === 1;
+  const hasZ = axes[2] === 'z';
   const items = [];
-  let at = table.from + numbersThere[it + 6];
-  for (const end = at + 8 * width * numbersThere[it + 7]; at < end; at += 8 * width) {
+  let at = (from + numbers[it + 6]) >>> 0;
+  for (let left = numbers[it + 7] >>> 0; left > 0; left--, at += 8 * axes.length) {
     const position = [view.getFloat64(at, isLittle), view.getFloat64(at + 8, isLittle)];
     if (hasZ) position.push(view.getFloat64(at + 16, isLittle));
     items.push(position);

@@ -39,11 +39,6 @@ impl From<Refused> for Failure {
     }
 }
 
-/// The failure of a call that checks these bytes, and takes memory afterwards.
-fn failure(bytes: &[u8]) -> Failure {
-    check(bytes).err().map_or(NO_MEMORY, Failure::from)
-}
-
 /// The numbers of kind (0 of a ring), dimension, order and SRID.
 fn header(of: Option<WkbType>, dimension: Dimension, order: Endianness, srid: Option<u32>) -> [f64; 4] {
     let kind = of.map_or(0, WkbType::kind);
@@ -56,17 +51,19 @@ struct Results {
     numbers: Vec<f64>,
     bytes: Vec<u8>,
     statuses: Vec<Status>,
+    fields: [f64; 5],
     offsets: [Vec<i32>; 3],
 }
 
 impl Results {
-    /// The place and the number of items: of the numbers, the bytes, the statuses, or a level's offsets.
+    /// The place and the number of items: of the numbers, the bytes, the statuses, a failure's, or a level's offsets.
     fn at(&self, which: usize) -> (*const u8, usize) {
         match which {
             0 => (self.numbers.as_ptr().cast(), self.numbers.len()),
             1 => (self.bytes.as_ptr(), self.bytes.len()),
             2 => (self.statuses.as_ptr().cast(), self.statuses.len()),
-            _ => (self.offsets[which - 3].as_ptr().cast(), self.offsets[which - 3].len()),
+            3 => (self.fields.as_ptr().cast(), self.fields.len()),
+            _ => (self.offsets[which - 4].as_ptr().cast(), self.offsets[which - 4].len()),
         }
     }
 
@@ -77,9 +74,8 @@ impl Results {
     }
 
     fn lay_part(&mut self, it: &Part) -> Result<(), Failure> {
-        let [kind, dimension, order, srid] = header(it.wkb_type, it.dimension, it.order, it.srid);
-        let [begin, end, offset, count, next] = [it.begin, it.end, it.offset, it.count, it.next].map(|it| it as f64);
-        self.lay(&[kind, dimension, order, srid, begin, end, offset, count, next])
+        self.lay(&header(it.wkb_type, it.dimension, it.order, it.srid))?;
+        self.lay(&[it.begin, it.end, it.offset, it.count, it.next].map(|it| it as f64))
     }
 
     fn lay_bounds(&mut self, it: &Bounds) -> Result<(), Failure> {
@@ -95,11 +91,10 @@ impl Results {
         ends.iter().try_for_each(|end| Ok(offsets.push(i32::try_from(*end).map_err(|_| NO_MEMORY)?)))
     }
 
-    /// The number of a failure, beside its text and its numbers.
+    /// The number of a failure, whose text and numbers are kept.
     fn told(&mut self, Failure(number, text, fields): Failure) -> u32 {
-        self.bytes = text.into_bytes();
-        self.numbers.clear();
-        self.lay(&fields).map_or_else(|why| why.0, |()| number)
+        (self.bytes, self.fields) = (text.into_bytes(), fields);
+        number
     }
 }
 
@@ -181,30 +176,30 @@ calls! {
         out.lay_bounds(&bounds(&inputs[0])?)
     }
 
+    /// Lists the parts; of rejected bytes those before the rejected one.
     wkb_parts(inputs, out) {
-        let table = parts(&inputs[0]).map_err(|_| failure(&inputs[0]))?;
-        table.iter().try_for_each(|it| out.lay_part(it))
-    }
-
-    /// Lists the parts before the rejected one of rejected bytes.
-    wkb_parts_before(inputs, out) {
-        match check(&inputs[0]) {
-            Ok(_) => Ok(()),
-            Err(why) => parts_before(&inputs[0], &why)?.iter().try_for_each(|it| out.lay_part(it)),
-        }
+        let (table, why) = match parts(&inputs[0]) {
+            Ok(table) => (table, None),
+            Err(_) => {
+                let why = check(&inputs[0]).err().ok_or(NO_MEMORY)?;
+                (parts_before(&inputs[0], &why)?, Some(why))
+            }
+        };
+        table.iter().try_for_each(|it| out.lay_part(it))?;
+        why.map_or(Ok(()), |why| Err(why.into()))
     }
 
     wkb_write(inputs, out, order: u32, form: u32, srid: u32) {
         let own = if form == OWN_SRID { check(&inputs[0])?.srid } else { None };
-        let asked = options(order, form, srid, own);
-        canonical_into(&inputs[0], &asked, &mut out.bytes).map_err(|_| failure(&inputs[0]))
+        let made = canonical_into(&inputs[0], &options(order, form, srid, own), &mut out.bytes);
+        made.map_err(|_| check(&inputs[0]).err().map_or(NO_MEMORY, Failure::from))
     }
 
     /// Whether two inputs have one value.
     wkb_equal(inputs, out) {
         check(&inputs[0])?;
         check(&inputs[1])?;
-        let is_same = same(&inputs[0], &inputs[1]).map_err(|_| failure(&inputs[0]))?;
+        let is_same = same(&inputs[0], &inputs[1]).map_err(|_| NO_MEMORY)?;
         out.lay(&[u8::from(is_same).into()])
     }
 

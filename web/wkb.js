@@ -1,8 +1,8 @@
 // SPDX-License-Identifier: MIT OR Apache-2.0
 // Reads and writes WKB and EWKB in browsers, workers and Node.js. What is checked, measured, compared and written is so
 // by the proved sources, as WebAssembly (desk.js). This file makes objects of the numbers; wkb.d.ts says which.
-import { DIMENSIONS, KINDS, ORDERS, PART_SIZE, WkbError, asBytes, bytes, numbered, numbersAt, numbersEnd, numbersThere,
-  over, put, rangesAt, run } from './desk.js';
+import { DIMENSIONS, KINDS, ORDERS, PART_SIZE, WkbError, asBytes, copyOf, numbered, over, put, rangesOf, refusal, result
+} from './desk.js';
 
 export { DIMENSIONS, KINDS, STATUSES, WkbError, start } from './desk.js';
 export { Column } from './column.js';
@@ -33,48 +33,37 @@ function fromHex(digits) {
 }
 
 export function check(bytes) {
-  over(bytes, 'wkb_check');
-  const [at, it] = [numbersAt(), numbersThere];
-  return withHeader({ size: it[at + 4], parts: it[at + 5], coordinates: it[at + 6] }, at);
+  const it = over(bytes, 'wkb_check');
+  return withHeader({ size: it[4], parts: it[5], coordinates: it[6] }, it);
 }
 
-/** Adds the header of a geometry or of a part, whose numbers are at a place. */
-function withHeader(it, at) {
-  it.kind = KINDS[numbersThere[at]];
-  it.dimension = DIMENSIONS[numbersThere[at + 1]];
-  it.byteOrder = ORDERS[numbersThere[at + 2]];
-  it.srid = numbersThere[at + 3] < 0 ? null : numbersThere[at + 3];
+/** Adds the header of a geometry or of a part, whose numbers begin at a place. */
+function withHeader(it, numbers, at = 0) {
+  it.kind = KINDS[numbers[at]];
+  it.dimension = DIMENSIONS[numbers[at + 1]];
+  it.byteOrder = ORDERS[numbers[at + 2]];
+  it.srid = numbers[at + 3] < 0 ? null : numbers[at + 3];
   return it;
 }
 
-export function bounds(bytes) {
-  over(bytes, 'wkb_bounds');
-  return rangesAt(numbersAt());
-}
+export const bounds = (bytes) => rangesOf(over(bytes, 'wkb_bounds'));
 
-/** The parts whose numbers the last call has laid. */
-function table() {
-  const [parts, it] = [[], numbersThere];
-  for (let at = numbersAt(), end = numbersEnd(); at < end; at += PART_SIZE) {
-    const part = { begin: it[at + 4], end: it[at + 5], offset: it[at + 6], count: it[at + 7], next: it[at + 8] };
-    parts.push(withHeader(part, at));
-  }
+export function parts(bytes) {
+  const { parts, error } = inspect(bytes);
+  if (error) throw error;
   return parts;
 }
 
-export function parts(bytes) {
-  over(bytes, 'wkb_parts');
-  return table();
-}
-
 export function inspect(bytes) {
-  try {
-    return { parts: parts(bytes), error: null };
-  } catch (error) {
-    if (!(error instanceof WkbError)) throw error;
-    run('wkb_parts_before');
-    return { parts: table(), error };
+  put(bytes);
+  const error = refusal('wkb_parts');
+  if (error && !(error instanceof WkbError)) throw error;
+  const [parts, it] = [[], result('numbers')];
+  for (let at = 0; at < it.length; at += PART_SIZE) {
+    const part = { begin: it[at + 4], end: it[at + 5], offset: it[at + 6], count: it[at + 7], next: it[at + 8] };
+    parts.push(withHeader(part, it, at));
   }
+  return { parts, error };
 }
 
 export function words(bytes, part) {
@@ -86,7 +75,7 @@ export function words(bytes, part) {
 
 export function write(geometry, options) {
   over(geometry, 'wkb_write', ...numbered(options));
-  return bytes();
+  return copyOf('bytes');
 }
 
 export const canonical = (geometry) => write(geometry);
@@ -95,13 +84,11 @@ export function equal(a, b) {
   // A getter of an input may call this again: so both are looked at before one is put.
   const [one, other] = [asBytes(a), asBytes(b)];
   put(other, 1);
-  over(one, 'wkb_equal');
-  return numbersThere[numbersAt()] === 1;
+  return over(one, 'wkb_equal')[0] === 1;
 }
 
 export function geopackageHeader(blob) {
-  over(blob, 'wkb_geopackage');
-  const [at, it] = [numbersAt(), numbersThere];
-  const envelope = Array.from(AXES[it[at + 3]], (_, i) => [it[at + 4 + 2 * i], it[at + 5 + 2 * i]]);
-  return { size: it[at], srsId: it[at + 1], isEmpty: it[at + 2] === 1, axes: AXES[it[at + 3]], envelope };
+  const [size, srsId, isEmpty, axes, ...ends] = over(blob, 'wkb_geopackage');
+  const envelope = Array.from(AXES[axes], (_, i) => ends.slice(2 * i, 2 * i + 2));
+  return { size, srsId, isEmpty: isEmpty === 1, axes: AXES[axes], envelope };
 }

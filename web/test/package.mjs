@@ -3,10 +3,8 @@
 import assert from 'node:assert/strict';
 import { execFileSync, spawnSync } from 'node:child_process';
 import { once } from 'node:events';
-import { mkdtempSync, readFileSync, rmSync, writeFileSync } from 'node:fs';
+import { readFileSync, writeFileSync } from 'node:fs';
 import { createRequire } from 'node:module';
-import { tmpdir } from 'node:os';
-import { join } from 'node:path';
 import { test } from 'node:test';
 import { fileURLToPath } from 'node:url';
 import { runInNewContext } from 'node:vm';
@@ -146,9 +144,8 @@ test('in a worker', async () => {
 test('a call that traps: a length that overflows', async (it) => {
   const { Instance } = WebAssembly;
   let made = 0;
-  it.after(() => { WebAssembly.Instance = Instance; });
   // In the first instance an input is said to have 4 GB: so the size of its encoding doesn't fit 32 bits.
-  WebAssembly.Instance = function (...values) {
+  it.mock.method(WebAssembly, 'Instance', function (...values) {
     const { exports } = new Instance(...values);
     const wkb_write = made++ > 0 ? exports.wkb_write : (desk, ...more) => {
       const words = new Uint32Array(exports.memory.buffer, desk, 64);
@@ -156,11 +153,11 @@ test('a call that traps: a length that overflows', async (it) => {
       return exports.wkb_write(desk, ...more);
     };
     return { exports: { ...exports, wkb_write } };
-  };
+  });
   const own = await import(`${DESK}?own`);
   const write = (it) => {
     own.over(it, 'wkb_write', ...own.numbered({ form: 'ewkb', srid: 1 }));
-    return wkb.check(own.bytes());
+    return wkb.check(own.copyOf('bytes'));
   };
   const long = new Uint8Array(77);
   long.set(bytesOf('0102000020e6100000ffffff0f'));
@@ -182,17 +179,11 @@ test('memory that is refused', () => {
   assert.equal(execFileSync(process.execPath, words, { encoding: 'utf8' }), '');
 });
 
-test('started beside the main thread', async () => {
+test('started beside the main thread', async (it) => {
+  it.mock.method(WebAssembly, 'Module', () => { throw new Error('compiled at once'); });
   const own = await import(`${DESK}?started`);
-  const { Module } = WebAssembly;
-  WebAssembly.Module = () => { throw new Error('compiled at once'); };
-  try {
-    await Promise.all([own.start(), own.start()]);
-    own.over(POINT, 'wkb_check');
-    assert.equal(own.numbers()[4], 21);
-  } finally {
-    WebAssembly.Module = Module;
-  }
+  await Promise.all([own.start(), own.start()]);
+  assert.equal(own.over(POINT, 'wkb_check')[4], 21);
 });
 
 test('a column', () => {
@@ -279,12 +270,11 @@ test('the types name what there is', () => {
 
 const hasTsc = spawnSync('tsc', ['--version']).status === 0;
 test('the example of the page has the types', { skip: !hasTsc && 'there is no tsc' }, () => {
-  const folder = mkdtempSync(join(tmpdir(), 'types-'));
-  const code = EXAMPLE.replace(/^import assert.*/m, 'declare const assert: any;').replaceAll(MODULE, fileURLToPath(PACKAGE));
-  writeFileSync(join(folder, 'example.ts'), code.replaceAll('(error)', '(error: any)'));
-  const words = ['--noEmit', '--strict', '--target', 'es2022', '--moduleResolution', 'node', join(folder, 'example.ts')];
+  const code = EXAMPLE.replace(/^import assert.*/m, 'declare const assert: any;').replaceAll(MODULE, './package/wkb.js');
+  const to = fileURLToPath(new URL('../out/example.ts', import.meta.url));
+  writeFileSync(to, code.replaceAll('(error)', '(error: any)'));
+  const words = ['--noEmit', '--strict', '--target', 'es2022', '--moduleResolution', 'node', to];
   const { status, stdout } = spawnSync('tsc', words, { encoding: 'utf8' });
-  rmSync(folder, { recursive: true });
   assert.equal(status, 0, stdout);
 });
 
