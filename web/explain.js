@@ -9,8 +9,8 @@ export const said = (number) => number.toLocaleString('en');
 export const counted = (count, noun) => `${said(count)} ${noun}${count === 1 ? '' : 's'}`;
 /** A number in the fewest digits, as JavaScript has it, but with the sign of zero. */
 export const spelled = (it) => Object.is(it, -0) ? '-0' : String(it).replace('Infinity', 'infinity');
-/** Bytes from a place on, in spans, and what they mean; maybe of a part. */
-export const row = (at, spans, text, part = null, more = {}) => ({ at, spans, text, part, ...more });
+/** Bytes from a place on, in spans, and what they mean. */
+export const row = (at, spans, text, more = {}) => ({ at, spans, text, ...more });
 const wordsOf = (axes) => [...axes].map((name) => ({ length: 8, name }));
 /** Whether a part has coordinates of its own. */
 export const isSimple = (kind) => nounOf(kind) === 'coordinate';
@@ -88,7 +88,7 @@ class Fields {
   }
 
   add(spans, text, more) {
-    this.rows.push(row(this.at, spans, text, this.part, more));
+    this.rows.push(row(this.at, spans, text, more));
     for (const { length } of spans) this.at += length;
   }
 

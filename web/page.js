@@ -6,26 +6,14 @@ import { compared, counted, differing, nounOf, readFront, readParts, row, rowsOf
 import { draw } from './drawing.js';
 
 const MOST = { typed: 200000, parts: 300, rows: 400, hex: 4000, checked: 100000, link: 20000 };
-const EXAMPLES = [
-  ['A point', '0101000000000000000000f03f0000000000000040'],
-  ['A polygon with a hole, from PostGIS', '0103000020E610000002000000050000000000000000000000000000000000000000000000000000000000000000002440000000000000244000000000000024400000000000002440000000000000000000000000000000000000000000000000050000000000000000000040000000000000004000000000000000400000000000001040000000000000104000000000000010400000000000001040000000000000004000000000000000400000000000000040'],
-  ['A collection in both byte orders', '0107000000020000000101000080000000000000f03f000000000000004000000000000008400000000002000000023ff0000000000000400000000000000040080000000000004010000000000000'],
-  ['A ring that is cut off', '0103000020e610000001000000050000000000000000000000000000000000000000000000000024400000'],
-  ['A count that lies', '0102000000ffffffff000000000000f03f0000000000000040'],
-  ['A curve', '0108000000030000000000000000000000000000000000f03f'],
-  ['A blob of a GeoPackage', '47500001e61000000101000000000000000000f03f0000000000000040'],
-  ['Rows of CSV', 'id,name,geom\n1,"a, b",0101000000000000000000f03f0000000000000040\n2,c,0102000000000000000'],
-  ['Three lines, one of them wrong', '0101000000000000000000f03f0000000000000040\n0201000000000000000000f03f0000000000000040\nAQEAAAAAAAAAAAAIQAAAAAAAABBA'],
-];
 const $ = (id) => document.getElementById(id);
 /** The inputs, as texts or bytes; the one that is shown; and how many of its rows are. */
 const state = { inputs: [], index: 0, rows: MOST.rows, bytes: null, parts: [], front: null, statuses: [], columns: [] };
 
-/** An element with a class, and texts or elements in it; a button has its type. */
+/** An element with a class, and texts or elements in it. */
 function make(name, className, ...children) {
   const it = document.createElement(name);
   if (className) it.className = className;
-  if (name === 'button') it.type = name;
   it.append(...children);
   return it;
 }
@@ -59,13 +47,34 @@ function takeText(text, source = '') {
 
 const takeColumn = (source) => take(state.columns[$('column').value].cells, source);
 
+async function takeFile(file) {
+  $('text').value = '';
+  try {
+    const bytes = new Uint8Array(await file.arrayBuffer());
+    const text = textOf(bytes);
+    const source = `${file.name}, ${counted(bytes.length, 'byte')}`;
+    if (text === null) take([bytes], source);
+    else takeText(text, source);
+  } catch (error) {
+    take([], file.name);
+    say(`No bytes: ${error.message}`, true);
+  }
+}
+
+/** Takes the bytes that a link carries behind its mark, which no server gets. */
+function takeLink() {
+  const hex = /^#hex=(.*)/.exec(location.hash)?.[1];
+  if (hex === undefined) return false;
+  $('text').value = decodeURIComponent(hex);
+  takeText($('text').value, 'from the link');
+  return true;
+}
+
 /** Shows one of the inputs. */
 function show(index) {
   const last = state.inputs.length - 1;
   Object.assign(state, { index: Math.max(0, Math.min(index, last)), rows: MOST.rows, bytes: null });
   $('row').value = state.index + 1;
-  $('before').disabled = state.index === 0;
-  $('after').disabled = state.index >= last;
   $('found').hidden = $('link').hidden = true;
   $('compared').textContent = '';
   say('', false);
@@ -95,6 +104,7 @@ function showBytes() {
     + `${found.byteOrder} endian, ${counted(found.size, 'byte')}.`, Boolean(error));
   $('found').hidden = false;
   $('link').hidden = bytes.length > MOST.link;
+  if (!$('link').hidden) $('link').href = `#hex=${hexOf(bytes)}`;
   $('forms').hidden = Boolean(error);
   const facts = error ? factsOfError(own, error) : factsOf(own, found);
   if (front.header) facts.push(['GeoPackage', `${counted(front.size, 'byte')} of header, SRID ${front.header.srsId}`]);
@@ -111,53 +121,11 @@ function faultOf({ message, offset, needed, has }) {
   return `Rejected: ${message.replace(/, at byte .*/, '')}, in the part at byte ${begin}${ends}.`;
 }
 
-/** Says how the other input compares, and marks the fields whose bytes differ. */
-function compare() {
-  if (!state.bytes) return;
-  const text = $('other').value.trim();
-  let other = state.bytes;
-  try {
-    if (text !== '') other = bytesOf(text);
-    $('compared').textContent = text === '' ? '' : compared(state.bytes, other);
-  } catch (error) {
-    $('compared').textContent = `No bytes: ${error.message}`;
-  }
-  for (const it of $('bytes').querySelectorAll('.span')) {
-    const [at, length] = [Number(it.dataset.at), Number(it.dataset.length)];
-    it.classList.toggle('differs', differing(state.bytes, other, at, at + length).count > 0);
-  }
-}
-
-/** Makes a link to this page that carries the bytes behind its mark, which no server gets, and copies it. */
-async function link() {
-  history.replaceState(null, '', `#hex=${hexOf(state.bytes)}`);
-  await copied($('link'), () => location.href);
-}
-
-async function copied(button, textOf) {
-  const name = button.textContent;
-  try {
-    await navigator.clipboard.writeText(textOf());
-    button.textContent = 'Copied';
-  } catch {
-    button.textContent = 'Not allowed';
-  }
-  setTimeout(() => { button.textContent = name; }, 1500);
-}
-
-function takeLink() {
-  const hex = /^#hex=(.*)/.exec(location.hash)?.[1];
-  if (hex === undefined) return false;
-  $('text').value = decodeURIComponent(hex);
-  takeText($('text').value, 'from the link');
-  return true;
-}
-
 function factsOf(own, { kind, dimension, srid, byteOrder, size, parts, coordinates }) {
   const more = own.length - size;
   const facts = [['Kind', kind], ['Dimension', dimension], ['SRID', String(srid ?? 'none')],
-    ['Byte order', `${byteOrder} endian`], ['Size', counted(size, 'byte')], ...more > 0 ? [['Behind it', counted(more, 'more byte')]] : [],
-    ['Parts', said(parts)], ['Coordinates', said(coordinates)]];
+    ['Byte order', `${byteOrder} endian`], ['Size', counted(size, 'byte')], ['Parts', said(parts)],
+    ['Coordinates', said(coordinates)], ...more > 0 ? [['Behind it', counted(more, 'more byte')]] : []];
   for (const [axis, { min, max, count }] of Object.entries(bounds(own))) {
     if (count > 0) facts.push([`Least ${axis}`, spelled(min)], [`Greatest ${axis}`, spelled(max)]);
     else if (dimension.includes(axis)) facts.push([axis, 'no number']);
@@ -185,35 +153,30 @@ function nameOf(part) {
   return part.number === 0 ? 'exterior ring' : `interior ring ${part.number}`;
 }
 
-/** Lists the first parts, and the rejected one. */
+/** Lists the first parts, and the rejected one, of which one may be chosen. */
 function showParts() {
   const shown = state.parts.filter((it, i) => i < MOST.parts - 1 || it.error);
-  const items = shown.map((part) => {
-    const button = make('button', part.error ? 'bad' : '', nameOf(part));
-    const size = part.kind === 'Point' ? '' : counted(part.count, nounOf(part.kind));
-    if (!part.error) button.append(' ', make('small', '', size));
-    button.dataset.part = part.index;
-    button.style.paddingLeft = `${0.4 + Math.min(part.depth, 12)}rem`;
-    button.ariaPressed = 'false';
-    button.tabIndex = part.index === 0 ? 0 : -1;
-    return make('li', '', button);
-  });
   const more = state.parts.length - shown.length;
-  if (more > 0) items.push(make('li', 'note', `and ${counted(more, 'more part')}`));
-  $('parts').replaceChildren(...items);
+  $('parts').replaceChildren(...shown.map(choiceOf), more > 0 ? `and ${counted(more, 'more part')}` : '');
+}
+
+function choiceOf(part) {
+  const radio = Object.assign(make('input'), { type: 'radio', name: 'part', value: part.index });
+  const size = part.error || part.kind === 'Point' ? '' : counted(part.count, nounOf(part.kind));
+  const choice = make('label', part.error ? 'bad' : '', radio, ` ${nameOf(part)} `, make('small', '', size));
+  choice.style.paddingLeft = `${Math.min(part.depth, 12)}rem`;
+  return choice;
 }
 
 /** Marks a part where it is shown, and goes to its bytes. */
 function choose(index, isToScroll) {
   for (const it of document.querySelectorAll('.is-chosen')) it.classList.remove('is-chosen');
-  for (const it of $('parts').querySelectorAll('button')) it.ariaPressed = String(it.dataset.part === index);
-  const rows = [...$('bytes').rows].filter((it) => it.dataset.part === index);
-  const shapes = document.querySelectorAll(`.shapes [data-part="${index}"]`);
-  for (const it of [...rows, ...shapes]) it.classList.add('is-chosen');
-  if (isToScroll) rows[0]?.scrollIntoView({ block: 'nearest' });
+  for (const it of document.querySelectorAll(`[data-part="${index}"]`)) it.classList.add('is-chosen');
+  for (const it of $('parts').querySelectorAll('input')) it.checked = it.value === index;
+  if (isToScroll) $('bytes').querySelector('.is-chosen')?.scrollIntoView({ block: 'nearest' });
 }
 
-function lineOf({ at: begin, spans, text, part, isBad, isGap }) {
+function lineOf({ at: begin, spans, text, isBad, isGap }) {
   const [className, hex] = [isBad ? 'bad' : '', make('td', isBad ? 'bad' : '')];
   let at = begin;
   for (const { length, name } of spans) {
@@ -223,54 +186,66 @@ function lineOf({ at: begin, spans, text, part, isBad, isGap }) {
     if (length > 0) hex.append(span, ' ');
     at += length;
   }
-  return ofPart(part, make('td', '', isGap ? '' : said(begin)), hex, make('td', className, text));
+  return make('tr', '', make('td', '', isGap ? '' : said(begin)), hex, make('td', className, text));
 }
 
-/** A row of the table, of a part if there is one. */
-function ofPart(part, ...cells) {
-  const it = make('tr', '', ...cells);
-  if (part) it.dataset.part = part.index;
-  return it;
+/** The rows of a part, below its name if there are others. */
+function bodyOf(part, rows) {
+  const body = make('tbody', '', ...rows.map(lineOf));
+  body.dataset.part = part.index;
+  if (state.parts.length > 1) {
+    const name = make('th', '', part.inside && part.kind !== 'Ring' ? `member ${part.number}: ` : '', nameOf(part));
+    name.colSpan = 3;
+    body.prepend(make('tr', '', name));
+  }
+  return body;
 }
 
-function headingOf(part) {
-  const heading = make('th', '', part.inside && part.kind !== 'Ring' ? `member ${part.number}: ` : '', nameOf(part));
-  heading.colSpan = 3;
-  return ofPart(part, heading);
-}
-
-const moreLines = (count) => count > 0
-  ? [lineOf(row(0, [], `.. ${counted(count, 'more part')}`, null, { isGap: true }))] : [];
+const linesOf = (...rows) => make('tbody', '', ...rows.map(lineOf));
+const moreParts = (count) => linesOf(...count > 0 ? [row(0, [], `.. ${counted(count, 'more part')}`, { isGap: true })] : []);
 
 function showRows() {
   const { bytes, front, parts } = state;
-  const out = front.rows.map(lineOf);
+  const bodies = [linesOf(...front.rows)];
   let [count, last] = [0, -1];
   for (const part of parts) {
     if (count > state.rows && !part.error) continue;
     const rows = rowsOf(bytes, front.size, part, Math.max(6, state.rows / 50));
-    out.push(...moreLines(part.index - last - 1), ...parts.length > 1 ? [headingOf(part)] : [], ...rows.map(lineOf));
+    bodies.push(moreParts(part.index - last - 1), bodyOf(part, rows));
     count += rows.length + 1;
     last = part.index;
   }
   const left = parts.length - 1 - last;
-  out.push(...moreLines(left), ...endLines());
-  $('bytes').replaceChildren(...out);
+  bodies.push(moreParts(left), linesOf(...endOf(state)));
+  $('bytes').replaceChildren($('bytes').tHead, ...bodies);
   $('more').hidden = left === 0 && !$('bytes').textContent.includes('.. ');
-  const names = new Set(Array.from($('bytes').querySelectorAll('.span'), (it) => it.classList[1]));
-  const words = { order: 'byte order', code: 'type code', srid: 'SRID', rest: 'behind it' };
-  $('legend').replaceChildren(...Array.from(names, (it) => make('span', `span ${it}`, words[it] ?? it)));
   compare();
 }
 
 /** The end of a geometry, and the bytes behind it. */
-function endLines() {
-  const { bytes, front, parts } = state;
+function endOf({ bytes, front, parts }) {
   if (parts.at(-1).error) return [];
   const at = front.size + parts[0].end;
   const length = bytes.length - at;
   const text = length > 0 ? `${counted(length, 'byte')} behind the geometry` : 'the end';
-  return [lineOf(row(at, [{ length, name: 'rest' }], text))];
+  return [row(at, [{ length, name: 'rest' }], text)];
+}
+
+/** Says how the other input compares, and marks the fields whose bytes differ. */
+function compare() {
+  if (!state.bytes) return;
+  const text = $('other').value.trim();
+  let other = state.bytes;
+  try {
+    if (text !== '') other = bytesOf(text);
+    $('compared').textContent = text === '' ? '' : compared(state.bytes, other);
+  } catch (error) {
+    $('compared').textContent = `No bytes: ${error.message}`;
+  }
+  for (const it of $('bytes').querySelectorAll('.span')) {
+    const [at, length] = [Number(it.dataset.at), Number(it.dataset.length)];
+    it.classList.toggle('differs', differing(state.bytes, other, at, at + length).count > 0);
+  }
 }
 
 function showForms(own, found) {
@@ -288,30 +263,18 @@ function formOf(name, isLong, textOf) {
   const code = make('code', '', text.length > MOST.hex ? `${text.slice(0, MOST.hex)} ..` : text);
   const button = make('button', '', 'Copy');
   button.ariaLabel = `Copy: ${name}`;
-  button.addEventListener('click', () => copied(button, textOf));
+  button.addEventListener('click', async () => {
+    const isCopied = await navigator.clipboard.writeText(textOf()).then(() => true, () => false);
+    button.textContent = isCopied ? 'Copied' : 'Not allowed';
+  });
   return make('div', 'form', make('span', '', name), code, button);
-}
-
-async function takeFile(file) {
-  $('text').value = '';
-  try {
-    const bytes = new Uint8Array(await file.arrayBuffer());
-    const text = textOf(bytes);
-    const source = `${file.name}, ${counted(bytes.length, 'byte')}`;
-    if (text === null) take([bytes], source);
-    else takeText(text, source);
-  } catch (error) {
-    take([], file.name);
-    say(`No bytes: ${error.message}`, true);
-  }
 }
 
 function listen() {
   const on = (id, type, act) => $(id).addEventListener(type, act);
-  EXAMPLES.forEach(([name], i) => $('example').append(new Option(name, i)));
   on('example', 'change', ({ target }) => {
-    $('text').value = target.value === '' ? '' : EXAMPLES[target.value][1];
-    takeText($('text').value);
+    $('text').value = target.value;
+    takeText(target.value);
   });
   on('text', 'input', () => {
     $('example').value = '';
@@ -327,11 +290,7 @@ function listen() {
   on('file', 'change', ({ target }) => target.files[0] && takeFile(target.files[0]));
   on('column', 'change', () => takeColumn($('source').textContent));
   on('other', 'input', compare);
-  on('link', 'click', link);
-  window.addEventListener('hashchange', takeLink);
   on('row', 'change', ({ target }) => show(target.value - 1));
-  on('before', 'click', () => show(state.index - 1));
-  on('after', 'click', () => show(state.index + 1));
   on('next-bad', 'click', () => {
     const bad = [...state.statuses.keys()].filter((i) => !state.statuses[i]);
     show(bad.find((i) => i > state.index) ?? bad[0]);
@@ -340,33 +299,26 @@ function listen() {
     state.rows *= 4;
     showRows();
   });
-  for (const id of ['parts', 'bytes', 'drawing']) {
+  on('parts', 'change', ({ target }) => choose(target.value, true));
+  for (const id of ['bytes', 'drawing']) {
     on(id, 'click', ({ target }) => {
       const index = target.closest('[data-part]')?.dataset.part;
-      if (index) choose(index, id !== 'bytes');
+      if (index) choose(index, id === 'drawing');
     });
   }
-  on('parts', 'keydown', (event) => {
-    const to = { ArrowDown: 'nextElementSibling', ArrowUp: 'previousElementSibling' }[event.key];
-    const next = to && event.target.closest('li')[to]?.querySelector('button');
-    if (!next) return;
-    event.preventDefault();
-    [event.target.tabIndex, next.tabIndex] = [-1, 0];
-    next.focus();
-  });
   for (const type of ['dragover', 'dragleave', 'drop']) {
     document.addEventListener(type, (event) => {
-      event.preventDefault();
       document.body.classList.toggle('is-over', type === 'dragover');
-      const [file] = event.dataTransfer.files;
-      if (type === 'drop' && file) takeFile(file);
-      else if (type === 'drop') takeText(event.dataTransfer.getData('text'), 'dropped');
+      if (!event.dataTransfer.types.includes('Files')) return;
+      event.preventDefault();
+      if (type === 'drop') takeFile(event.dataTransfer.files[0]);
     });
   }
+  window.addEventListener('hashchange', takeLink);
 }
 
 listen();
 if (!takeLink()) {
-  $('example').value = 1;
+  $('example').selectedIndex = 2;
   $('example').dispatchEvent(new Event('change'));
 }

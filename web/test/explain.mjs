@@ -21,25 +21,23 @@ test('each byte of each row', () => {
       const around = parts.filter((other) => other.index < it.index && it.index < other.next);
       assert.deepEqual([it.depth, it.inside], [around.length, around.at(-1) ?? null], hex);
     }
-    const rows = parts.flatMap((it) => rowsOf(bytes, 0, it, Infinity));
-    let at = 0;
-    for (const row of rows) {
-      assert.equal(row.at, at, hex);
-      for (const span of row.spans) at += span.length;
+    let [at, bad] = [0, []];
+    for (const part of parts) {
+      for (const row of rowsOf(bytes, 0, part, Infinity)) {
+        assert.equal(row.at, at, hex);
+        for (const span of row.spans) at += span.length;
+        if (row.isBad) bad.push(part);
+      }
     }
-    const bad = rows.filter((it) => it.isBad);
     if (status === '0') assert.deepEqual([at, bad.length, error], [Number(first), 0, null], hex);
-    else assert.ok(bad.length > 0 && bad.every((it) => it.part.error === error || it.part.claims === error), hex);
+    else assert.ok(bad.length > 0 && bad.every((it) => it.error === error || it.claims === error), hex);
     if (error?.reason.startsWith('SHORT') && error.reason !== 'SHORT_MULTI_POINT') assert.equal(at, bytes.length, hex);
-    for (const it of parts.slice(0, -1)) assert.deepEqual(describedBy(rowsOf(bytes, 0, it, 0)), [it.kind, it.dimension], hex);
+    for (const it of parts.slice(0, -1).filter(({ kind }) => kind !== 'Ring')) {
+      const { text } = rowsOf(bytes, 0, it, 0)[1];
+      assert.deepEqual(/: (\w+), (\w+)/.exec(text).slice(1), [it.kind, it.dimension], hex);
+    }
   }
 });
-
-/** The kind and the dimension that the rows of a part tell. */
-function describedBy(rows) {
-  const { text, part } = rows[1] ?? rows[0];
-  return part.kind === 'Ring' ? ['Ring', part.dimension] : /: (\w+), (\w+)/.exec(text).slice(1);
-}
 
 test('texts', () => {
   for (const it of [POINT, `\\x${POINT}`, `\\\\x${POINT}`, `0x${POINT}`, `x'${POINT}'`, ` "${POINT.toUpperCase()}"\r\n`,
