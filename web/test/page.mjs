@@ -2,13 +2,9 @@
 // The inspector in Chromium, by chromedriver: what it shows of inputs, good and hostile, and how long it takes.
 import assert from 'node:assert/strict';
 import { spawn } from 'node:child_process';
-import { mkdtempSync, rmSync } from 'node:fs';
-import { tmpdir } from 'node:os';
-import { join } from 'node:path';
 import { after, before, test } from 'node:test';
 
 const PAGE = new URL('../out/inspector.html', import.meta.url).href;
-const WORK = mkdtempSync(join(tmpdir(), 'inspector-'));
 // Of a machine that does much else; a quiet one takes less than a tenth of it.
 const MOST_TIME = 30000;
 const POINT = '0101000000000000000000f03f0000000000000040';
@@ -58,16 +54,13 @@ before(async () => {
     if (session) break;
   }
   session = `http://127.0.0.1:${session}/session`;
-  const args = ['--headless=new', '--no-sandbox', '--disable-gpu', '--disable-dev-shm-usage', `--user-data-dir=${WORK}`];
+  const args = ['--headless=new', '--no-sandbox', '--disable-gpu', '--disable-dev-shm-usage'];
   const capabilities = { alwaysMatch: { 'goog:chromeOptions': { args }, 'goog:loggingPrefs': { browser: 'ALL' } } };
   session += `/${(await call('POST', '', { capabilities })).sessionId}`;
   await call('POST', '/url', { url: PAGE });
 });
 
-after(async () => {
-  await call('DELETE', '').finally(() => driver.kill());
-  rmSync(WORK, { recursive: true, force: true });
-});
+after(() => call('DELETE', '').finally(() => driver.kill()));
 
 // An input, what the verdict begins with, and for rejected ones the byte of the row that is marked, and its text.
 const CASES = [
