@@ -123,6 +123,11 @@ test('GeoJSON there and back', () => {
     ...of('LineString', [[1, 2], [1, 2, 3]], ['ab'], [1, 2], [null])]) assert.throws(() => wkb.fromGeoJSON(it), TypeError);
 });
 
+test('the code names no folder of this machine, so that each build of it is the same', () => {
+  const code = readFileSync(new URL('../out/wkb.wasm', import.meta.url));
+  assert.equal(code.includes(fileURLToPath(new URL('../..', import.meta.url))), false);
+});
+
 const MODULE = 'porchsorrel-wkb';
 const PAGE = readFileSync(new URL('../README.md', import.meta.url), 'utf8');
 const EXAMPLE = [...PAGE.matchAll(/```js\n([^]*?)```/g)].map((it) => it[1]).join('');
