@@ -40,7 +40,6 @@ function ticksOf({ least, most }) {
   const raw = most / 5 - least / 5;
   const power = 10 ** Math.floor(Math.log10(raw));
   const step = [1, 2, 5, 10].map((it) => it * power).find((it) => it >= raw) ?? raw;
-  if (!(step > 0) || !Number.isFinite(step)) return [];
   const ticks = [];
   for (let i = Math.ceil(least / step); i * step <= most && ticks.length < 12; i++) ticks.push(i * step);
   return ticks;

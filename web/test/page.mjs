@@ -43,8 +43,10 @@ const READ = `() => {
   return { verdict: textOf('verdict'), isHidden,
     bad: bad.map((it) => [it.cells[0].textContent, it.cells[2].textContent]), source: textOf('source'),
     rows: document.querySelectorAll('#bytes tr').length, parts: document.querySelectorAll('#parts label').length,
-    shapes: [...document.querySelectorAll('.shapes path')].filter((it) => it.getAttribute('d')).length,
-    drawn: textOf('drawn'), forms: [...document.querySelectorAll('.form code')].map((it) => it.textContent) };
+    shapes: Array.from(document.querySelectorAll('.shapes path[d*=" "]'), (it) => it.getAttribute('class')).join(),
+    drawn: textOf('drawn'), forms: [...document.querySelectorAll('.form code')].map((it) => it.textContent),
+    isWhole: document.getElementById('more').hidden, facts: textOf('facts'),
+    numberedGaps: [...document.querySelectorAll('#bytes tr')].filter((it) => /^[0-9,]+[.][.] /.test(it.textContent)).length };
 }`;
 
 before(async () => {
@@ -61,6 +63,10 @@ before(async () => {
 });
 
 after(() => call('DELETE', '').finally(() => driver.kill()));
+
+test('the page begins with an example', async () => {
+  assert.match((await run(`return (${READ})()`)).verdict, /^Polygon, xy, SRID 4326/);
+});
 
 // An input, what the verdict begins with, and for rejected ones the byte of the row that is marked, and its text.
 const CASES = [
@@ -91,39 +97,59 @@ for (const [text, verdict, at, why] of CASES) {
     assert.ok(found.verdict.startsWith(verdict), found.verdict);
     if (at) assert.ok(found.bad.some((row) => row[0] === at && (why.test?.(row[1]) ?? row[1] === why)), `${found.bad}`);
     else assert.deepEqual([found.bad, found.isHidden], [[], /^No bytes|Package/.test(verdict)]);
+    assert.ok(found.isHidden || found.isWhole || at === '1,153');
   });
 }
 
 test('what is drawn, listed and written', async () => {
   const [one, cut] = ['000000000000f03f', POINT.slice(0, 40)];
-  const all = [[`0102000000020000000000000000000000${one.repeat(2)}000000000000f87f`, 2, /^1 of 2 coordinates: /],
-    [`010200000002000000${'ffffffffffffefff'.repeat(2)}${'ffffffffffffef7f'.repeat(2)}`, 2, / 2 coordinates\.$/],
-    [`010400000003000000${POINT.repeat(2)}${cut}`, 3, / 2 coordinates, before the fault\.$/],
-    [`01030000000200000001000000${one.repeat(2)}0100`, 2, / 1 coordinate, before the fault\.$/],
-    [`0101000000${'000000000000f87f'.repeat(2)}`, 0, /^There is no coordinate to draw\.$/]];
+  const all = [[`0102000000020000000000000000000000${one.repeat(2)}000000000000f87f`, 'line,vertex', /^1 of 2 coordinates: /],
+    [`010200000002000000${'ffffffffffffefff'.repeat(2)}${'ffffffffffffef7f'.repeat(2)}`, 'line,vertex', / 2 coordinates\.$/],
+    [`010400000003000000${POINT.repeat(2)}${cut}`, 'point,point,vertex', / 2 coordinates, before the fault\.$/],
+    [`01030000000200000001000000${one.repeat(2)}0100`, 'area,vertex', / 1 coordinate, before the fault\.$/],
+    [`0101000000${'000000000000f87f'.repeat(2)}`, '', /^There is no coordinate to draw\.$/]];
   for (const [hex, shapes, text] of all) {
     const found = await shown(hex);
     assert.deepEqual([found.shapes, found.forms.length], [shapes, 5]);
     assert.match(found.drawn, text);
-    if (shapes === 3) assert.deepEqual(found.bad.at(-1), ['64', 'cut off: 7 of 8 bytes']);
+    if (shapes.startsWith('point')) assert.deepEqual(found.bad.at(-1), ['64', 'cut off: 7 of 8 bytes']);
   }
   const { forms } = await shown(all[0][0]);
   assert.equal(forms[4], '{"type":"LineString","coordinates":[[0,1],[1,null]]}');
 });
 
-test('a fault behind the header of a GeoPackage', async () => {
-  const { verdict } = await shown(`47500001e6100000${POINT.slice(0, 40)}`);
+test('more rows of a long list', async () => {
+  const { rows, isWhole } = await shown(`010200000000010000${'0'.repeat(32 * 256)}`);
+  assert.deepEqual([rows, isWhole], [14, false]);
+  assert.equal(await run('document.getElementById("more").click(); return document.querySelectorAll("#bytes tr").length'), 38);
+});
+
+test('facts', async () => {
+  assert.match((await shown(POINT)).facts, /Coordinates1Least x1Greatest x1Least y2Greatest y2$/);
+  const { verdict, facts } = await shown(`47500001e6100000${POINT.slice(0, 40)}`);
   assert.match(verdict, /at byte 8;/);
-  assert.match(await run('return document.getElementById("facts").textContent'), /Begins at byte8It needs/);
+  assert.match(facts, /Begins at byte8It needs/);
+});
+
+test('the axes of a drawing say where its coordinates are', async () => {
+  await shown(`010200000002000000${'0000000000005940'.repeat(2)}${'0000000000805b40'.repeat(2)}`);
+  const [d, ...ticks] = await run(`const ticks = [...document.querySelectorAll('.axes text')];
+    return [document.querySelector('.line').getAttribute('d'),
+      ...ticks.map((it) => [it.textContent, it.getAttribute('x'), it.getAttribute('y')])];`);
+  const place = (label) => [0, 1].map((axis) => Number(ticks.filter((it) => it[0] === label)[axis][axis + 1]) - 4 * axis);
+  const [[left, bottom], [right, top]] = [place('100'), place('110')];
+  assert.deepEqual(d.match(/[\d.]+/g).map(Number), [left, bottom, right, top].map((it) => Number(it.toFixed(2))));
+  assert.ok(right > left && Math.abs(right - left - (bottom - top)) < 1e-6, d);
 });
 
 test('a part that is chosen is marked where it is shown', async () => {
   await shown('010400000002000000' + POINT.repeat(2));
   const marked = await run(`document.querySelectorAll('#parts input')[2].click();
-    const parts = [...document.querySelectorAll('.is-chosen')].map((it) => it.dataset.part);
+    const found = [scrollY > 0, ...Array.from(document.querySelectorAll('.is-chosen'), (it) => it.dataset.part)];
+    scrollTo(0, 0);
     document.querySelector('#bytes [data-part="1"] td').click();
-    return [...parts, document.querySelector('#parts :checked').value];`);
-  assert.deepEqual(marked, ['2', '2', '1']);
+    return [...found, scrollY, document.querySelector('#parts :checked').value];`);
+  assert.deepEqual(marked, [true, '2', '2', 0, '1']);
 });
 
 test('a column of CSV, another input, and a link', async () => {
@@ -144,7 +170,10 @@ test('a column of CSV, another input, and a link', async () => {
   assert.equal(await run('return location.hash'), `#hex=${POINT}`);
   await run(`location.hash = '#hex=${POINT.slice(0, 20)}'`);
   await pause(300);
-  assert.match((await run(`return (${READ})()`)).verdict, /^Rejected: the input ends inside a point/);
+  for (let i = 0; i < 2; i++) {
+    assert.match((await run(`return (${READ})()`)).verdict, /^Rejected: the input ends inside a point/);
+    await call('POST', '/refresh', {});
+  }
 });
 
 const LONG = {
@@ -159,6 +188,7 @@ for (const [name, [text, verdict]] of Object.entries(LONG)) {
     const found = await shown(text);
     assert.match(found.verdict, verdict);
     assert.ok(found.rows < 1200 && found.parts <= 300, `${found.rows} rows, ${found.parts} parts`);
+    assert.equal(found.numberedGaps, 0);
     assert.ok(found.time < MOST_TIME, `${found.time} ms`);
     it.diagnostic(`${Math.round(found.time)} ms`);
   });
