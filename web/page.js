@@ -314,7 +314,8 @@ function listen() {
       if (type === 'drop') takeFile(event.dataTransfer.files[0]);
     });
   }
-  window.addEventListener('hashchange', takeLink);
+  // The page's own link is to what it shows, maybe one of many inputs.
+  window.addEventListener('hashchange', () => location.hash !== $('link').hash && takeLink());
 }
 
 listen();

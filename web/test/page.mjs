@@ -158,7 +158,7 @@ test('a column of CSV, another input, and a link', async () => {
   const [name, count] = await run(`const [column, count] = ['column', 'count'].map((it) => document.getElementById(it));
     return [column.selectedOptions[0].text, count.textContent];`);
   assert.deepEqual([name, count], ['geom', '2']);
-  await shown(POINT);
+  await shown(`${POINT}\n02`);
   const compared = (text) => run(`const other = document.getElementById('other');
     other.value = ${JSON.stringify(text)};
     other.dispatchEvent(new Event('input'));
@@ -167,7 +167,8 @@ test('a column of CSV, another input, and a link', async () => {
   assert.deepEqual(await compared('xy'), ['No bytes: neither hex nor base64: hex has no "x", the digit 1', 0]);
   assert.deepEqual(await compared(''), ['', 0]);
   await run('document.getElementById("link").click()');
-  assert.equal(await run('return location.hash'), `#hex=${POINT}`);
+  await pause(300);
+  assert.deepEqual(await run('return [location.hash, document.getElementById("count").textContent]'), [`#hex=${POINT}`, '2']);
   await run(`location.hash = '#hex=${POINT.slice(0, 20)}'`);
   await pause(300);
   for (let i = 0; i < 2; i++) {
