@@ -23,7 +23,9 @@ test('each byte of each row', () => {
     }
     let [at, bad] = [0, []];
     for (const part of parts) {
-      for (const row of rowsOf(bytes, 0, part, Infinity)) {
+      const rows = rowsOf(bytes, 0, part, Infinity);
+      assert.deepEqual(rowsOf(bytes, 0, part, 2).at(-1), rows.at(-1), hex);
+      for (const row of rows) {
         assert.equal(row.at, at, hex);
         for (const span of row.spans) at += span.length;
         if (row.isBad) bad.push(part);

@@ -46,6 +46,7 @@ const READ = `() => {
     shapes: Array.from(document.querySelectorAll('.shapes path[d*=" "]'), (it) => it.getAttribute('class')).join(),
     drawn: textOf('drawn'), forms: [...document.querySelectorAll('.form code')].map((it) => it.textContent),
     isWhole: document.getElementById('more').hidden, facts: textOf('facts'),
+    hex: Array.from(document.querySelectorAll('#bytes .span'), (it) => it.textContent).join(' '),
     numberedGaps: [...document.querySelectorAll('#bytes tr')].filter((it) => /^[0-9,]+[.][.] /.test(it.textContent)).length };
 }`;
 
@@ -98,6 +99,7 @@ for (const [text, verdict, at, why] of CASES) {
     if (at) assert.ok(found.bad.some((row) => row[0] === at && (why.test?.(row[1]) ?? row[1] === why)), `${found.bad}`);
     else assert.deepEqual([found.bad, found.isHidden], [[], /^No bytes|Package/.test(verdict)]);
     assert.ok(found.isHidden || found.isWhole || at === '1,153');
+    if (!at && !found.isHidden) assert.equal(found.hex, text.replace(/..(?!$)/g, '$& '));
   });
 }
 
@@ -105,6 +107,7 @@ test('what is drawn, listed and written', async () => {
   const [one, cut] = ['000000000000f03f', POINT.slice(0, 40)];
   const all = [[`0102000000020000000000000000000000${one.repeat(2)}000000000000f87f`, 'line,vertex', /^1 of 2 coordinates: /],
     [`010200000002000000${'ffffffffffffefff'.repeat(2)}${'ffffffffffffef7f'.repeat(2)}`, 'line,vertex', / 2 coordinates\.$/],
+    [`010400000088130000${POINT.repeat(5000)}`, 'point', /^A sample: 2,500 of 5,000 coordinates\.$/],
     [`010400000003000000${POINT.repeat(2)}${cut}`, 'point,point,vertex', / 2 coordinates, before the fault\.$/],
     [`01030000000200000001000000${one.repeat(2)}0100`, 'area,vertex', / 1 coordinate, before the fault\.$/],
     [`0101000000${'000000000000f87f'.repeat(2)}`, '', /^There is no coordinate to draw\.$/]];
@@ -112,7 +115,7 @@ test('what is drawn, listed and written', async () => {
     const found = await shown(hex);
     assert.deepEqual([found.shapes, found.forms.length], [shapes, 5]);
     assert.match(found.drawn, text);
-    if (shapes.startsWith('point')) assert.deepEqual(found.bad.at(-1), ['64', 'cut off: 7 of 8 bytes']);
+    if (shapes.startsWith('point,')) assert.deepEqual(found.bad.at(-1), ['64', 'cut off: 7 of 8 bytes']);
   }
   const { forms } = await shown(all[0][0]);
   assert.equal(forms[4], '{"type":"LineString","coordinates":[[0,1],[1,null]]}');
@@ -131,16 +134,19 @@ test('facts', async () => {
   assert.match(facts, /Begins at byte8It needs/);
 });
 
-test('the axes of a drawing say where its coordinates are', async () => {
-  await shown(`010200000002000000${'0000000000005940'.repeat(2)}${'0000000000805b40'.repeat(2)}`);
-  const [d, ...ticks] = await run(`const ticks = [...document.querySelectorAll('.axes text')];
-    return [document.querySelector('.line').getAttribute('d'),
-      ...ticks.map((it) => [it.textContent, it.getAttribute('x'), it.getAttribute('y')])];`);
-  const place = (label) => [0, 1].map((axis) => Number(ticks.filter((it) => it[0] === label)[axis][axis + 1]) - 4 * axis);
-  const [[left, bottom], [right, top]] = [place('100'), place('110')];
-  assert.deepEqual(d.match(/[\d.]+/g).map(Number), [left, bottom, right, top].map((it) => Number(it.toFixed(2))));
-  assert.ok(right > left && Math.abs(right - left - (bottom - top)) < 1e-6, d);
-});
+for (const [from, to, ...words] of [['100', '110', '0000000000005940', '0000000000805b40'],
+  ['1.00e+8', '2.00e+8', '0000000084d79741', '0000000084d7a741']]) {
+  test(`the axes of a drawing from ${from} to ${to} say where that is`, async () => {
+    await shown('010200000002000000' + words.map((it) => it.repeat(2)).join(''));
+    const [d, ...ticks] = await run(`const ticks = [...document.querySelectorAll('.axes text')];
+      return [document.querySelector('.line').getAttribute('d'),
+        ...ticks.map((it) => [it.textContent, it.getAttribute('x'), it.getAttribute('y')])];`);
+    const place = (label) => [0, 1].map((axis) => ticks.filter((it) => it[0] === label)[axis][axis + 1] - 4 * axis);
+    const [[left, bottom], [right, top]] = [place(from), place(to)];
+    assert.deepEqual(d.match(/[\d.]+/g).map(Number), [left, bottom, right, top].map((it) => Number(it.toFixed(2))));
+    assert.ok(right > left && Math.abs(right - left - (bottom - top)) < 1e-6, d);
+  });
+}
 
 test('a part that is chosen is marked where it is shown', async () => {
   await shown('010400000002000000' + POINT.repeat(2));
@@ -182,7 +188,7 @@ const LONG = {
   'a multi point of 5 MB': [() => '010400000000d00300' + '0101000000000000000000f03f0000000000000040'.repeat(249856), /^MultiPoint/],
   'a collection of 1 MB of empty members': [() => '010700000000c80100' + '010700000000000000'.repeat(116736), /^Geometry/],
   'members that each claim the rest': [() => '0107000000ffffffff'.repeat(128) + '010400000000000000'.repeat(60000), /^Rejected/],
-  'many lines': [() => Array(50000).fill('0101000000000000000000f03f0000000000000040').join('\n') + '\n02', /^Point/],
+  'many lines': [() => Array(50000).fill('0101000000000000000000f03f0000000000000040').join('\n') + '\n02\n02', /^Point/],
 };
 for (const [name, [text, verdict]] of Object.entries(LONG)) {
   test(name, async (it) => {
@@ -196,10 +202,10 @@ for (const [name, [text, verdict]] of Object.entries(LONG)) {
 }
 
 test('the next rejected of many lines', async () => {
-  const [verdict, summary] = await run(`document.getElementById("next-bad").click();
-    return ['verdict', 'summary'].map((it) => document.getElementById(it).textContent);`);
-  assert.match(verdict, /neither 0 nor 1/);
-  assert.match(summary, /^1 rejected/);
+  const next = () => run(`document.getElementById("next-bad").click();
+    return document.getElementById('row').value + document.getElementById('verdict').textContent.slice(0, 10)`);
+  const all = [await next(), await next(), await next(), await run('return document.getElementById("summary").textContent')];
+  assert.deepEqual(all, ['50001Rejected: ', '50002Rejected: ', '50001Rejected: ', '2 rejected']);
 });
 
 test('a file of 5 MB', async () => {
