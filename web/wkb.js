@@ -1,8 +1,8 @@
 // SPDX-License-Identifier: MIT OR Apache-2.0
 // Reads and writes WKB and EWKB in browsers, workers and Node.js. What is checked, measured, compared and written is so
 // by the proved sources, as WebAssembly (desk.js). This file makes objects of the numbers; wkb.d.ts says which.
-import { DIMENSIONS, KINDS, ORDERS, PART_SIZE, WkbError, asBytes, copyOf, numbered, over, put, rangesOf, refusal, result
-} from './desk.js';
+import { DIMENSIONS, KINDS, ORDERS, PART_SIZE, WkbError, asBytes, copyOf, numbered, over, put, rangesOf, refusal,
+  result } from './desk.js';
 
 export { DIMENSIONS, KINDS, STATUSES, WkbError, start } from './desk.js';
 export { Column } from './column.js';
