@@ -17,6 +17,8 @@ SAID = re.compile(r"(?m)^\s*(?:requires|ensures|ghost(?! use\b))\b")
 GHOST = re.compile(r"ghost \w+(?::(?: =)?| =)$")
 PART = {"enum": re.compile(r"\w+(?:\(.*\))?$"), "struct": re.compile(r"(?:pub\(\w+\) )?\w+: .+$")}
 NAMED = {"fn", "struct", "enum", "trait", "type", "const"}
+# What has members, with clauses of their own.
+BLOCKS = "trait", "impl", "enum", "struct"
 
 
 def blanked(text):
@@ -109,7 +111,7 @@ def read_in(found):
     for it in found:
         is_ghost = it.kind == "ghost"
         many += GHOST.match(it.signature) is not None if is_ghost else len(it.clauses)
-        opened = it.kind in ("mod", "trait", "impl", "enum", "struct", "")
+        opened = it.kind in ("mod", "", *BLOCKS)
         many += read_in(it.inside) if opened else len(SAID.findall(blanked(it.body or "")))
     return many
 
@@ -131,6 +133,11 @@ def impl_of(item):
     header = re.sub(r"^impl(?:<(?:[^<>]|<[^<>]*>)*>)? ", "", item.signature).split(" where ")[0]
     trait, found, kind = header.partition(" for ")
     return (trait, kind) if found else (None, trait)
+
+
+def type_of(item):
+    """The name of the type of an `impl`, without its module."""
+    return re.sub(r"<.*", "", impl_of(item)[1]).split("::")[-1]
 
 
 def targets(use):
@@ -155,7 +162,7 @@ class Crate:
                 self.modules["::".join(it for it in words if it not in ("lib", "main"))] = items_of(text)
             except ValueError as error:
                 sys.exit(f"{path.relative_to(ROOT)}: {error}")
-        self.impls = [(*impl_of(it), it) for module in self.modules.values() for it in module if it.kind == "impl"]
+        self.impls = [it for module in self.modules.values() for it in module if it.kind == "impl"]
 
     def item(self, name):
         """The first item of this name, in any module, or None."""
@@ -164,7 +171,7 @@ class Crate:
 
     def impls_of(self, name):
         """(trait or None, item) of each `impl` of a type."""
-        return [(trait, it) for trait, kind, it in self.impls if re.sub(r"<.*", "", kind).split("::")[-1] == name]
+        return [(impl_of(it)[0], it) for it in self.impls if type_of(it) == name]
 
 
 class Paths:

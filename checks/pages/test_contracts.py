@@ -14,7 +14,9 @@ import collections
 import re
 
 from checks import judge
+from items import BLOCKS, Paths, type_of
 from pages import PAGES, ROOT, rows_of, spans, text_of, texts
+from specs import declaration
 
 PROMISES = "docs/PROMISES.md"
 README = "README.md"
@@ -23,23 +25,8 @@ UNNAMED, LEMMA = "its only clause", "the lemma"
 NAMED = r"`[\w:<>]+`"
 # A law of std and our lemmas, which PROMISES names beside our clauses.
 LEMMAS = {"respects_eq", *re.findall(r"(\w+)[,}]", text_of("crates/wkb/specs/Known.antt"))}
-FUNCTION = re.compile(r'^( *)(?:pub(?:\(\w+\))? )?(?:const )?(?:extern "C" )?fn (\w+)', re.M)
-BLOCK = re.compile(
-    r"^ *(?:(?:pub )?(?:trait|struct|enum) |impl(?:<[^{\n]*?>)? (?:[\w:]+(?:<[^{\n]*>)? for )?)(\w+)", re.M
-)
-DEFINITION = re.compile(r"^ *(?:pub )?(?:record|data) (\w+)", re.M)
-
-
-def block_after(text, start):
-    """The text from a place up to the end of its block: the next line that is indented no more than its first."""
-    lines = text[start:].split("\n")
-    indent = len(lines[0]) - len(lines[0].lstrip())
-    block = [lines[0]]
-    for line in lines[1:]:
-        if line.strip() and len(line) - len(line.lstrip()) <= indent and not re.match(r"\s*[{})]", line):
-            break
-        block.append(line)
-    return "\n".join(block)
+DEFINITION = re.compile(r"(?m)^ *pub (?:record|data) (\w+)")
+FIELD = re.compile(r"(?m)^\s+(\w+)\s*:")
 
 
 class Clauses:
@@ -49,25 +36,26 @@ class Clauses:
         self.labels = collections.defaultdict(lambda: collections.defaultdict(set))
         # (crate, name) of each function that has a clause without a name.
         self.unnamed = set()
-        for path, text in texts("crates/*/src/**/*.rt").items():
-            self.read_code(path.split("/")[1], text)
+        code = Paths()
+        for crate in code.crates:
+            for item in (it for module in code.crate(crate).modules.values() for it in module):
+                self.read(crate, item)
         for path, text in texts("crates/*/specs/**/*.antt").items():
-            self.read_definitions(path.split("/")[1], text)
+            for name in DEFINITION.findall(text):
+                self.labels[path.split("/")[1]][name].update(FIELD.findall("\n".join(declaration(text, name))))
 
-    def read_code(self, crate, text):
-        for match in FUNCTION.finditer(text):
-            head = re.split(r"\n {0,%d}[{}]|;\n" % len(match[1]), text[match.start() :], maxsplit=1)[0]
-            self.labels[crate][match[2]].update(re.findall(r"\b(?:ensures|requires) (\w+)", head))
-            if re.search(r"\bensures \{", head):
-                self.unnamed.add((crate, match[2]))
-        for match in BLOCK.finditer(text):
-            found = re.findall(r"\b(?:ensures|requires|ghost) (\w+)", block_after(text, match.start()))
-            self.labels[crate][match[1]].update(found)
-
-    def read_definitions(self, crate, text):
-        for match in DEFINITION.finditer(text):
-            found = re.findall(r"(?m)^\s+(?:pub )?(\w+)\s*:", block_after(text, match.start()))
-            self.labels[crate][match[1]].update(found)
+    def read(self, crate, item):
+        """Keep the labels of an item's clauses, and of those in it. Return them."""
+        found = {label for _, label, _ in item.clauses if label}
+        if item.kind == "ghost":
+            return {item.name}
+        if item.kind == "fn" and ("ensures", None) in [it[:2] for it in item.clauses]:
+            self.unnamed.add((crate, item.name))
+        if item.kind in BLOCKS:
+            found.update(*(self.read(crate, it) for it in item.inside))
+        if item.kind in ("fn", *BLOCKS):
+            self.labels[crate][type_of(item) if item.kind == "impl" else item.name] |= found
+        return found
 
     def of(self, name, crates=()):
         """The labels of a function, a trait, a type or a record of these crates, or of any."""
