@@ -1,5 +1,4 @@
-"""The C library for scripts that compare pages with it: built first, in c/out, and called by the Python package."""
-import functools
+"""Builds the C library in c/out, for tests and for the site."""
 import os
 import shutil
 import subprocess
@@ -19,13 +18,3 @@ def build(goal):
         if not shutil.which(program):
             raise Absent(f"there is no {program}")
     subprocess.run(["make", "-s", "-C", ROOT / "c", f"CC={compiler}", f"PYTHON={sys.executable}", goal], check=True)
-
-
-@functools.lru_cache(maxsize=None)
-def wkb():
-    """The Python package over the library."""
-    build("python")
-    sys.path.insert(0, str(ROOT / "c/out/package"))
-    import porchsorrel_wkb as package
-
-    return package

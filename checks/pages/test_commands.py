@@ -6,10 +6,9 @@ folder, where `wkb_hex`, `examples` and `c` are symbolic links and some files ar
 program are skipped if it isn't built of the current sources: they would prove it first, for many minutes. Commands that
 use `wkb_dump` are skipped if that can't be built.
 
-A command without `$ ` isn't run, unless it runs the program: the page then has its output in backticks. The files that
-such a command names have to exist. Code between lines ```rust, ```antt, ```c, ```cpp, ```python or ```sql and ``` has
-to be, piece by piece, in the SOURCES below, which are compiled and run elsewhere. An edit that a page shows has to be
-one of the repository.
+A command without `$ ` isn't run, unless it runs the program: the page then has its output in backticks. Code between
+lines ```rust, ```antt, ```c, ```cpp, ```python or ```sql and ``` has to be, piece by piece, in the SOURCES below, which
+are compiled and run elsewhere. An edit that a page shows has to be one of the repository.
 """
 import functools
 import os
@@ -19,7 +18,7 @@ import subprocess
 import tempfile
 
 from checks import judge
-from pages import PAGES, ROOT, commands, files, lines_of, program, spans, text_of, texts
+from pages import OURS, PAGES, ROOT, commands, lines_of, program, spans, text_of, texts
 
 PROGRAM = program("wkb_hex")
 POINT = "0101000000000000000000f03f0000000000000040"
@@ -43,8 +42,6 @@ SOURCES = {
 SKETCHED = ["crates/wkb/src/check.rt", "crates/wkb/src/lib.rt"]
 # The program as such commands run it: in its folder, or at the top.
 RUNS = re.compile(r"\(cd crates/wkb_hex && rt try -- (\S+) < \.\./\.\./(\S+)\)|\./wkb_hex (\S+) < (\S+)$")
-# The folders of our scripts.
-OURS = r"(?:\.ci|bench|c|checks|crates|docs|edits|examples|postgres|python|rust|sqlite|tools|web)"
 # With the kit these commands build and test everything, and README names them.
 KIT = "./wkb_hex be < examples/point.hex", "rt ci"
 # What runs the line that a page has for another processor.
@@ -147,15 +144,9 @@ def flat(text):
     return re.sub(r"(?m)^ +", "", text)
 
 
-def lost_commands(page):
-    """The errors in the commands without `$ `: a missing file, or another line than on the page."""
-    folder = ROOT / "c" if page == "c/package/package.md" else ROOT
-    for number, command, expected in commands(page):
-        if expected is not None:
-            continue
-        for word in re.findall(rf"(?<![\w/.~]){OURS}/[\w./]+", command):
-            if "/out/" not in word and not (folder / word).exists() and not (ROOT / word).exists():
-                yield f"{page}:{number}: no file {word}"
+def lost_cross(page):
+    """The commands for another processor that its test doesn't have."""
+    for number, command, _ in commands(page):
         if re.match("make -C c check CC=aarch64", command) and command not in text_of(CROSS):
             yield f"{page}:{number}: {CROSS} runs another command"
 
@@ -205,9 +196,6 @@ def lost_words(page):
             verbs = {it for it in more[:1] if re.fullmatch("[a-z]+", it) and not (ROOT / "crates" / it).is_dir()}
             yield from (f"{page}: {first} has no {it}" for it in flags | verbs if own[0] == 0 or it in flags
                         if not re.search(rf"(?<![\w-]){it}(?![\w-])", text_of(first)))
-        elif own == [0] and len(words) > 1 and "/out/" not in first:
-            if not any(f"/{first}" in str(it) for it in files()):
-                yield f"{page}: no file {first}"
 
 
 class Shown(judge.Judge):
@@ -220,7 +208,7 @@ class Shown(judge.Judge):
     def wrong(self):
         yield from differing_commands(self.folder, lambda it: "wkb_hex" not in it and "wkb_dump" not in it)
         for page in PAGES:
-            yield from (*lost_pieces(page), *lost_commands(page), *lost_words(page))
+            yield from (*lost_pieces(page), *lost_cross(page), *lost_words(page))
         yield from (f"README.md: no {it}" for it in {*KIT} - {it for _, it, _ in commands("README.md")})
         yield from lost_examples()
 

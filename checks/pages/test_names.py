@@ -10,12 +10,12 @@ import re
 import subprocess
 
 from checks import judge
-from pages import PAGES, ROOT, files, lines_of, paths, prose_of, rows_of, spans, texts
+from pages import OURS, PAGES, ROOT, commands, files, lines_of, paths, prose_of, rows_of, spans, texts
 
 # What commands make, and a folder of the C package.
 MADE_PATHS = {"rust/src/wkb*", "source/", "web/out/package", "web/out/inspector.html"}
 # How a path in a command begins that is ours, and not built.
-OURS = re.compile(r"(bench|c|checks|crates|docs|edits|examples|postgres|python|rust|sqlite|tools|web)/(?!out)")
+OF_OURS = re.compile(rf"{OURS}/(?!out)")
 # The words in capitals that stand for a part of a path.
 PLACES = re.compile(r"CRATE|NAME|FUNCTION")
 PATH = re.compile(r"(?<![\w:/.'])[A-Za-z_]\w*(?:::[A-Za-z_]\w*)+")
@@ -56,7 +56,7 @@ def looks_like_a_path(span):
 
 
 def looks_like_ours(word):
-    return looks_like_a_path(word) and OURS.match(word)
+    return looks_like_a_path(word) and OF_OURS.match(word)
 
 
 def lost_in(span):
@@ -99,10 +99,11 @@ def calls():
 
 
 def named():
-    """(page, number of the line, name) of each name in backticks, on the pages and in what tools/api prints."""
+    """(page, number of the line, name) of each command, and of each name in backticks, also in what tools/api prints."""
+    yield from ((page, number, command) for page in PAGES for number, command, _ in commands(page))
     lines = [("tools/api", *it) for it in calls()]
     lines += [(page, *it) for page in PAGES for it in lines_of(page)]
-    return ((page, number, span) for page, number, line in lines for span in spans(line))
+    yield from ((page, number, span) for page, number, line in lines for span in spans(line))
 
 
 class Names(judge.Judge):
