@@ -87,12 +87,7 @@ class Specs:
             found = self.passed[module]
             passed = [(local, *(self.origin(source, it) if it else (source, it))) for source, it, local in found]
             passed += [(local, source, None) for source, local in re.findall(r"(?m)^-- use (\S+) as (\w+)$", text)]
-            own = [it for it in defined(text) if re.search(rf"\bpub (?:record |data )?{re.escape(it)}\b", text)]
-            yield name, passed + [(it, module, it) for it in own]
-
-
-WORDS = re.compile(r"(?:(?:unfoldable|abbrev|pub|private|record|data)\s+)*")
-NAME = re.compile(r"[^\W\d][\w'-]*")
+            yield name, passed + [(it, module, it) for it in defined(text)]
 
 
 def declaration(text, name):
@@ -108,43 +103,7 @@ def declaration(text, name):
     return textwrap.dedent(found[0] + re.match(meant, text[found.end() :])[0]).replace("pub ", "").splitlines()
 
 
-def after_groups(text):
-    """The rest of a text after its groups in brackets."""
-    text = text.lstrip()
-    while text[:1] in ("(", "{"):
-        depth, end = 0, len(text)
-        for i, letter in enumerate(text):
-            depth += {"(": 1, "{": 1, ")": -1, "}": -1}.get(letter, 0)
-            if depth == 0:
-                end = i + 1
-                break
-        text = text[end:].lstrip()
-    return text
-
-
 def defined(text):
-    """The names that a file of definitions defines, also inside `mutual` and `module _`; no fields or constructors."""
-    lines = text.splitlines()
-    base, inside = 0, None
-    for i, line in enumerate(lines):
-        indent = len(line) - len(line.lstrip())
-        if not line.strip() or line.lstrip().startswith("--"):
-            continue
-        if indent < base:
-            base = 0
-        if inside is not None and indent > inside:
-            continue
-        inside = None
-        if indent != base or re.match(r"(?:unfoldable |pub )*use\b", line.lstrip()):
-            continue
-        if re.match(r"(?:abbrev |unfoldable )?(?:mutual|module\b.*)", line.lstrip()):
-            base += 2
-            continue
-        head = WORDS.match(line.lstrip())
-        if re.search(r"\b(?:record|data)\b", head[0]):
-            inside = indent
-        name = NAME.match(line.lstrip(), head.end())
-        if name:
-            behind = line.lstrip()[name.end() :] + " " + " ".join(lines[i + 1 : i + 6])
-            if after_groups(behind).startswith(":"):
-                yield name[0]
+    """The public names that a file of definitions defines, also inside `mutual`; no fields or constructors."""
+    bare = re.sub(r"(?m)^(( *)(?:pub )?(?:record|data) .*\n)(?:\2 +.*\n)*", r"\1", text)
+    return re.findall(r"(?m)^ *(?:abbrev |unfoldable )?pub (?:record |data )?(?!(?:use|mod|ruleset)\s)([^\s:]+)", bare)
