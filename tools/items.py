@@ -164,11 +164,6 @@ class Crate:
                 sys.exit(f"{path.relative_to(ROOT)}: {error}")
         self.impls = [it for module in self.modules.values() for it in module if it.kind == "impl"]
 
-    def item(self, name):
-        """The first item of this name, in any module, or None."""
-        named = (it for module in self.modules.values() for it in module if it.kind in NAMED and it.name == name)
-        return next(named, None)
-
     def impls_of(self, name):
         """(trait or None, item) of each `impl` of a type."""
         return [(impl_of(it)[0], it) for it in self.impls if type_of(it) == name]

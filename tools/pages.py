@@ -122,9 +122,9 @@ def spans(text):
     return SPAN.findall(text)
 
 
-def copy_files(to, chosen=None):
-    """Copy files of the repository into a folder: these, or all."""
-    for file in chosen or files():
+def copy_files(to):
+    """Copy the files of the repository into a folder."""
+    for file in files():
         copy = to / file.relative_to(ROOT)
         copy.parent.mkdir(parents=True, exist_ok=True)
         shutil.copy2(file, copy)
