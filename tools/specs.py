@@ -70,13 +70,6 @@ class Specs:
                 return self.origin(source, passed)
         return module, name
 
-    def face(self, crate):
-        """(module, local name, origin) of each name that a crate's specs pass on."""
-        for module, passed in self.passed.items():
-            if module.startswith(f"Rattle.{crate}.specs."):
-                for source, name, local in passed:
-                    yield module, local, self.origin(source, name) if name else (source, None)
-
     def words(self, crate):
         """(module, its words) of each module that a crate's specs hand to other crates. A word is its name there, and
         the module and the name where it stands; the last is None of a whole module. A comment names what users import

@@ -1,4 +1,3 @@
 pub mod Points
 pub mod Places
 pub mod LawfulPlaces
-pub mod Words
