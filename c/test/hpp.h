@@ -70,10 +70,6 @@ struct filled {
     data.insert(data.end(), it.begin(), it.end());
     offsets.push_back(static_cast<Offset>(data.size()));
   }
-  wkb::bytes row(std::size_t i) const {
-    return wkb::bytes(data).subspan(static_cast<std::size_t>(offsets[i]),
-                                    static_cast<std::size_t>(offsets[i + 1] - offsets[i]));
-  }
   wkb_column column(const void *bits = nullptr, std::size_t begin = 0) const {
     return wkb::column(data, std::span<const Offset>(offsets), bits, begin);
   }

@@ -1,10 +1,11 @@
 // Tries wkb.hpp over the inputs of test/lasting.rows: each call beside wkb.h, which test/lasting.c compares with the
-// file's answers, and columns of them, with null rows and bad offsets, beside the calls for one row. It is compiled
-// without exceptions. It prints nothing, and an error if there is one.
+// file's answers, and columns of them, with null rows and bad offsets, whose rows come back from their levels. It is
+// compiled without exceptions. It prints nothing, and an error if there is one.
 #include "hpp.h"
 
 #include <algorithm>
 #include <fstream>
+#include <tuple>
 
 namespace {
 
@@ -42,15 +43,14 @@ void writes(wkb::bytes in, const wkb_options &options) {
   std::size_t size = 0;
   wkb_fault fault = UNTOLD;
   const wkb_status status = wkb_write(in.data(), in.size(), &options, wanted.data(), wanted.size(), &size, nullptr);
-  wanted.resize(size);
   const wkb_fault refusal = {0, 0, 0, 0, 0, status}, no_room = {0, 0, 0, 0, 0, WKB_STATUS_NO_ROOM};
-  if (status != WKB_STATUS_OK) {
-    expect(!wkb::try_write(in, options, out, &fault) && is_same(fault, refusal) && out == before, "unknown options");
-    return;
-  }
-  expect(wkb::try_write(in, options, out, &fault) && out == wanted, "try_write");
-  expect(wkb::try_write(in, options, std::span(room), &fault) == size, "try_write into a span");
-  expect(std::equal(wanted.begin(), wanted.end(), room.begin()) && is_same(fault, UNTOLD), "what it writes there");
+  const bool is_good = status == WKB_STATUS_OK;
+  const auto written = wkb::try_write(in, options, std::span(room));
+  expect(written.has_value() == is_good && written.value_or(0) == size && room == wanted, "try_write into a span");
+  wanted.resize(size);
+  expect(wkb::try_write(in, options, out, &fault) == is_good && out == (is_good ? wanted : before), "try_write");
+  expect(is_same(fault, is_good ? UNTOLD : refusal), "the fault of unknown options");
+  if (!is_good) return;
   expect(wkb::try_same(in, out, &fault) == true && is_same(fault, UNTOLD), "the same value");
   const auto less = wkb::try_write(in, options, std::span(room).first(size - 1), &fault);
   expect(!less && is_same(fault, no_room), "room for all bytes but one");
@@ -75,11 +75,13 @@ void copies(wkb::bytes in, const wkb::part &part) {
 // Goes over a part and its own, from an entry on, by all calls. Returns the entry behind them.
 const wkb_part *walked(wkb::bytes in, const wkb::part &part, const wkb_part *entry) {
   const wkb_part &e = *entry++;
-  expect(is_same(part.entry(), e) && part.kind() == e.kind && part.dimension() == e.dimension, "what a part is");
-  expect(part.order() == e.order && part.width() == e.width && part.size() == e.count, "its numbers");
-  expect(part.empty() == (e.count == 0) && part.has_coordinates() == (e.kind <= WKB_KIND_LINE_STRING), "what it has");
-  expect(part.srid() == (e.has_srid ? std::optional(e.srid) : std::nullopt), "its SRID");
-  expect(part.encoding().data() == in.data() + e.begin && part.encoding().size() == e.end - e.begin, "its bytes");
+  const auto srid = e.has_srid ? std::optional(e.srid) : std::nullopt;
+  expect(is_same(part.entry(), e) && part.encoding().data() == in.data() + e.begin, "where a part is");
+  expect(std::tuple(part.kind(), part.dimension(), part.order(), part.width(), part.size(), part.empty(), part.srid(),
+                    part.has_coordinates(), part.encoding().size()) ==
+             std::tuple(e.kind, e.dimension, e.order, e.width, e.count, e.count == 0, srid,
+                        e.kind <= WKB_KIND_LINE_STRING, e.end - e.begin),
+         "what a part is");
   if (part.has_coordinates()) {
     copies(in, part);
     expect(part.begin() == part.end(), "members of a part that has coordinates");
@@ -105,13 +107,6 @@ void reads(wkb::bytes in, std::size_t parts) {
   expect(are_same(kept.table(), wanted), "the table of a reader");
 }
 
-void compares(wkb::bytes a, wkb::bytes b) {
-  std::uint32_t equal = 0;
-  const wkb_status status = wkb_same(a.data(), a.size(), b.data(), b.size(), &equal, nullptr, nullptr);
-  const auto same = wkb::try_same(a, b);
-  expect(same == (status == WKB_STATUS_OK ? std::optional(equal != 0) : std::nullopt), "a comparison");
-}
-
 void is_one(wkb::bytes in) {
   wkb_found found{};
   wkb_fault fault = UNTOLD, told = UNTOLD;
@@ -127,36 +122,32 @@ void is_one(wkb::bytes in) {
   reads(in, found.parts);
 }
 
-// Each row of a column has what the calls for one have found, and none else has anything.
-template <typename Offset>
-void are_rows(const filled<Offset> &of, const wkb_column &column, const wkb::statuses &wanted) {
-  const wkb_options options{static_cast<wkb_order>(below(2)), static_cast<wkb_form>(below(4)), 4326}, unknown{2, 0, 0};
-  const auto found = wkb::found_of_rows(column);
-  const auto bounds = wkb::bounds_of_rows(column);
+// Items, ends and statuses of rows are those that a call of wkb.h puts into room for one more.
+template <typename Item>
+void are_put(const auto &it, const std::vector<Item> &items, const char *what, auto put) {
+  std::vector<Item> room(items.size() + 1);
+  std::vector<std::uint64_t> ends(it.statuses.size());
+  wkb::statuses statuses(ends.size());
+  room.resize(put(room.data(), room.size(), ends.data(), statuses.data()));
+  expect(are_same(items, room) && it.ends == ends && it.statuses == statuses, what);
+}
+
+// Each call for a column beside that of wkb.h.
+void are_rows(const wkb_column &column, const wkb_options &options) {
+  wkb::row_found found{wkb::statuses(column.rows), std::vector<wkb_found>(column.rows)};
+  wkb::row_bounds bounds{found.statuses, std::vector<wkb_box>(column.rows)};
+  wkb_column_found(&column, found.found.data(), found.statuses.data());
+  wkb_column_bounds(&column, bounds.boxes.data(), bounds.statuses.data());
+  const auto own = wkb::found_of_rows(column);
+  const auto own_bounds = wkb::bounds_of_rows(column);
+  expect(are_same(own.found, found.found) && own.statuses == found.statuses, "what is found of rows");
+  expect(are_same(own_bounds.boxes, bounds.boxes) && own_bounds.statuses == bounds.statuses, "bounds of rows");
+  expect(wkb::check_rows(column) == found.statuses, "statuses of rows");
   const auto listed = wkb::parts_of_rows(column);
-  const auto written = wkb::write_rows(column, options), none = wkb::write_rows(column, unknown);
-  const auto is_all = [&](const wkb::statuses &it) { return it == wanted; };
-  expect(is_all(wkb::check_rows(column)) && is_all(found.statuses) && is_all(bounds.statuses), "statuses");
-  expect(is_all(listed.statuses) && is_all(written.statuses) && none.data.empty(), "statuses of what is written");
-  wkb::reader reader;
-  input out;
-  std::size_t part = 0, byte = 0;
-  for (std::size_t i = 0; i < column.rows; i++) {
-    wkb_box box = wkb::facts_of_rows({}).box;
-    wkb_found one{};
-    if (wanted[i] == WKB_STATUS_OK) {
-      const wkb::bytes row = of.row(i);
-      one = *wkb::check(row), box = *wkb::try_bounds(row);
-      const auto parts = std::span(listed.parts).subspan(part, one.parts);
-      expect(reader.try_read(row) && are_same(reader.table(), parts), "parts_of_rows");
-      const auto bytes = std::span(written.data).subspan(byte, wkb::try_write(row, options, out) ? out.size() : 0);
-      expect(are_same(out, bytes), "write_rows");
-      part += parts.size(), byte += bytes.size();
-    }
-    expect(is_same(found.found[i], one) && is_same(bounds.boxes[i], box), "what is found, and bounds");
-    expect(listed.ends[i] == part && written.ends[i] == byte, "ends");
-  }
-  expect(listed.parts.size() == part && written.data.size() == byte, "all that there is");
+  are_put(listed, listed.parts, "parts of rows", [&](auto... out) { return wkb_column_parts(&column, out...); });
+  const auto written = wkb::write_rows(column, options);
+  are_put(written, written.data, "rows that are written",
+          [&](auto... out) { return wkb_column_write(&column, &options, out...); });
 }
 
 // Also of an unknown kind and dimension.
@@ -174,43 +165,33 @@ void collects(const wkb_column &column, wkb_kind kind, wkb_dim dimension, const 
 }
 
 // The rows of a kind come back from their levels, whatever NaNs an empty point has.
-template <typename Offset>
-void comes_back(const filled<Offset> &of, const wkb_column &column, const wkb::row_found &found, wkb_dim dimension,
-                const wkb_options &options) {
+void comes_back(wkb_column column, wkb_dim dimension, const wkb_options &options) {
   const auto it = wkb::coordinates_of_rows(column, dimension);
+  const auto found = wkb::found_of_rows(column);
   expect(it.statuses == found.statuses, "statuses of coordinates");
   for (wkb_kind kind = WKB_KIND_POINT; kind < WKB_KIND_GEOMETRY_COLLECTION; kind++) {
     std::vector<std::uint8_t> bits(column.rows / 8 + 2);
-    const auto is_own = [&](std::size_t row) {
-      return found.found[row].kind == kind && found.found[row].dimension == dimension;
-    };
-    for (std::size_t row = 0; row < column.rows; row++)
-      if (is_own(row)) bits[(row + 3) / 8] = static_cast<std::uint8_t>(bits[(row + 3) / 8] | 1u << (row + 3) % 8);
+    for (std::size_t row = 0, bit = 3; row < column.rows; row++, bit++)
+      if (found.found[row].kind == kind && found.found[row].dimension == dimension)
+        bits[bit / 8] = static_cast<std::uint8_t>(bits[bit / 8] | 1u << bit % 8);
+    column.validity = bits.data(), column.validity_offset = 3;
     const wkb::levels from{it.words, it.ring_ends, it.single_ends, it.row_ends, bits.data(), 3};
     const auto written = wkb::rows_from_coordinates(from, kind, dimension, options);
-    std::size_t begin = 0;
-    input out, own;
-    for (std::size_t row = 0; row < column.rows; begin = written.ends[row++]) {
-      const auto bytes = wkb::bytes(written.data).subspan(begin, written.ends[row] - begin);
-      expect(written.statuses[row] == (is_own(row) ? WKB_STATUS_OK : WKB_STATUS_NULL_ROW), "which rows come back");
-      if (!is_own(row)) expect(bytes.empty(), "a row that is null");
-      else expect(wkb::try_write(bytes, BIG, out) && wkb::try_write(of.row(row), BIG, own) && out == own, "a row");
-    }
-    expect(begin == written.data.size() && wkb::rows_from_coordinates(from, kind, dimension, {2, 0, 0}).data.empty(),
-           "all that comes back");
+    std::vector<std::int64_t> offsets(1);
+    offsets.insert(offsets.end(), written.ends.begin(), written.ends.end());
+    const wkb_column back = wkb::column(written.data, std::span<const std::int64_t>(offsets), bits.data(), 3);
+    const auto ours = wkb::write_rows(back, BIG), wanted = wkb::write_rows(column, BIG);
+    expect(written.statuses == wanted.statuses && ours.statuses == wanted.statuses, "which rows come back");
+    expect(ours.ends == wanted.ends && ours.data == wanted.data, "rows that come back");
+    expect(wkb::rows_from_coordinates(from, kind, dimension, {2, 0, 0}).data.empty(), "unknown options");
   }
 }
 
-template <typename Offset>
-void is_column(filled<Offset> &of) {
-  const wkb_column column = of.spoiled();
+void is_column(const wkb_column &column) {
   const wkb_options options{static_cast<wkb_order>(below(2)), static_cast<wkb_form>(below(4)), 4326};
   const wkb_options known_or_not{static_cast<wkb_order>(below(3)), static_cast<wkb_form>(below(5)), 4326};
-  wkb::statuses wanted(column.rows);
-  wkb_column_check(&column, wanted.data());
-  are_rows(of, column, wanted);
-  for (wkb_dim dimension = WKB_DIM_XY; dimension <= WKB_DIM_XYZM; dimension++)
-    comes_back(of, column, wkb::found_of_rows(column), dimension, options);
+  are_rows(column, options), are_rows(column, known_or_not);
+  for (wkb_dim dimension = WKB_DIM_XY; dimension <= WKB_DIM_XYZM; dimension++) comes_back(column, dimension, options);
   for (std::size_t rows = 0; rows < column.rows; rows += 1 + rows) {
     wkb_column some = column;
     some.rows = rows;
@@ -224,7 +205,7 @@ void as_columns(const std::vector<input> &rows) {
   for (std::size_t i = 0; i < rows.size(); i += ROWS) {
     filled<Offset> it;
     for (std::size_t row = i; row < std::min(i + ROWS, rows.size()); row++) it.add(rows[row]);
-    is_column(it);
+    is_column(it.spoiled());
   }
 }
 
@@ -236,10 +217,7 @@ int main() {
   for (std::string line; std::getline(file, line);)
     if (!line.starts_with('#')) rows.push_back(spelled(line.substr(0, line.find(' '))));
   expect(rows.size() > 1000, "the rows");
-  for (std::size_t i = 0; i < rows.size(); i++) {
-    is_one(rows[i]);
-    compares(rows[i], rows[below(i + 1)]);
-  }
+  for (const input &it : rows) is_one(it);
   as_columns<std::int32_t>(rows);
   as_columns<std::int64_t>(rows);
 }
