@@ -2,6 +2,7 @@
 import array
 import struct
 
+import porchsorrel_wkb as wkb
 from porchsorrel_wkb import Status
 
 try:
@@ -65,3 +66,12 @@ def changed(record, **values):
 def slices(count):
     """The first item and the length of each slice of so many items."""
     return [(first, length) for first in range(count + 1) for length in range(count + 1 - first)]
+
+
+def calls(data, column, levels):
+    """The calls over an input, a column, and the coordinates of points."""
+    return (lambda: wkb.check(data), lambda: wkb.bounds(data), lambda: wkb.write(data), lambda: wkb.parts(data),
+            lambda: wkb.same(data, data), lambda: wkb.same(POINT, data), lambda: wkb.same(data, POINT), column.check,
+            column.bounds, column.parts, column.write, column.coordinates,
+            lambda: wkb.collect(column, wkb.Kind.MULTI_POINT),
+            lambda: wkb.column_from_coordinates(wkb.Kind.POINT, levels))

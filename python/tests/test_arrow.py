@@ -298,9 +298,12 @@ class FromArrow(unittest.TestCase):
             for offset, length in slices(17):
                 source = make(offset, length)
                 column = Column.from_arrow(source)
-                self.assertEqual(statuses(column), expected[offset : offset + length])
-                self.assertEqual(len(column.write().offsets), length + 1)
+                again = pickle.loads(pickle.dumps(column))
+                self.assertEqual([statuses(column), statuses(again)], 2 * [expected[offset : offset + length]])
+                self.assertEqual(again.write(), column.write())
                 self.assertEqual(source.released[:1], ["schema"])
+        # What is pickled is the bytes, the offsets and the bits of its own rows.
+        self.assertLess(len(pickle.dumps(Column.from_arrow(Arrow(b"Z", 500 * [POINT, None], 900, 10)))), 1000)
         source = Views(rows[:8], 3)
         bits = memory_of(source.memory[0][:1])  # eight rows need no more
         source.array.buffers[0] = ctypes.addressof(bits)
@@ -339,18 +342,6 @@ class FromArrow(unittest.TestCase):
         del second
         gc.collect()
         self.assertEqual((source.released, statuses(again)), (["schema", "array"], STATUSES[2:]))
-
-    def test_pickled_slices(self):
-        """A slice is pickled with the bytes, the offsets and the bits of its own rows."""
-        rows = [POINT, None, b"\2", POLYGON] * 250
-        self.assertGreater(len(pickle.dumps(Column.from_arrow(Arrow(b"Z", rows)))), 20_000)
-        for kind, first, length in itertools.product((b"z", b"Z"), range(0, 1000, 90), (0, 1, 10)):
-            column = Column.from_arrow(Arrow(kind, rows, first, length))
-            pickled = pickle.dumps(column)
-            self.assertLess(len(pickled), 1000)
-            again = pickle.loads(pickled)
-            self.assertEqual(statuses(again), statuses(column))
-            self.assertEqual(bytes(again.write().data), bytes(column.write().data))
 
     def test_hostile_offsets(self):
         """Offsets that fall or are negative. No byte past the last one is read, and what is pickled has these rows."""

@@ -177,35 +177,25 @@ class Released(unittest.TestCase):
             rename(capsule, b"used")
 
     def test_moved(self):
-        """A consumer moves the structs, and releases them after the capsules' end, from any thread."""
-        capsules = Column.of([POINT]).write().__arrow_c_array__()
-        moved = [type(it).from_buffer_copy(it) for it in structs_of(capsules)]
-        for it in structs_of(capsules):
-            it.release = None
-        del capsules
-        gc.collect()
-        others = [Column.of([EMPTY_POINT]).write().__arrow_c_array__() for _ in range(9)]  # in memory that is free
-        self.assertEqual((items_of(*moved), len(others)), ([POINT], 9))
-        for it in moved:
-            release = ctypes.CFUNCTYPE(None, ctypes.c_void_p)(it.release)
-            thread = threading.Thread(target=release, args=(ctypes.addressof(it),))
-            thread.start()
-            thread.join()
-            self.assertIsNone(it.release)
-
-    def test_moved_child(self):
-        """A child that is moved lives on when its parent is released."""
-        levels = Column.of([ISO_POLYGON]).coordinates()
-        capsules = levels.__arrow_c_array__()
-        inner = [child_of(it) for it in structs_of(capsules)]
-        moved = [type(it).from_buffer_copy(it) for it in inner]
-        for it in inner:
-            it.release = None
-        del capsules, inner, levels
-        gc.collect()
-        self.assertEqual(items_of(*moved, False), [[[1.0, 2.0]]])
-        for it in moved:
-            ctypes.CFUNCTYPE(None, ctypes.c_void_p)(it.release)(ctypes.addressof(it))
+        """A consumer moves structs, or children of theirs, and releases them after the end of their capsules, from any
+        thread."""
+        for source, depth, expected in ((Column.of([POINT]).write(), 0, [POINT]),
+                                        (Column.of([ISO_POLYGON]).coordinates(), 1, [[[1.0, 2.0]]])):
+            capsules = source.__arrow_c_array__()
+            inner = [child_of(it) if depth else it for it in structs_of(capsules)]
+            moved = [type(it).from_buffer_copy(it) for it in inner]
+            for it in inner:
+                it.release = None
+            del capsules, inner, source
+            gc.collect()
+            others = [Column.of([EMPTY_POINT]).write().__arrow_c_array__() for _ in range(9)]  # in memory that is free
+            self.assertEqual((items_of(*moved, not depth), len(others)), (expected, 9))
+            for it in moved:
+                release = ctypes.CFUNCTYPE(None, ctypes.c_void_p)(it.release)
+                thread = threading.Thread(target=release, args=(ctypes.addressof(it),))
+                thread.start()
+                thread.join()
+                self.assertIsNone(it.release)
 
 
 def part(code, *parts):
@@ -265,10 +255,13 @@ class FromGeoArrow(unittest.TestCase):
         validity = memory_of(sum(1 << i for i in range(17) if i % 3).to_bytes(3, "little"))
         points = [part(1, *pairs(*words[2 * i : 2 * i + 2])) for i in range(17)]
         lines = [part(2, pairs(*words[2 * a : 2 * b])) for a, b in zip(ends, ends[1:])]
-        for kind, levels, form, rows in ((Kind.POINT, [], b"", points), (Kind.LINE_STRING, [ends], b"+l", lines),
-                                         (Kind.LINE_STRING, [ends], b"+L", lines)):
+        together, apart = ([words], ["xy"]), ([words[::2], words[1::2]], "xy")
+        for kind, levels, form, rows, numbers in (
+            (Kind.POINT, [], b"", points, together), (Kind.POINT, [], b"", points, apart),
+            (Kind.LINE_STRING, [ends], b"+l", lines, apart), (Kind.LINE_STRING, [ends], b"+L", lines, together),
+        ):
             for offset, length in slices(17):
-                source = Lists(levels, [words], offset=offset, length=length, form=form, null_count=-1)
+                source = Lists(levels, *numbers, offset=offset, length=length, form=form, null_count=-1)
                 source.array.buffers[0] = ctypes.addressof(validity)
                 expected = [rows[i] if i % 3 else None for i in range(offset, offset + length)]
                 self.assertEqual(list(column_from_coordinates(kind, source).rows), expected, (kind, offset, length))
@@ -285,14 +278,6 @@ class FromGeoArrow(unittest.TestCase):
             deep(it, 1).array.length = 2
             deep(it, depth).array.offset, deep(it, depth).array.length = offset, length
             self.assertEqual(list(column_from_coordinates(Kind.LINE_STRING, it).rows), [LINE])
-
-    def test_separate(self):
-        """Coordinates whose x, y, z and m are in arrays of their own."""
-        for code, names in enumerate(("xy", "xyz", "xym", "xyzm")):
-            words, count = [(1.0, 5.0), (2.0, 6.0), (3.0, 7.0), (4.0, 8.0)], len(names)
-            it = Lists([], words[:count], names, offset=1)
-            (row,) = column_from_coordinates(Kind.POINT, it, order=Order.BIG).rows
-            self.assertEqual(row, struct.pack(f">BI{count}d", 0, 1000 * code + 1, *range(5, 5 + count)))
 
     def test_nulls_inside(self):
         """Items inside rows may have validity, where it says that all are there."""

@@ -8,7 +8,7 @@ import struct
 import unittest
 
 import porchsorrel_wkb as wkb
-from samples import BIG_POINT, EMPTY_POINT, LINE, POINT, POINTS, POLYGON, changed, numpy, rows_of, values_of
+from samples import BIG_POINT, EMPTY_POINT, LINE, POINT, POINTS, POLYGON, calls, changed, numpy, rows_of, values_of
 from porchsorrel_wkb import Column, Dimension, Form, Kind, Order, Part, Refused, Status
 
 
@@ -22,15 +22,6 @@ class Calls(unittest.TestCase):
         self.assertEqual(repr(table).splitlines(), ["<table of 2 Part>", f"  {table[0]}", f"  {table[1]}"])
         for index in (2, -3):
             self.assertRaises(IndexError, lambda: table[index])
-
-    def test_other_formats(self):
-        """What is no WKB from its first byte on is named."""
-        for data, said in ((POINT.hex().encode(), "; this is hexadecimal text"), (b"POINT", "; this is text"),
-                           (b"GP\0\1" + bytes(4) + POINT, "; this is the blob of a GeoPackage"), (b"\2", "")):
-            with self.assertRaisesRegex(Refused, rf"\(part 0\){said}$") as raised:
-                wkb.check(data)
-            self.assertEqual(raised.exception.text, wkb.status_text(Status.INVALID_BYTE_ORDER))
-            self.assertEqual(str(pickle.loads(pickle.dumps(raised.exception))), str(raised.exception))
 
     def test_coordinates(self):
         for data in (POINT, BIG_POINT, LINE):  # what the check has found of one is enough
@@ -105,18 +96,20 @@ class Calls(unittest.TestCase):
         self.assertEqual(str(raised.exception), f"the second input: {text}, at byte 0 (part 0); this is text")
 
     def test_refused(self):
+        """The status, and what is said behind its text; what is no WKB from its first byte on is named."""
+        other, code, where = Status.INVALID_BYTE_ORDER, Status.CODE_OUT_OF_RANGE, ", at byte 0 (part 0)"
         for data, status, end in (
-            (POLYGON[:-1], Status.SHORT_LINEAR_RING, "at byte 13 (part 1): it needs 20 bytes and has 19"),
-            (b"\1\21\0\0\0", Status.CODE_OUT_OF_RANGE,
-             "unknown geometry type code 17, a triangle, which this library does not read, at byte 0 (part 0)"),
-            (b"\1\22\0\0\0", Status.CODE_OUT_OF_RANGE, "code 18, at byte 0 (part 0)"),
-            (b"\2", Status.INVALID_BYTE_ORDER, "at byte 0 (part 0)"),
+            (POLYGON[:-1], Status.SHORT_LINEAR_RING, ", at byte 13 (part 1): it needs 20 bytes and has 19"),
+            (b"\1\21\0\0\0", code, f" 17, a triangle, which this library does not read{where}"),
+            (b"\1\22\0\0\0", code, f" 18{where}"), (b"\2", other, where), (b"POINT", other, f"{where}; this is text"),
+            (POINT.hex().encode(), other, f"{where}; this is hexadecimal text"),
+            (b"GP\0\1" + bytes(4) + POINT, other, f"{where}; this is the blob of a GeoPackage"),
         ):
             with self.assertRaises(Refused) as raised:
                 wkb.check(data)
-            refused, text = raised.exception, str(raised.exception)
-            self.assertEqual((refused.status, refused.fault.status, refused.which), (status, status, 1))
-            self.assertTrue(text.startswith(wkb.status_text(status)) and text.endswith(end), text)
+            it, text = raised.exception, wkb.status_text(status)
+            self.assertEqual((it.status, it.fault.status, it.which, it.text), (status, status, 1, text))
+            self.assertEqual([str(it), str(pickle.loads(pickle.dumps(it)))], 2 * [text + end])
 
     def test_texts(self):
         self.assertEqual(".".join(map(str, wkb.version())), wkb.__version__)
@@ -205,40 +198,25 @@ class Records(unittest.TestCase):
             self.assertRaises(TypeError, type(record))
 
 
-def column_of(data):
-    return Column(data, array.array("q", [0, len(data)]))
-
-
 class Buffers(unittest.TestCase):
-    CALLS = (
-        wkb.check,
-        wkb.bounds,
-        wkb.write,
-        lambda data: wkb.same(data, data),
-        wkb.parts,
-        lambda data: wkb.coordinates(data, wkb.parts(data)[0]),
-        lambda data: column_of(data).check(),
-        lambda data: column_of(data).bounds(),
-        lambda data: column_of(data).parts(),
-        lambda data: column_of(data).write(),
-        lambda data: column_of(data).coordinates(),
-        lambda data: Column(data, b"\0" * 7, offset_size=4),
-        lambda data: Column(b"", bytes(16), data, first=10**6, offset_size=8),
-        lambda data: Column(data, data[:16], data, offset_size=8).check(),
-    )
-
     def test_nothing_is_exported(self):
         gc.disable()
         self.addCleanup(gc.enable)
-        for call in self.CALLS:
-            for start in (POINT, POINT[:-1]):
-                data, kept = bytearray(start), None
-                try:
-                    result = call(data)
-                except ValueError as error:
-                    kept = error  # and with it the frames of the call
-                data.append(1)
-                del kept
+        of = lambda data: (
+            *calls(data, Column(data, array.array("q", [0, len(data)])), array.array("d", [1, 2])),
+            lambda: wkb.coordinates(data, wkb.parts(data)[0]),
+            lambda: Column(data, b"\0" * 7, offset_size=4),
+            lambda: Column(b"", bytes(16), data, first=10**6, offset_size=8),
+            lambda: Column(data, data[:16], data, offset_size=8).check(),
+        )
+        for start, number in itertools.product((POINT, POINT[:-1]), range(len(of(POINT)))):
+            data, kept = bytearray(start), None
+            try:
+                result = of(data)[number]()
+            except ValueError as error:
+                kept = error  # and with it the frames of the call
+            data.append(1)
+            del kept
         del result
 
     def test_lists(self):

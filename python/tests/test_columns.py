@@ -153,12 +153,13 @@ class Taken(unittest.TestCase):
 
     def test_no_rows(self):
         for offsets in (array.array("q"), array.array("q", [0]), array.array("i"), array.array("i", [5])):
-            column = Column(b"", offsets)
-            self.assertEqual((len(column), len(column.check())), (0, 0))
-            self.assertEqual([len(it) for it in column.bounds()], [0, 0])
-            self.assertEqual([len(it) for it in column.parts()], [0, 1, 0])
-            self.assertEqual([len(it) for it in column.write()], [0, 1, 0])
-            self.assertEqual([len(it) for it in column.coordinates()], [0, 1, 1, 1, 0])
+            column = Column(POINT, offsets, b"\0")
+            results = (column.check(),), column.bounds(), column.parts(), column.write(), column.coordinates()
+            lengths = [[0], [0, 0], [0, 1, 0], [0, 1, 0], [0, 1, 1, 1, 0]]
+            self.assertEqual([len(column), *([*map(len, it)] for it in results)], [0, *lengths])
+            for kind in (Kind.MULTI_POINT, Kind.GEOMETRY_COLLECTION):
+                found = check(collect(column, kind, Dimension.XYZM))
+                self.assertEqual((found.kind, found.dimension, found.count), (kind, Dimension.XYZM, 0))
 
     def test_texts(self):
         """Errors in offsets or in a slice are reported."""
@@ -297,12 +298,6 @@ class Collected(unittest.TestCase):
         line = collect(Column.of([LINE]), Kind.MULTI_LINE_STRING, Dimension.XYZ)
         self.assertEqual(line, bytes.fromhex("01ed03000001000000") + LINE)
         self.assertEqual(type(line), bytes)
-
-    def test_no_rows(self):
-        for column in (Column(b"", array.array("q")), Column(POINT, array.array("i", [21]), b"\0")):
-            for kind in (Kind.MULTI_POINT, Kind.GEOMETRY_COLLECTION):
-                found = check(collect(column, kind, Dimension.XYZM))
-                self.assertEqual((found.kind, found.dimension, found.count), (kind, Dimension.XYZM, 0))
 
     def test_long(self):
         count = 100_000

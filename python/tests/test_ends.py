@@ -1,5 +1,5 @@
-"""What is held when a process ends, when no interpreter is left, and in sub-interpreters: each in a process of its own, in
-Python's development mode."""
+"""What is held when a process ends, when no interpreter is left, and in sub-interpreters: each in a process of its own,
+in Python's development mode."""
 import itertools
 import os
 import subprocess
@@ -25,7 +25,7 @@ HOLDERS = {
               "layer = Layer(of=[c.write().__arrow_c_array__(), wkb.Column.from_arrow(c.write())]); del c",
 }
 
-# An array that was handed out and moved is released at the very end, by a function of C's, when no interpreter is there.
+# An array that was handed out and moved is released at the very end, by a function of C's, without an interpreter.
 LATE = """
 import ctypes
 c = ctypes.CDLL(None)
@@ -58,7 +58,7 @@ class Processes(unittest.TestCase):
         programs = {**HOLDERS, "late": LATE, "again": AGAIN}
         without = "import sys; sys.modules['numpy'] = None\n"
         for before, (name, code) in itertools.product(("", without), programs.items()):
+            ran = subprocess.run([sys.executable, "-c", before + BEGIN + code], env=ENVIRONMENT, stderr=subprocess.PIPE,
+                                 timeout=20)  # the first that waits for ever ends the test
             with self.subTest(name, before=before):
-                ran = subprocess.run([sys.executable, "-c", before + BEGIN + code], env=ENVIRONMENT,
-                                     stderr=subprocess.PIPE, timeout=120)
                 self.assertEqual((ran.returncode, ran.stderr.decode()), (0, ""))

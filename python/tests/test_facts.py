@@ -33,19 +33,15 @@ class Together(unittest.TestCase):
         self.assertEqual(facts.types, [(Kind.POINT, Dimension.XY), (Kind.POLYGON, Dimension.XY),
                                        (Kind.LINE_STRING, Dimension.XYZ), (Kind.POINT, Dimension.XYZM)])
         # Points of (1, 2) three times, the polygon's, and (1, 2, 3), (5, NaN, -7) of the line.
-        self.assertEqual(facts.box.x, Range(1.0, 5.0, 6))
-        self.assertEqual(facts.box.y, Range(2.0, 2.0, 5))
-        self.assertEqual(facts.box.z, Range(-7.0, 3.0, 3))
-        self.assertEqual(facts.box.m, Range(4.0, 4.0, 1))
-
-    def test_bad_offsets(self):
-        """A row with bad offsets is neither accepted nor refused."""
-        facts = Column(POINT + b"\2", array.array("q", [0, 21, 0, 21, 22])).facts()
-        self.assertEqual((facts.rows, facts.accepted, facts.nulls, facts.refused), (4, 1, 0, 1))
+        box = wkb.Box(Range(1.0, 5.0, 6), Range(2.0, 2.0, 5), Range(-7.0, 3.0, 3), Range(4.0, 4.0, 1))
+        self.assertEqual(facts.box, box)
 
     def test_none(self):
-        for rows in ([], [None], [b""]):
-            facts = Column.of(rows).facts()
+        """Rows of which none is accepted; one with bad offsets is not refused."""
+        for column, counts in ((Column.of([]), (0, 0, 0, 0)), (Column.of([None]), (1, 0, 1, 0)),
+                               (Column(b"\2", array.array("q", [0, 1, 0])), (2, 0, 0, 1))):
+            facts = column.facts()
+            self.assertEqual((facts.rows, facts.accepted, facts.nulls, facts.refused), counts)
             self.assertEqual((facts.types, facts.srids, facts.box), ([], set(), wkb.Box(NONE, NONE, NONE, NONE)))
 
     def test_joined(self):

@@ -5,8 +5,8 @@ import threading
 import unittest
 
 import porchsorrel_wkb as wkb
-from samples import POINT
-from porchsorrel_wkb import Column, Kind, collect, column_from_coordinates
+from samples import POINT, calls
+from porchsorrel_wkb import Column
 
 COUNT = 100_000
 # A collection of points, whose parts are read one by one.
@@ -44,17 +44,9 @@ def order_of(call, times):
     return happened
 
 
-def calls(data, column, levels):
-    """The calls over a long input, a column, and the coordinates of points."""
-    return (lambda: wkb.check(data), lambda: wkb.bounds(data), lambda: wkb.write(data), lambda: wkb.same(LONG, data),
-            lambda: wkb.same(data, LONG), lambda: wkb.parts(data), column.check, column.bounds, column.parts,
-            column.write, column.coordinates, lambda: collect(column, Kind.MULTI_POINT),
-            lambda: column_from_coordinates(Kind.POINT, levels))
-
-
 class Lock(unittest.TestCase):
     def test_given_back(self):
-        for call in (*calls(LONG, COLUMN, LEVELS), lambda: wkb.same(POINT, LONG)):
+        for call in calls(LONG, COLUMN, LEVELS):
             self.assertEqual(order_of(call, 1_000), ["begin", "meanwhile", "end"])
 
     def test_kept_over_what_may_change(self):

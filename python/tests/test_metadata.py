@@ -11,7 +11,7 @@ import unittest
 from capsules import Arrow, Lists, Records, Stream, Views
 from porchsorrel_wkb import Column, Dimension, Form, Kind, column_from_coordinates
 from samples import EMPTY_POINT, LINE, POINT, ROWS, geometry
-from test_arrow_out import asked_for, extension_of, items_of, numbers_at, read, structs_of, texts_of
+from test_arrow_out import asked_for, child_of, extension_of, items_of, numbers_at, read, structs_of, texts_of
 
 CRS = b'{"crs": "EPSG:3857", "edges": "spherical"}'
 
@@ -113,8 +113,8 @@ class Coordinates(unittest.TestCase):
         schema, it = structs_of(capsules)
         self.assertEqual(items_of(schema, it), [nested(kind, (1.0, 2.0, 3.0, 4.0)[: dimension.width])])
         while schema.format != b"+s":
-            schema = type(schema).from_address(schema.children[0])
-        leaves = [type(schema).from_address(schema.children[i]) for i in range(schema.n_children)]
+            schema = child_of(schema)
+        leaves = [child_of(schema, i) for i in range(schema.n_children)]
         self.assertEqual([(leaf.format.decode(), leaf.name.decode()) for leaf in leaves],
                          [("g", axis) for axis in dimension.name.lower()])
 
@@ -135,8 +135,7 @@ class Coordinates(unittest.TestCase):
         levels = Column.of([POINT, None, b"\2"]).coordinates()
         capsules = levels.__arrow_c_array__()
         schema, it = structs_of(capsules)
-        words = type(it).from_address(it.children[0])
-        numbers = numbers_at(words.buffers[1], "d", words.length)
+        numbers = numbers_at(child_of(it).buffers[1], "d", child_of(it).length)
         self.assertEqual((schema.format, *map(str, numbers)), (b"+w:2", "1.0", "2.0", "nan", "nan", "nan", "nan"))
         capsules = levels.separated().__arrow_c_array__()
         self.assertEqual(items_of(*structs_of(capsules)), [(1.0, 2.0), None, None])
@@ -150,26 +149,17 @@ class Coordinates(unittest.TestCase):
 
 
 class Boxes(unittest.TestCase):
-    def boxes(self, rows):
-        capsules = Column.of(rows).bounds().__arrow_c_array__()
-        schema, it = structs_of(capsules)
-        self.assertEqual(extension_of(schema), "geoarrow.box")
-        names = [type(schema).from_address(schema.children[i]).name.decode() for i in range(schema.n_children)]
-        return names, items_of(schema, it)
-
     def test_axes(self):
-        ends = ["xmin", "ymin", "xmax", "ymax"]
-        self.assertEqual(self.boxes([POINT, None, b"\2"]), (ends, [(1.0, 2.0, 1.0, 2.0), None, None]))
-        names, (box,) = self.boxes([LINE])
-        self.assertEqual(names, ["xmin", "ymin", "zmin", "xmax", "ymax", "zmax"])
-        self.assertEqual(box, (1.0, 2.0, -7.0, 5.0, 2.0, 3.0))
-        names, (box,) = self.boxes([geometry(1, 2)])
-        self.assertEqual((names, box), (["xmin", "ymin", "mmin", "xmax", "ymax", "mmax"], (1.0, 2.0, 3.0) * 2))
-        names, boxes = self.boxes([geometry(1, 3), POINT])
-        self.assertEqual(names, [axis + end for end in ("min", "max") for axis in "xyzm"])
-        flat = 1.0, 2.0, math.inf, math.inf, 1.0, 2.0, -math.inf, -math.inf
-        self.assertEqual(boxes, [(1.0, 2.0, 3.0, 4.0) * 2, flat])
-
-    def test_without_coordinates(self):
-        self.assertEqual(self.boxes([EMPTY_POINT])[1], [(math.inf, math.inf, -math.inf, -math.inf)])
-        self.assertEqual(self.boxes([]), (["xmin", "ymin", "xmax", "ymax"], []))
+        """The axes are those of any row, and a box without coordinates has infinities."""
+        none, less = math.inf, -math.inf
+        for rows, axes, expected in (
+            ([], "xy", []), ([EMPTY_POINT], "xy", [(none, none, less, less)]),
+            ([POINT, None, b"\2"], "xy", [(1.0, 2.0, 1.0, 2.0), None, None]),
+            ([LINE], "xyz", [(1.0, 2.0, -7.0, 5.0, 2.0, 3.0)]), ([geometry(1, 2)], "xym", [(1.0, 2.0, 3.0) * 2]),
+            ([geometry(1, 3), POINT], "xyzm", [(1.0, 2.0, 3.0, 4.0) * 2, (1.0, 2.0, none, none, 1.0, 2.0, less, less)]),
+        ):
+            capsules = Column.of(rows).bounds().__arrow_c_array__()
+            schema, it = structs_of(capsules)
+            names = [child_of(schema, i).name.decode() for i in range(schema.n_children)]
+            self.assertEqual(names, [axis + end for end in ("min", "max") for axis in axes])
+            self.assertEqual((items_of(schema, it), extension_of(schema)), (expected, "geoarrow.box"))
