@@ -28,7 +28,8 @@ class Of(unittest.TestCase):
         self.assertEqual(bytes(column.write().data), POINT + ISO_POLYGON)
 
     def test_lists(self):
-        for rows in (ROWS, tuple(ROWS), iter(ROWS), (it for it in ROWS), dict(enumerate(ROWS)).values()):
+        geometries = type("Geometries", (), {"to_wkb": lambda _: iter(ROWS)})()  # as geopandas has them
+        for rows in (ROWS, tuple(ROWS), iter(ROWS), (it for it in ROWS), dict(enumerate(ROWS)).values(), geometries):
             self.is_right(rows)
         twice = bytes(byte for byte in POINT for _ in range(2))
         self.is_right([memoryview(twice)[::2], None, array.array("d"), bytearray(POLYGON), memoryview(b"\2")])
@@ -49,14 +50,6 @@ class Of(unittest.TestCase):
         for whole in (POINT, bytearray(POINT), memoryview(POINT), "text"):
             self.assertRaisesRegex(TypeError, "this is one", Column.of, whole)
         self.assertRaises(TypeError, Column.of, 5)
-
-    def test_to_wkb(self):
-        """A column of geopandas, as far as it's used."""
-        class Geometries:
-            def to_wkb(self):
-                return iter(ROWS)
-
-        self.is_right(Geometries())
 
     @unittest.skipUnless(pandas and numpy, "pandas or numpy is not here")
     def test_pandas(self):
@@ -227,10 +220,6 @@ def offsets(*numbers):
     return array.array("q", numbers)
 
 
-def words(*numbers):
-    return struct.pack(f"<{len(numbers)}d", *numbers)
-
-
 class Levels(unittest.TestCase):
     """What rows are written from."""
 
@@ -242,7 +231,7 @@ class Levels(unittest.TestCase):
                 self.assertEqual((len(it.statuses), list(it.offsets), len(it.data)), (0, [0], 0))
 
     def test_coordinates(self):
-        raw = words(1, 2)
+        raw = POINT[5:]
         for taken in [
             doubles(1, 2), memoryview(raw).cast("d"), (ctypes.c_double * 2)(1, 2),
             *(memoryview(bytes(i) + raw)[i:].cast("d") for i in range(1, 8)),
@@ -261,11 +250,11 @@ class Levels(unittest.TestCase):
             (ValueError, "3 numbers are not 2 for each", (1, doubles(1, 2, 3)), {}),
             (TypeError, "format 'f' are not 64-bit floats", (1, array.array("f", numbers)), {}),
             (TypeError, "format 'B' are not 64-bit floats", (1, bytes(16)), {}),
-            (ValueError, r"shape \(1, 2\) have not 3 numbers", (1, memoryview(words(1, 2)).cast("d", (1, 2))),
+            (ValueError, r"shape \(1, 2\) have not 3 numbers", (1, memoryview(POINT[5:]).cast("d", (1, 2))),
              {"dimension": Dimension.XYZ}),
             (TypeError, "format 'q' are not 64-bit floats", (1, offsets(1, 2)), {}),
             (ValueError, r"shape \(1, 1, 2\) have not 2 numbers",
-             (1, memoryview(words(1, 2)).cast("d", (1, 1, 2))), {}),
+             (1, memoryview(POINT[5:]).cast("d", (1, 1, 2))), {}),
             (ValueError, "begin with 0, and not with 1", (2, numbers, offsets(1, 1)), {}),
             (ValueError, "begin with 0, and not with 2", (2, numbers, offsets(2)), {}),
             (ValueError, "7 bytes are after the last offset", (2, numbers, bytes(23)), {"offset_size": 8}),
