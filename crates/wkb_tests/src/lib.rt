@@ -17,7 +17,6 @@ mod cases;
 mod clones;
 #[cfg(test)]
 mod each_kind;
-#[cfg(test)]
 mod equality;
 #[cfg(test)]
 mod failures;
