@@ -11,12 +11,11 @@ const AXES = ['', ...DIMENSIONS];
 export function bytesOf(text) {
   const bare = String(text).trim().replace(/^["']|["']$/g, '').replace(/^(\\\\?x|0x|x')/i, '').replace(/\s+/g, '');
   if (/^[0-9a-f]*$/i.test(bare)) return fromHex(bare);
-  // Its first byte is an order, or the G of a GeoPackage.
-  if (/^(A[AQ]|R1)[\w+/-]*={0,2}$/.test(bare)) {
-    try {
-      return Uint8Array.from(atob(bare.replace(/-/g, '+').replace(/_/g, '/')), (it) => it.charCodeAt(0));
-    } catch { /* It is told below. */ }
-  }
+  // The first byte of base64 is an order, or the G of a GeoPackage.
+  try {
+    const bytes = Uint8Array.from(atob(bare.replace(/-/g, '+').replace(/_/g, '/')), (it) => it.charCodeAt(0));
+    if ([0, 1, 0x47].includes(bytes[0])) return bytes;
+  } catch { /* It is told below. */ }
   const wrong = bare.search(/[^0-9a-f]/i);
   throw new SyntaxError(`neither hex nor base64: hex has no "${bare[wrong]}", the digit ${wrong + 1}`);
 }

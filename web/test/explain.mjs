@@ -44,7 +44,9 @@ test('each byte of each row', () => {
 test('texts', () => {
   for (const it of [POINT, `\\x${POINT}`, `\\\\x${POINT}`, `0x${POINT}`, `x'${POINT}'`, ` "${POINT.toUpperCase()}"\r\n`,
     'AQEAAAAAAAAAAADwPwAAAAAAAPC_', 'AQEAAAAA\nAAAAAADwPwAAAAAAAABA']) assert.equal(bytesOf(it).length, 21);
-  for (const it of ['g', '0', 'POINT (1 2)', '<b>']) assert.throws(() => bytesOf(it));
+  const blob = `4750000100000000${POINT}`;
+  assert.deepEqual(bytesOf(Buffer.from(blob, 'hex').toString('base64')), bytesOf(blob));
+  for (const it of ['g', '0', 'Ag==', 'POINT (1 2)', '<b>']) assert.throws(() => bytesOf(it));
   assert.deepEqual(inputsOf(`${POINT}\n\n${POINT}\n`), [POINT, POINT]);
   for (const it of [POINT, `47500000ffffffff${POINT}`]) {
     assert.deepEqual(inputsOf(`${it.slice(0, 20)}\n${it.slice(20)}`), [it]);
