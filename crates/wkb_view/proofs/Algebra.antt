@@ -4,7 +4,6 @@ use Rattle.wkb_view.proofs.Prelude.{◌+◌, ◌≤◌, ℕ, suc, List, [], ◌�
 use Rattle.std.proofs.Common.{add_assoc}
 use Rattle.wkb_geom.specs.Reading.{◌⊕◌}
 use Rattle.wkb_view.specs.Prelude.{Cost}
-use Rattle.wkb_view.specs.Outcome.{AtMost}
 
 pub cost_is : (a b : Cost) → a.turns ≡ b.turns → a.slots ≡ b.slots → a ≡ b
 cost_is a b t s = rw (t, s) refl
@@ -53,14 +52,6 @@ repeated_none part bytes end = done_then [] bytes end
 pub turn_begins : {A : Type 0} (old new : Counts) (r : Reading A) → new ≡ next_turn old
     → costs (cost_of new) r ≡ costs (cost_of old) (costs one_turn r)
 turn_begins old new r turn = grind (arith, cost_is, costs-costs)
-
-module _ {A : Type 0} (r whole : Reading A) (old mid new : Counts)
-    (leads : costs (cost_of mid) r ≡ costs (cost_of old) whole) where
-  pub spent_in_all : Spent mid new r.0 → Spent old new whole.0
-  spent_in_all h = grind arith
-
-  pub at_most_in_all : AtMost mid new r.0 → AtMost old new whole.0
-  at_most_in_all h = grind arith
 
 -- all is read
 pub all_read : {A : Type 0} (x : A) (rest : List ℕ) (whole : Reading A) (old new : Counts)

@@ -136,10 +136,6 @@ module _ {A : Type 0} {n : ℕ} {l : Layout} {part : List ℕ → Reading A} {en
   pub list_fits : CanCount old whole.0 → CanCount mid parts.0
   list_fits = part_counted parts made whole old mid h.leads
 
-  -- the entries of its parts are among those of the whole
-  pub list_costs : parts.0.slots ≤ whole.0.slots
-  list_costs = omega (arith, (part_within parts made whole old mid h.leads).1)
-
   -- a list whose parts are read
   pub list_reads : (new : Counts) (xs : List A) (rest : List ℕ) → parts.1 ≡ Ok (xs, rest) → Spent mid new parts.0
       → (whole.1 ≡ Ok (end xs (consumed bytes rest), rest)) × Spent old new whole.0
