@@ -2,7 +2,7 @@
 
 A load that fails gives the reason, the connection goes on, the next load succeeds, and all memory is freed. Calls that
 lack memory are an error, and give no other answer. Names that begin with ST_ are defined by their own entry point
-alone, and any of them can be defined for one argument later, also while a statement is open.
+alone.
 
     python3 load_test.py EXTENSION
 """
@@ -16,7 +16,6 @@ import sqlite3
 
 limit, used = SQLITE.sqlite3_hard_heap_limit64, SQLITE.sqlite3_memory_used
 limit.argtypes, used.restype = [ctypes.c_int64], ctypes.c_int64
-TRIGGER_NAMES = ["ST_IsEmpty", "ST_MinX", "ST_MaxX", "ST_MinY", "ST_MaxY"]
 # Each kind of call, over a point p, a byte b that is no geometry, and, with a GeoPackage's header, a point e of EWKB and
 # a collection g of a point.
 CALLS = """select wkb_well_formed(g) and wkb_fault(b) is not null and wkb_fault(g) is null and wkb_fault(e) is not null
@@ -99,29 +98,12 @@ def under_a_statement(name, count):
     go_on(connection, before, len(text) + 64)
 
 
-def before_another(name):
-    """Another extension is loaded by a query, so that a statement is open while it makes its function."""
-    connection = opened()
-    load(connection)
-    query = f"select {name}(x'0101000000000000000000f03f0000000000000040') is null"
-    assert connection.execute(query).fetchone() == (0,), name
-    statement = connection.execute("select 1 union all select 2")
-    statement.fetchone()
-    connection.execute("select load_extension(?, 'sqlite3_wkbst_init')", sys.argv[1:]).fetchone()
-    connection.create_function(name, 1, lambda _: None)
-    statement.close()
-    assert connection.execute(f"{query} ").fetchone() == (1,), name  # another text, so that it is prepared anew
-    connection.close()
-
-
 def main():
     connection = opened()
     connection.load_extension(sys.argv[1])
     names = [name for (name,) in connection.execute("select distinct name from pragma_function_list")]
     assert "wkb_kind" in names and not [it for it in names if it.startswith("st_")], "the default entry point"
     connection.close()
-    for name in TRIGGER_NAMES:
-        before_another(name)
     for name, count in (("wkb_same", 2), ("wkb_well_formed", 1), ("wkb_mmax", 1)):
         under_a_statement(name, count)
     loads, calls = without_memory(load_by_query), without_memory(answer, load)
