@@ -1,10 +1,9 @@
 #!/usr/bin/env python3
 """The crates as the Rattle kit's command `rt` knows them, for scripts that call the prover over the libraries built.
 
-    tools/kit.py archive NAME FILE [TOOLCHAIN TARGET CPU KEPT [BACKEND]]
-                                       proves crates/NAME, a static library, and builds it into FILE
+    tools/kit.py archive NAME FILE KEPT [BACKEND]
+                                       proves crates/NAME, a static library, and builds it into FILE, for Linux on x86-64
     tools/kit.py program NAME FILE     proves crates/NAME, a program, and builds it into FILE
-    tools/kit.py built NAME            prints the libraries below crates/NAME that are built
     tools/kit.py take                  takes the libraries that `rt ci` has proved of these sources on this machine
 
 A library is built if the checksum beside it, the kit's own `stamp`, is that of its sources and of those below it.
@@ -14,9 +13,8 @@ checksum beside it, with which `rt check` and the scripts begin; and the program
 takes what `rt ci` left in this folder.
 
 `archive` and `program` first prove and build each library below the crate that is not built, and those above it; as
-many in parallel as RT_JOBS says. TOOLCHAIN stands for the kit's folder of that name; TARGET and CPU are a target and a
-processor of its prover's `build`. Proofs for one target are kept in the folder KEPT for the next. BACKEND is llvm, or
-rattle, which is the kit's own compiler.
+many in parallel as RT_JOBS says. The proofs are kept in the folder KEPT for the next call. BACKEND is llvm, or rattle,
+which is the kit's own compiler.
 
 The command is a program and no library, so another kit may have other names inside. BORROWED lists each name that is
 used here, and if a name is missing the script exits with status 2 before it tries anything.
@@ -138,16 +136,14 @@ def prove(verb, crate, flags, folder):
     return subprocess.run([*rt.rtlib.guarded(), rt.rtlib.RATTLE, verb, *words], **how)
 
 
-def archive(name, file, *build):
+def archive(name, file, kept, backend="llvm"):
     """Prove a static library, and build it into the file. Return the status."""
     begin()
     library = crate(name)
     if not prove_below([library]):
         return 1
-    words = ("--toolchain", "--target", "--cpu", "--incremental", "--backend")
-    given = dict(zip(words, build or (f"{rt.KIT}/toolchain", "x86_64-unknown-linux-gnu", "x86-64")))
-    given.setdefault("--backend", "llvm")
-    flags = ["--jobs", str(min(4, processors())), *(it for pair in given.items() for it in pair)]
+    flags = ["--jobs", str(min(4, processors())), "--toolchain", f"{rt.KIT}/toolchain", "--target"]
+    flags += ["x86_64-unknown-linux-gnu", "--cpu", "x86-64", "--incremental", kept, "--backend", backend]
     ran = prove("build", library, [*flags, "-o", os.path.abspath(file)], library.folder)
     print(ran.stdout, end="")
     return ran.returncode
@@ -259,14 +255,8 @@ def program(name, file):
     return 0
 
 
-def built(name):
-    """Print the libraries below a crate that are built."""
-    print(*sorted(built_below(crate(name))))
-    return 0
-
-
 if __name__ == "__main__":
-    verbs = {"built": (built, 3), "archive": (archive, 4, 8, 9), "program": (program, 4), "take": (take, 2)}
+    verbs = {"archive": (archive, 5, 6), "program": (program, 4), "take": (take, 2)}
     verb, *lengths = verbs.get("".join(sys.argv[1:2]), (None,))
     if len(sys.argv) not in lengths:
         stop(__doc__)
