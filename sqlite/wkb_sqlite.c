@@ -63,12 +63,6 @@ typedef struct input {
   const char *fault;       /* what is wrong with the blob before any WKB, or NULL */
 } input;
 
-static uint32_t number_at(const uint8_t *bytes, bool is_little) {
-  uint32_t number = 0;
-  for (int i = 0; i < 4; i++) number = number << 8 | bytes[is_little ? 3 - i : i];
-  return number;
-}
-
 static bool has_null(int n, sqlite3_value **values) {
   for (int i = 0; i < n; i++)
     if (sqlite3_value_type(values[i]) == SQLITE_NULL) return true;
@@ -95,41 +89,16 @@ static bool has_geometry(const input *in, wkb_found *found) {
   return in->fault == NULL && wkb_check(in->data, in->size, found, NULL) == WKB_STATUS_OK;
 }
 
-/* A walk over the geometries of an accepted input in preorder, without memory: members follow the geometry that
- * has them, so it is enough to count those that are still to come. */
-typedef struct walk {
-  const uint8_t *at; /* the geometry that is next */
-  uint64_t part;     /* the parts before it */
-  uint64_t to_come;  /* the geometries from it on */
-} walk;
-
-/* Goes past the head of a geometry with a code of ISO, and past its coordinates or rings. */
-static void go_on(walk *it) {
-  static const size_t SIZES[] = {16, 24, 24, 32};
-  bool is_little = it->at[0] == WKB_ORDER_LITTLE;
-  uint32_t code = number_at(it->at + 1, is_little), kind = code % 1000;
-  size_t size = SIZES[code / 1000];
-  it->at += 5, it->part++, it->to_come--;
-  if (kind == WKB_KIND_POINT) {
-    it->at += size;
-    return;
-  }
-  uint32_t count = number_at(it->at, is_little);
-  it->at += 4;
-  if (kind == WKB_KIND_LINE_STRING) {
-    it->at += size * count;
-  } else if (kind == WKB_KIND_POLYGON) {
-    for (it->part += count; count > 0; count--) it->at += 4 + size * number_at(it->at, is_little);
-  } else {
-    it->to_come += count;
-  }
-}
-
 /* Whether a code in the geometry of a GeoPackage has one of EWKB's flags; the first part that has one is WHERE. */
-static bool has_ewkb(const input *in, wkb_fault *where) {
-  for (walk it = {in->data, 0, in->header.size > 0}; it.to_come > 0; go_on(&it)) {
-    where->part = it.part, where->offset = (uint64_t)(it.at - in->data);
-    if (number_at(it.at + 1, it.at[0] == WKB_ORDER_LITTLE) & 0xe0000000) return true;
+static bool has_ewkb(const input *in, const wkb_found *found, wkb_fault *where) {
+  wkb_part part = {0};
+  if (in->header.size == 0) return false;
+  for (where->part = 0; where->part < found->parts; where->part++) {
+    wkb_next_part(in->data, in->size, &part);
+    where->offset = part.begin;
+    if (part.kind == WKB_KIND_RING) continue;
+    uint8_t highest = in->data[part.begin + (part.order == WKB_ORDER_LITTLE ? 4 : 1)];
+    if (highest & 0xe0) return true;
   }
   return false;
 }
@@ -140,7 +109,7 @@ static void well_formed(sqlite3_context *context, int n, sqlite3_value **values)
   if (has_null(n, values)) return;
   input in = input_of(values[0]);
   bool is_whole = has_geometry(&in, &found) && found.size == in.size;
-  sqlite3_result_int(context, is_whole && !has_ewkb(&in, &where));
+  sqlite3_result_int(context, is_whole && !has_ewkb(&in, &found, &where));
 }
 
 /* Returns why the input has no geometry, as a text to be freed. Its offset is counted from the start of the blob. */
@@ -167,7 +136,7 @@ static void fault(sqlite3_context *context, int n, sqlite3_value **values) {
   input in = input_of(values[0]);
   if (in.fault != NULL || wkb_check(in.data, in.size, &found, &where) != WKB_STATUS_OK) {
     text = refusal_of(&in, &where);
-  } else if (has_ewkb(&in, &where)) {
+  } else if (has_ewkb(&in, &found, &where)) {
     char ewkb[WKB_FAULT_TEXT_ROOM];
     tell_ewkb(&in, &where, ewkb);
     text = sqlite3_mprintf("%s", ewkb);
@@ -193,7 +162,7 @@ static void append_refusal(sqlite3_str *text, const input *in) {
   wkb_found found;
   wkb_fault where;
   char ewkb[WKB_FAULT_TEXT_ROOM];
-  if (!has_geometry(in, &found) || !has_ewkb(in, &where)) return;
+  if (!has_geometry(in, &found) || !has_ewkb(in, &found, &where)) return;
   tell_ewkb(in, &where, ewkb);
   sqlite3_str_appendf(text, "%10srefused: %s\n", "", ewkb);
 }
