@@ -5,7 +5,6 @@ import sys
 import unittest
 
 sys.path.insert(0, str(pathlib.Path(__file__).resolve().parents[1] / "tools"))
-import library
 import pages
 
 # How the reason begins of a test that the machine has no program for; a script prints `left out: PART, since WHY`.
@@ -22,8 +21,8 @@ def need(*programs):
 def need_built(goal):
     """Make a goal of c/Makefile; skip the test if the machine lacks a program for it."""
     try:
-        library.build(goal)
-    except library.Absent as why:
+        pages.build(goal)
+    except pages.Absent as why:
         raise unittest.SkipTest(str(why))
 
 

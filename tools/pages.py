@@ -1,9 +1,11 @@
 """Shared code of the scripts that check pages and sources."""
 import functools
+import os
 import pathlib
 import re
 import shutil
 import subprocess
+import sys
 
 ROOT = pathlib.Path(__file__).resolve().parent.parent
 # What a build makes, and what a checkout keeps beside its files.
@@ -128,3 +130,16 @@ def copy_files(to):
         copy = to / file.relative_to(ROOT)
         copy.parent.mkdir(parents=True, exist_ok=True)
         shutil.copy2(file, copy)
+
+
+class Absent(Exception):
+    """Why the C library can't be built."""
+
+
+def build(goal):
+    """Make a goal of c/Makefile."""
+    compiler = os.environ.get("CC", "cc")
+    for tool in (compiler, "make", "objcopy"):
+        if not shutil.which(tool):
+            raise Absent(f"there is no {tool}")
+    subprocess.run(["make", "-s", "-C", ROOT / "c", f"CC={compiler}", f"PYTHON={sys.executable}", goal], check=True)
