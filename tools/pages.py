@@ -133,7 +133,7 @@ def copy_files(to):
 
 
 class Absent(Exception):
-    """Why the C library can't be built."""
+    """Why the C library can't be built, or another program not be tried."""
 
 
 def build(goal):
