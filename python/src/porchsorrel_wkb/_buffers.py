@@ -2,6 +2,8 @@
 """Callers' buffers, and memory for results."""
 import array
 import builtins
+import operator
+import sys
 from typing import TYPE_CHECKING, Any, Dict, List, Optional, Tuple, Union
 
 from ._library import Call, address_of
@@ -35,6 +37,10 @@ else:
 
 # The numbers of results by their types in numpy, and as the modules array and struct have them.
 CODES = {"u1": "B", "u4": "I", "i4": "i", "i8": "q", "f8": "d"}
+# The formats of bytes.
+BYTES = "B", "b", "c"
+# The bytes of a number of the library's: a double, or an end.
+WORD_SIZE = 8
 # An input is long from so many bytes on: the lock is given back during a call over it.
 LONG = 1 << 14
 
@@ -75,6 +81,41 @@ def flat(view: memoryview) -> memoryview:
     return view.cast("B") if view.nbytes else memoryview(b"")
 
 
+def code_of(view: memoryview) -> str:
+    """Return the format of a buffer without the sign for the machine's own byte order."""
+    native = "@=" + ("<" if sys.byteorder == "little" else ">")
+    return view.format[1:] if view.format[:1] in native else view.format
+
+
+def size_of_offsets(offsets: Buffer, given: Optional[int]) -> Tuple[int, int]:
+    """Return the bytes of an offset, as given for raw bytes, else by the format of the buffer; and how many these are.
+    """
+    with view_of(offsets) as view:
+        code, size = code_of(view), view.itemsize
+        if view.ndim != 1:
+            raise TypeError(f"offsets have one dimension, and not {view.ndim}")
+        if code in BYTES:
+            if given not in (4, 8):
+                raise TypeError(f"offsets in raw bytes need offset_size=4 or offset_size=8, and not {given}")
+            size = operator.index(given)
+        elif size not in {"i": (4,), "l": (4, 8), "q": (8,), "L": (8,), "Q": (8,)}.get(code, ()):
+            raise TypeError(f"offsets of format {view.format!r} are not 32-bit or 64-bit numbers of this machine")
+        elif given not in (None, size):
+            raise TypeError(f"offsets of format {view.format!r} have {size} bytes: no offset_size={given}")
+        count, rest = divmod(view.nbytes, size)
+    if rest:
+        raise ValueError(f"{rest} bytes are after the last offset")
+    return size, count
+
+
+def check_bits(validity: Optional[Buffer]) -> None:
+    """Raise an error if the buffer isn't bytes. Each call tests how long it is."""
+    if validity is not None:
+        with view_of(validity) as view:
+            if code_of(view) not in BYTES:
+                raise TypeError(f"validity of format {view.format!r} is not bits in bytes")
+
+
 class Inputs:
     """Callers' buffers, which are held while a `with` lasts, so that none gets another length or place."""
 
@@ -105,7 +146,7 @@ class Inputs:
         return address_of(view), view.nbytes
 
     def bits(self, validity: Any, count: int) -> Optional[int]:
-        """Return where a validity bitmap of so many rows is; None if there is none. It may have got shorter since."""
+        """Return where a validity bitmap of so many rows is; None if there is none."""
         if validity is None:
             return None
         place, size = self.place(validity)
@@ -116,7 +157,7 @@ class Inputs:
     def aligned(self, data: Any) -> memoryview:
         """Return numbers of eight bytes; a copy of their bytes where they are at another place."""
         view = self.view(data)
-        return self.hold(memoryview(view.tobytes())) if address_of(view) % 8 else view
+        return self.hold(memoryview(view.tobytes())) if address_of(view) % WORD_SIZE else view
 
     def choose(self, call: Call, size: int = LONG) -> Any:
         """Return the call that gives the lock back if the input is long, and no other thread may write it."""

@@ -5,11 +5,12 @@ import ctypes
 import operator
 import re
 import struct
-import sys
 from typing import Any, Dict, Iterable, Iterator, List, Optional, Tuple, Union
 
 from ._arrow import ArrowArray, ArrowStream, chunks_of_arrow, pieces_of_arrow
-from ._buffers import Buffer, Inputs, Numbers, flat, has_numpy, new_numbers, new_offsets, view_of
+from ._buffers import (
+    Buffer, Inputs, Numbers, check_bits, flat, has_numpy, new_numbers, new_offsets, size_of_offsets, view_of,
+)
 from ._calls import fault_of
 from ._enums import Dimension, Form, Kind, Order, Status, is_refusal, make_options
 from ._errors import Refused, expect_same
@@ -18,9 +19,7 @@ from ._library import (
     address_of, status_text, wkb_column, wkb_coordinates, wkb_options,
 )
 from ._records import STRUCTS, Box, Fault, Found, Part, Table, every, record_in
-from ._results import (
-    ColumnBounds, ColumnCoordinates, ColumnEncodings, ColumnFound, ColumnParts, Facts, box_of_all,
-)
+from ._results import ColumnBounds, ColumnCoordinates, ColumnEncodings, ColumnFound, ColumnParts, Facts, box_of_all
 from ._rows import Pieces, object_of, pieces_of
 
 # Which statuses of a column are refusals.
@@ -29,38 +28,6 @@ REFUSALS = re.compile(rb"[\x20-\xff]")
 SRID_SIZE = 4
 # What a collection has before its members, at most.
 FRONT_SIZE = 13
-
-
-def code_of(view: memoryview) -> str:
-    """Return the format of a buffer without the sign for the machine's own byte order."""
-    native = "@=" + ("<" if sys.byteorder == "little" else ">")
-    return view.format[1:] if view.format[:1] in native else view.format
-
-
-def size_of_offsets(offsets: Buffer, given: Optional[int]) -> int:
-    """Return the bytes of an offset: as given for raw bytes, else by the format of the buffer."""
-    with view_of(offsets) as view:
-        code = code_of(view)
-        if view.ndim != 1:
-            raise TypeError(f"offsets have one dimension, and not {view.ndim}")
-        if code in ("B", "b", "c"):
-            if given not in (4, 8):
-                raise TypeError(f"offsets in raw bytes need offset_size=4 or offset_size=8, and not {given}")
-            return operator.index(given)
-        if view.itemsize not in {"i": (4,), "l": (4, 8), "q": (8,), "L": (8,), "Q": (8,)}.get(code, ()):
-            raise TypeError(f"offsets of format {view.format!r} are not 32-bit or 64-bit numbers of this machine")
-        if given not in (None, view.itemsize):
-            raise TypeError(f"offsets of format {view.format!r} have {view.itemsize} bytes: no offset_size={given}")
-        return view.itemsize
-
-
-def check_validity(validity: Buffer, bits: int) -> None:
-    """Raise an error unless the buffer is bytes and has at least this many bits."""
-    with view_of(validity) as view:
-        if code_of(view) not in ("B", "b", "c"):
-            raise TypeError(f"validity of format {view.format!r} is not bits in bytes")
-        if 8 * view.nbytes < bits:
-            raise ValueError(f"{view.nbytes} bytes of validity hold fewer than {bits} bits")
 
 
 class Column:
@@ -87,11 +54,7 @@ class Column:
         offset_size: Optional[int] = None,
     ):
         self._data, self._offsets, self._validity = data, offsets, validity
-        self._offset_size = size_of_offsets(offsets, offset_size)
-        with view_of(offsets) as view:
-            held, rest = divmod(view.nbytes, self._offset_size)
-        if rest:
-            raise ValueError(f"{rest} bytes are after the last offset")
+        self._offset_size, held = size_of_offsets(offsets, offset_size)
         self._first, held_rows = operator.index(first), max(held - 1, 0)
         self._rows = max(held_rows - self._first, 0) if rows is None else operator.index(rows)
         if self._first < 0 or self._rows < 0:
@@ -100,9 +63,10 @@ class Column:
             raise ValueError(f"{held} offsets have {held_rows} rows: not {self._rows} from row {self._first} on")
         self._owner: Any = None
         self._metadata: Optional[bytes] = None
-        if validity is not None:
-            check_validity(validity, self._first + self._rows)
-        self._room()
+        check_bits(validity)
+        with Inputs() as inputs:
+            self._shown(inputs)
+            inputs.bits(validity, self._first + self._rows)
 
     @classmethod
     def of(cls, rows: Iterable[Optional[Buffer]]) -> "Column":
@@ -240,7 +204,7 @@ class Column:
         return statuses, Table(record, table)
 
     def _room(self) -> int:
-        """Return how many bytes the rows have at most. The buffers are tested, as each call tests them."""
+        """Return how many bytes the rows have at most."""
         with Inputs() as inputs:
             data, offsets = self._shown(inputs)
             return min(max(offsets[-1] - offsets[0], 0), data.nbytes)

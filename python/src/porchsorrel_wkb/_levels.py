@@ -5,61 +5,40 @@ import operator
 from typing import List, Optional, Tuple, Union
 
 from ._arrow import ArrowArray
-from ._buffers import Buffer, Inputs, new_numbers, new_offsets, numbers_of, view_of
-from ._columns import check_validity, code_of, size_of_offsets
+from ._buffers import (
+    WORD_SIZE, Buffer, Inputs, check_bits, code_of, new_numbers, new_offsets, numbers_of, size_of_offsets, view_of,
+)
 from ._enums import Dimension, Form, Kind, Order, make_options
 from ._errors import expect_same
 from ._geoarrow import Levels, levels_of_arrow
 from ._library import COLUMN_FROM_COORDINATES, address_of, wkb_levels, wkb_options
 from ._results import ColumnEncodings
 
-# The bytes of a word, and of an end as the library takes it.
-WORD_SIZE = 8
-
 
 def _level(offsets: Optional[Buffer], offset_size: Optional[int]) -> Optional[Buffer]:
     """Return the offsets of a level as ones of 64 bits."""
-    if offsets is None:
-        return None
-    size = size_of_offsets(offsets, offset_size)
-    with view_of(offsets) as view:
-        if view.nbytes % size:
-            raise ValueError(f"{view.nbytes % size} bytes are after the last offset")
-        return numbers_of("i8", memoryview(view.tobytes()).cast("i")) if size < WORD_SIZE else offsets
+    if offsets is None or size_of_offsets(offsets, offset_size)[0] == WORD_SIZE:
+        return offsets
+    return numbers_of("i8", memoryview(view_of(offsets).tobytes()).cast("i"))
 
 
-def _items(offsets: Optional[Buffer], below: int) -> int:
-    """Return how many items a level has over one with so many."""
-    if offsets is None:
-        return below
-    with view_of(offsets) as view:
-        return max(view.nbytes // WORD_SIZE - 1, 0)
-
-
-def _count(coordinates: Buffer, dimension: Dimension) -> int:
-    """Return how many coordinates there are, if they are such of this dimension."""
+def _check_words(coordinates: Buffer, dimension: Dimension) -> None:
+    """Raise an error unless the buffer has doubles, in rows of as many as the dimension has or one after another."""
     with view_of(coordinates) as view:
         if code_of(view) != "d":
             raise TypeError(f"coordinates of format {view.format!r} are not 64-bit floats of this machine")
         if view.ndim != 1 and (view.shape or ())[1:] != (dimension.width,):
             raise ValueError(f"coordinates of shape {view.shape} have not {dimension.width} numbers each")
-        count, rest = divmod(view.nbytes // WORD_SIZE, dimension.width)
-        if rest:
-            raise ValueError(f"{view.nbytes // WORD_SIZE} numbers are not {dimension.width} for each coordinate")
-    return count
 
 
 def _write(kind: Kind, options: Tuple[int, int, int], it: Levels) -> ColumnEncodings:
     """Return the encodings of rows in levels."""
-    rows = _count(it.coordinates, it.dimension)
-    for level in it.offsets:
-        rows = _items(level, rows)
-    if it.validity is not None:
-        check_validity(it.validity, it.first + rows)
-    statuses, offsets = new_numbers("u1", rows), new_offsets(rows)
-    ends = view_of(offsets)[1:], statuses
+    _check_words(it.coordinates, it.dimension)
+    check_bits(it.validity)
     with Inputs() as inputs:
-        levels, call = _place(inputs, it, rows), inputs.choose(COLUMN_FROM_COORDINATES)
+        levels, call = _place(inputs, it), inputs.choose(COLUMN_FROM_COORDINATES)
+        statuses, offsets = new_numbers("u1", levels.rows), new_offsets(levels.rows)
+        ends = view_of(offsets)[1:], statuses
         given = ctypes.byref(levels), kind, it.dimension, ctypes.byref(wkb_options(*options))
         size = call(*given, None, 0, *ends)
         data = new_numbers("u1", size)
@@ -68,11 +47,13 @@ def _write(kind: Kind, options: Tuple[int, int, int], it: Levels) -> ColumnEncod
     return ColumnEncodings._made(statuses, offsets, data, _form=int(options[1]), _metadata=it.metadata)
 
 
-def _place(inputs: Inputs, it: Levels, rows: int) -> wkb_levels:
-    """Return levels as the library takes them, while their buffers are held. They may have got shorter since."""
+def _place(inputs: Inputs, it: Levels) -> wkb_levels:
+    """Return levels as the library takes them, while their buffers are held."""
     words = inputs.aligned(it.coordinates)
     count = words.nbytes // WORD_SIZE
-    below = count // it.dimension.width
+    items, rest = divmod(count, it.dimension.width)
+    if rest:
+        raise ValueError(f"{count} numbers are not {it.dimension.width} for each coordinate")
     placed: List[Optional[int]] = [address_of(words), count]
     for offsets in it.offsets:
         ends = None
@@ -80,11 +61,9 @@ def _place(inputs: Inputs, it: Levels, rows: int) -> wkb_levels:
             numbers = inputs.hold(inputs.hold(inputs.aligned(offsets).cast("B")).cast("q"))
             if len(numbers) and numbers[0] != 0:
                 raise ValueError(f"the offsets of a level begin with 0, and not with {numbers[0]}")
-            ends, below = address_of(inputs.hold(numbers[1:])), max(len(numbers) - 1, 0)
-        placed += ends, below
-    if below != rows:
-        raise ValueError(f"{below} rows are left of {rows}")
-    return wkb_levels(*placed, inputs.bits(it.validity, it.first + rows), it.first)
+            ends, items = address_of(inputs.hold(numbers[1:])), max(len(numbers) - 1, 0)
+        placed += ends, items
+    return wkb_levels(*placed, inputs.bits(it.validity, it.first + items), it.first)
 
 
 def column_from_coordinates(
