@@ -49,6 +49,10 @@ class _Struct(ctypes.Structure):
     END: int
     owner: Any = None
 
+    def __del__(self) -> None:
+        """End the owner here, where no error is on its way: one would reach the release of a producer in Python."""
+        self.owner = None
+
     @classmethod
     def new(cls: Type[Struct]) -> Struct:
         """Return a struct of zeros in a capsule, which releases it at its end, unless it is so already."""
@@ -144,10 +148,24 @@ class Array(_Struct):
     _fields_ = [*((name, ctypes.c_int64) for name in ("length", "null_count", "offset", "n_buffers", "n_children")),
                 ("buffers", POINTERS), *_CHILDREN]
 
-    def buffer(self, place: int, size: int) -> Optional[memoryview]:
-        """Return so many bytes of a buffer, which are there as long as the array lives; None if there is none."""
-        at = self.buffers[place] if 0 <= place < self.n_buffers and self.buffers else None
-        return _show(at, size, _READ_ONLY) if at and 0 <= size <= sys.maxsize - at else None
+    def buffer(self, place: int, size: int) -> memoryview:
+        """Return so many bytes of a buffer of a checked array, which are there as long as the array lives."""
+        at = self.buffers[place] or 0
+        expect(size == 0 or at and 0 < size <= sys.maxsize - at, f"array lacks a buffer of {size} bytes")
+        memory: memoryview = _show(at, size, _READ_ONLY) if size else memoryview(b"")
+        return memory
+
+    def validity(self, first: int, count: int) -> Optional[memoryview]:
+        """Return the bits of some items, the first at bit `first % 8`; None if there is no validity."""
+        if not self.buffers[0]:
+            return None
+        return self.buffer(0, (first + count + 7) // 8)[first // 8 :]
+
+    def has_nulls(self, first: int, count: int) -> bool:
+        """Return whether some items are null."""
+        bits = self.validity(first, count) if self.null_count else None
+        mask = (1 << count) - 1
+        return bits is not None and int.from_bytes(bits, "little") >> first % 8 & mask != mask
 
 
 class Stream(_Struct):
@@ -165,8 +183,9 @@ OFFSET_SIZES = {b"z": 4, b"Z": 8, b"vz": 0}
 VIEW_SIZE, SHORT = 16, 12
 # Views number buffers by signed 32-bit integers, and Arrow's libraries do so with children.
 MOST_PARTS = 2**31 - 1
-# How many buffers an array has: validity; offsets and data; or views, any number of buffers, and their sizes.
-OF_RECORDS, OF_OFFSETS, OF_VIEWS = range(1, 2), range(3, 4), range(3, MOST_PARTS)
+# How many buffers an array has: validity; offsets or numbers, too; and data; or views, any number of buffers, and their
+# sizes.
+VALIDITY, WITH_ONE, WITH_TWO, OF_VIEWS = range(1, 2), range(2, 3), range(3, 4), range(3, MOST_PARTS)
 # The offsets or views of more rows are longer than any memory.
 MOST_ROWS = sys.maxsize // VIEW_SIZE - 1
 # An error shows so many names, and so many bytes of one.
@@ -205,18 +224,8 @@ def check_array(it: Array, children: int, buffers: range) -> None:
     expect(it.offset >= 0 and it.length >= 0 and it.offset + it.length <= MOST_ROWS,
             f"array can't have {it.length} rows from row {it.offset} on")
     expect(-1 <= it.null_count <= it.length, f"array can't have {it.null_count} null rows of {it.length}")
-    expect(it.null_count <= 0 or has_validity(it), "array has null rows, and no validity")
+    expect(it.null_count <= 0 or it.buffers[0], "array has null rows, and no validity")
     expect(not it.dictionary, "array has a dictionary, and its schema has none")
-
-
-def has_validity(it: Array) -> bool:
-    return it.buffer(0, 0) is not None
-
-
-def is_all_set(it: Array, first: int, count: int) -> bool:
-    """Return whether the bits of these items, in the validity that the array has, say that none is null."""
-    bits = int.from_bytes(borrowed(it, 0, (first + count + 7) // 8)[first // 8 :], "little")
-    return (bits >> first % 8) + 1 & (1 << count) - 1 == 0
 
 
 def _number_of(name: str, schema: Schema) -> int:
@@ -258,49 +267,37 @@ def _column_of(schema: Schema, name: Optional[str]) -> _Column:
     return _Column(number, schema.n_children, _offset_size_of(child), child.metadata())
 
 
-def borrowed(it: Array, place: int, size: int) -> memoryview:
-    """Return so many bytes of a buffer, which are there as long as the array's capsule lives."""
-    if size == 0:
-        return memoryview(b"")
-    memory = it.buffer(place, size) if 0 < size <= sys.maxsize else None
-    if memory is None:
-        raise ValueError(f"the Arrow array lacks a buffer of {size} bytes")
-    return memory
-
-
 def _pieces_in(it: Array, column: _Column) -> Pieces:
     """Return the memory of the column in an array, which the pieces keep."""
     first, rows, size = it.offset, it.length, column.offset_size
     if column.child is not None:
-        check_array(it, column.children, OF_RECORDS)
-        if it.null_count and has_validity(it) and not is_all_set(it, first, rows):
+        check_array(it, column.children, VALIDITY)
+        if it.has_nulls(first, rows):
             raise ValueError("records of the Arrow array are null as a whole")
         it = it.child(column.child)
         expect(first + rows <= it.length, f"array has records of which a column has {it.length} rows only")
         first += it.offset
-    check_array(it, 0, OF_OFFSETS if size else OF_VIEWS)
+    check_array(it, 0, WITH_TWO if size else OF_VIEWS)
     if size == 0:
         return pieces_of(_rows_in_views(it, first, rows))._replace(metadata=column.metadata)
     if rows == 0:
         return Pieces(b"", b"", None, offset_size=size, owner=it, metadata=column.metadata)
-    end = first + rows
-    ends = borrowed(it, 1, (end + 1) * size)
-    used = int.from_bytes(ends[-size:], sys.byteorder, signed=True)
-    bits = borrowed(it, 0, (end + 7) // 8) if has_validity(it) else None
-    return Pieces(borrowed(it, 2, max(used, 0)), ends, bits, first, rows, size, it, column.metadata)
+    ends = it.buffer(1, (first + rows + 1) * size)
+    data = it.buffer(2, max(int.from_bytes(ends[-size:], sys.byteorder, signed=True), 0))
+    return Pieces(data, ends, it.validity(0, first + rows), first, rows, size, it, column.metadata)
 
 
 def _rows_in_views(it: Array, first: int, rows: int) -> Iterator[Optional[bytes]]:
     """Yield copies of the rows of an array of binary views."""
     count = it.n_buffers - 3
-    sizes = struct.unpack(f"={count}q", borrowed(it, it.n_buffers - 1, 8 * count))
-    buffers = [borrowed(it, 2 + i, size) for i, size in enumerate(sizes)]
-    bits = bytes(borrowed(it, 0, (first + rows + 7) // 8)[first // 8 :]) if has_validity(it) else b""
-    held = bytes(borrowed(it, 1, VIEW_SIZE * (first + rows))[VIEW_SIZE * first :])
+    sizes = struct.unpack(f"={count}q", it.buffer(it.n_buffers - 1, 8 * count))
+    buffers = [it.buffer(2 + i, size) for i, size in enumerate(sizes)]
+    bits = it.validity(first, rows)
+    held = bytes(it.buffer(1, VIEW_SIZE * (first + rows))[VIEW_SIZE * first :])
     left = MOST_COPIES * (len(held) + sum(sizes))
     for i, (length, _, buffer, offset) in enumerate(struct.iter_unpack("=4i", held)):
         bit = first % 8 + i
-        if bits and not bits[bit // 8] >> bit % 8 & 1:
+        if bits is not None and not bits[bit // 8] >> bit % 8 & 1:
             yield None
         elif length <= SHORT:
             yield held[VIEW_SIZE * i + 4 : VIEW_SIZE * i + 4 + max(length, 0)]
@@ -340,6 +337,17 @@ def chunks_of_arrow(stream: ArrowStream, name: Optional[str]) -> Iterator[Pieces
     return _chunks(source, _column_of(_next(source, source.get_schema, Schema), name))
 
 
+def _chunks(stream: Stream, column: _Column) -> Iterator[Pieces]:
+    """Yield the arrays of a stream. None is kept while the next one is not asked for."""
+    yield from iter(lambda: _chunk(stream, column), None)
+
+
+def _chunk(stream: Stream, column: _Column) -> Optional[Pieces]:
+    """Return the next array of a stream; None at its end."""
+    array = _next(stream, stream.get_next, Array)
+    return _pieces_in(array, column) if array.release else None
+
+
 def _next(stream: Stream, function: Any, kind: Type[Struct]) -> Struct:
     """Return the next array of a stream, or its schema."""
     expect(function, "stream lacks a function")
@@ -351,15 +359,3 @@ def _next(stream: Stream, function: Any, kind: Type[Struct]) -> Struct:
     ctypes.memset(ctypes.addressof(it), 0, ctypes.sizeof(it))  # of a failure nothing else is said
     text = _TEXT(stream.get_last_error)(place) if stream.get_last_error else None
     raise OSError(code, (text or b"the Arrow stream failed").decode(errors="replace"))
-
-
-def _chunks(stream: Stream, column: _Column) -> Iterator[Pieces]:
-    """Yield the arrays of a stream."""
-    while True:
-        array = _next(stream, stream.get_next, Array)
-        if not array.release:
-            del stream, array  # which end here, and not under the exception that ends a generator
-            return
-        pieces = [_pieces_in(array, column)]
-        del array
-        yield pieces.pop()  # which nothing here keeps while the next array is not asked for

@@ -24,9 +24,10 @@ class Node(NamedTuple):
     form: bytes
     name: bytes
     rows: int
-    buffers: Tuple[Optional[memoryview], ...]
+    buffers: Tuple[memoryview, ...]  # those after the validity: offsets or doubles, and bytes
     children: Tuple[Any, ...] = ()
     metadata: Optional[bytes] = None
+    validity: Optional[bytes] = None
     nulls: int = 0
     flags: int = 0
 
@@ -91,36 +92,31 @@ def _put_schema(it: Schema, node: Node) -> None:
 
 def _put_array(it: Array, node: Node) -> None:
     """Make a struct of zeros the array of a node. What is copied is tested, since it is what a consumer trusts."""
-    count = len(node.buffers)
-    *places, buffers = _put(it, [*node.buffers, bytes(8 * count)], node)
+    count = 1 + len(node.buffers)
+    *places, buffers = _put(it, [node.validity, *node.buffers, bytes(8 * count)], node)
     it.buffers = ctypes.cast(buffers, POINTERS)
     for i, place in enumerate(places):
         it.buffers[i] = place
     it.length, it.null_count, it.n_buffers = node.rows, node.nulls, count
-    copies = [None if view is None else it.buffer(i, view.nbytes) for i, view in enumerate(node.buffers)]
-    if not _is_whole(node, copies):
+    if not _is_whole(node, [it.buffer(i, view.nbytes) for i, view in enumerate(node.buffers, 1)]):
         raise ValueError("these arrays don't fit together: one has another length, type or offsets than the call has "
                          "returned")
     for i, child in enumerate(node.children):
         _put_array(Array.from_address(it.children[i]), child)
 
 
-def _is_whole(node: Node, held: List[Optional[memoryview]]) -> bool:
-    """Return whether buffers and children are as long as the rows of a node need. Of the buffers the first has
-    validity, the second offsets or doubles, and the third bytes."""
+def _is_whole(node: Node, copies: List[memoryview]) -> bool:
+    """Return whether the copies of buffers, and the children, are as long as the rows of a node need."""
     items = min((it.rows for it in node.children), default=0)
-    if held[0] is not None and held[0].nbytes < (node.rows + 7) // 8:
-        return False
     code = CODES.get(node.form)
     if code is None:
         return node.rows <= items // (int(node.form[3:]) if node.form.startswith(b"+w:") else 1)
-    given, copied = node.buffers[1], held[1]
-    if given is None or copied is None or given.itemsize != struct.calcsize(code):
+    if node.buffers[0].itemsize != struct.calcsize(code):
         return False
-    numbers = copied.cast(code)
+    numbers = copies[0].cast(code)
     if code == "d":
         return len(numbers) >= node.rows
-    end = items if node.children else sum(it.nbytes for it in held[2:] if it is not None)
+    end = items if node.children else copies[1].nbytes
     return len(numbers) > node.rows and _are_offsets(numbers[: node.rows + 1], end)
 
 
@@ -131,19 +127,15 @@ def _are_offsets(numbers: memoryview, end: int) -> bool:
     return bool((numpy.diff(numbers) >= 0).all()) if has_numpy else all(map(operator.le, numbers, numbers[1:]))
 
 
-def wanted(requested_schema: Any) -> Optional[bytes]:
-    """Return the format that a consumer asks for."""
-    return None if requested_schema is None else Schema.in_capsule(requested_schema).format
-
-
-def wanted_inside(requested_schema: Any) -> Optional[bytes]:
-    """Return the format of the coordinates inside lists that a consumer asks for."""
-    if wanted(requested_schema) is None:
-        return None
+def wanted(requested_schema: Any) -> Tuple[Optional[bytes], Optional[bytes]]:
+    """Return the formats that a consumer asks for: that of the rows, and that of the coordinates inside lists."""
+    if requested_schema is None:
+        return None, None
     it = Schema.in_capsule(requested_schema)
+    form = it.format
     while it.format in (b"+l", b"+L") and it.n_children > 0:
         it = it.child(0)
-    return it.format
+    return form, it.format
 
 
 def metadata_of(extension: Optional[str], metadata: Optional[bytes]) -> Optional[bytes]:
@@ -159,9 +151,7 @@ def of_rows(statuses: Numbers, form: bytes, metadata: Optional[bytes], *buffers:
     """Return an array of rows, of which those with a status are null."""
     held = bytes(view_of(statuses))
     nulls = len(held) - held.count(0)
-    bits = bits_of(held)
-    validity = None if bits is None else memoryview(bits)
-    return Node(form, b"", len(held), (validity, *buffers), children, metadata, nulls, NULLABLE)
+    return Node(form, b"", len(held), buffers, children, metadata, bits_of(held), nulls, NULLABLE)
 
 
 def narrow(offsets: Numbers) -> memoryview:
@@ -178,9 +168,7 @@ def through(outer: Numbers, inner: Numbers) -> Numbers:
 def dimension_of(numbers: memoryview, expected: Dimension) -> Dimension:
     """Return the dimension of coordinates in rows: the one that is expected, unless others have taken its place."""
     width = expected.width if numbers.ndim == 1 else (numbers.shape or ())[1]
-    if expected.width == width:
-        return expected
-    for it in Dimension:
+    for it in [expected] + list(Dimension):
         if it.width == width:
             return it
     raise ValueError(f"a coordinate has two to four numbers, and not {width} numbers")
@@ -188,7 +176,7 @@ def dimension_of(numbers: memoryview, expected: Dimension) -> Dimension:
 
 def leaf(name: str, numbers: memoryview) -> Node:
     """Return an array of doubles."""
-    return Node(b"g", name.encode(), numbers.nbytes // 8, (None, numbers))
+    return Node(b"g", name.encode(), numbers.nbytes // 8, (numbers,))
 
 
 def coordinates_of(words: Numbers, expected: Dimension, is_separated: bool) -> Tuple[bytes, Tuple[Node, ...], int]:

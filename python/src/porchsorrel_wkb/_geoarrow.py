@@ -3,10 +3,8 @@
 import array
 from typing import Any, List, NamedTuple, Optional, Tuple
 
-from ._arrow import (
-    Array, Schema, borrowed, check_array, check_schema, expect, has_validity, is_all_set, taken,
-)
-from ._buffers import Buffer, has_numpy, new_numbers
+from ._arrow import VALIDITY, WITH_ONE, Array, Schema, check_array, check_schema, expect, taken
+from ._buffers import WORD_SIZE, Buffer, has_numpy, new_numbers
 from ._enums import Dimension, Kind
 
 # The level of each list of a kind, from the outermost on: 0 has the ends of rings, 1 of singles, 2 of rows.
@@ -16,9 +14,6 @@ LEVELS = {
 }
 # The bytes of an offset, by the formats of lists.
 LIST_SIZES = {b"+l": 4, b"+L": 8}
-# How many buffers an array has: validity; validity and offsets, or numbers.
-VALIDITY, WITH_ONE = range(1, 2), range(2, 3)
-WORD_SIZE = 8
 
 
 class Levels(NamedTuple):
@@ -48,8 +43,7 @@ def _check(it: _Window, children: int, buffers: range, depth: int) -> None:
     check_array(it.array, children, buffers)
     expect(it.schema.n_children == children and not it.schema.dictionary, "array has other children than its type")
     expect(it.first + it.rows <= it.array.offset + it.array.length, "array has fewer items than its lists say")
-    if depth and it.array.null_count and has_validity(it.array):
-        expect(is_all_set(it.array, it.first, it.rows), "array has items inside rows that are null")
+    expect(not depth or not it.array.has_nulls(it.first, it.rows), "array has items inside rows that are null")
 
 
 def _inner(it: _Window, number: int, first: int, count: int) -> _Window:
@@ -75,7 +69,7 @@ def _opened(it: _Window, depth: int) -> Tuple[Buffer, _Window]:
     if it.rows == 0:
         return _less(memoryview(bytes(8)).cast("q"), 0), _inner(it, 0, 0, 0)
     end = it.first + it.rows + 1
-    offsets = borrowed(it.array, 1, end * size).cast("i" if size == 4 else "q")[it.first :]
+    offsets = it.array.buffer(1, end * size).cast("i" if size == 4 else "q")[it.first :]
     least, most = offsets[0], offsets[-1]
     expect(0 <= least <= most, f"array has lists from item {least} to {most}")
     return _less(offsets, least), _inner(it, 0, least, most - least)
@@ -91,8 +85,7 @@ def _words(it: _Window, number: int, first: int, count: int) -> Any:
     if words.schema.format != b"g":
         raise TypeError(f"coordinates of format {_format(words)} are not 64-bit floats ('g')")
     _check(words, 0, WITH_ONE, 1)
-    held = borrowed(words.array, 1, WORD_SIZE * (words.first + count))
-    return held[WORD_SIZE * words.first :].cast("d")
+    return words.array.buffer(1, WORD_SIZE * (words.first + count)).cast("d")[words.first :]
 
 
 def _coordinates(it: _Window, depth: int) -> Tuple[Any, str]:
@@ -125,6 +118,6 @@ def levels_of_arrow(of: Any, kind: Kind) -> Levels:
     words, name = _coordinates(it, len(LEVELS[kind]))
     if name.upper() not in Dimension.__members__:
         raise TypeError(f"coordinates of {name!r} are not of xy, xyz, xym or xyzm")
-    validity = borrowed(top, 0, (top.offset + top.length + 7) // 8) if has_validity(top) else None
     held = offsets[0], offsets[1], offsets[2]
-    return Levels(words, held, validity, top.offset, Dimension[name.upper()], top, schema.metadata())
+    validity = top.validity(top.offset, top.length)
+    return Levels(words, held, validity, top.offset % 8, Dimension[name.upper()], top, schema.metadata())

@@ -12,9 +12,7 @@ from typing import (
 
 from ._buffers import Numbers, flat, many, numbers_of, view_of
 from ._enums import Dimension, Form, Kind
-from ._export import (
-    LISTS, NARROW, Node, coordinates_of, exported, leaf, metadata_of, narrow, of_rows, through, wanted, wanted_inside,
-)
+from ._export import LISTS, NARROW, Node, coordinates_of, exported, leaf, metadata_of, narrow, of_rows, through, wanted
 from ._records import STRUCTS, Box, Found, Part, Range, Table, every
 
 # Rows become bytes so many at a time.
@@ -44,18 +42,13 @@ class _Result:
         ours: Any = self
         theirs: Any = other
         return type(ours) is type(theirs) and all(
-            a == b if isinstance(a, Table) else _same(a, b) for a, b in zip(ours, theirs)
+            a == b if isinstance(a, Table) else bytes(view_of(a)) == bytes(view_of(b)) for a, b in zip(ours, theirs)
         )
 
     def __ne__(self, other: object) -> bool:
         return not self == other
 
     __hash__ = None  # type: ignore[assignment]
-
-
-def _same(ours: Numbers, theirs: Numbers) -> bool:
-    """Return whether two arrays have the same numbers, bit for bit."""
-    return bytes(view_of(ours)) == bytes(view_of(theirs))
 
 
 class _Bounds(NamedTuple):
@@ -229,7 +222,7 @@ class ColumnEncodings(_Result, _Encodings):  # type: ignore[misc]
 
     def __arrow_c_array__(self, requested_schema: Any = None) -> Tuple[Any, Any]:
         """Return the rows as an array of Arrow."""
-        is_narrow = wanted(requested_schema) == b"z" and self.offsets[-1] < NARROW
+        is_narrow = wanted(requested_schema)[0] == b"z" and self.offsets[-1] < NARROW
         form, offsets = (b"z", narrow(self.offsets)) if is_narrow else (b"Z", view_of(self.offsets))
         metadata = metadata_of("geoarrow.wkb" if self._form == Form.ISO else None, self._metadata)
         return exported(of_rows(self.statuses, form, metadata, offsets, view_of(self.data)))
@@ -284,20 +277,21 @@ class ColumnCoordinates(_Result, _Coordinates):  # type: ignore[misc]
         kind = self._kind if self._kind in (Kind.POINT, *LISTS) else None
         extension = None if kind is None else f"geoarrow.{kind.name.lower().replace('_', '')}"
         metadata = metadata_of(extension, self._metadata)
-        is_separated = self._is_separated or wanted_inside(requested_schema) == b"+s"
+        asked, inside = wanted(requested_schema)
+        is_separated = self._is_separated or inside == b"+s"
         if kind == Kind.POINT:
             words = self._one_for_each_row() if any(self.statuses) else self.coordinates
             form, leaves, _ = coordinates_of(words, self._dimension, is_separated)
             return exported(of_rows(self.statuses, form, metadata, children=leaves))
         lists = LISTS[kind or Kind.MULTI_POLYGON]
-        is_wide = wanted(requested_schema) == b"+L" or max(it[-1] for it in self[1:4]) >= NARROW
+        is_wide = asked == b"+L" or max(it[-1] for it in self[1:4]) >= NARROW
         form, leaves, count = coordinates_of(self.coordinates, self._dimension, is_separated)
-        node = Node(form, lists[-1][0], count, (None,), leaves)
+        node = Node(form, lists[-1][0], count, (), leaves)
         for depth in reversed(range(len(lists))):
             offsets = functools.reduce(through, (self[level] for level in lists[depth][1]))
             form, held = (b"+L", view_of(offsets)) if is_wide else (b"+l", narrow(offsets))
             if depth:
-                node = Node(form, lists[depth - 1][0], len(offsets) - 1, (None, held), (node,))
+                node = Node(form, lists[depth - 1][0], len(offsets) - 1, (held,), (node,))
         return exported(of_rows(self.statuses, form, metadata, held, children=(node,)))
 
     def _one_for_each_row(self) -> Numbers:
