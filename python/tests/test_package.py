@@ -65,7 +65,7 @@ class Header(unittest.TestCase):
             name = {"wkb_dump_program": "main"}.get(it.__name__, it.__name__)
             result, given = re.search(rf"([\w ]+\*?) *\b{name}\((.*?)\) *[;{{]", self.TEXT, re.DOTALL).groups()
             given = [] if given == "void" else given.split(",")
-            own = [ctypes.c_void_p if kind in (_library.SHOWN, _library.PUT) else kind for kind in it.argtypes]
+            own = [ctypes.c_void_p if kind in (_library.BUFFER, _library.PUT) else kind for kind in it.argtypes]
             self.assertEqual(own, [self.type_of(text) for text in given], name)
             is_text = result.startswith("const char *")
             self.assertEqual(it.restype, ctypes.c_char_p if is_text else self.type_of(result.strip()), name)

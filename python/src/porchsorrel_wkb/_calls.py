@@ -6,12 +6,12 @@ from typing import Any, List, NoReturn, Optional, Tuple, Union
 
 from ._buffers import Buffer, Inputs, Numbers, bytes_in, flat, over, view_of
 from ._enums import Form, Kind, Order, Status, is_refusal, make_options
-from ._errors import Refused, expect_same, no_such
+from ._errors import Refused, expect_same
 from ._library import (
     BOUNDS, CHECK, DUMP, OTHER, PARTS, PUT, READ_HEADER, SAME, WRITE, Call, status_text, wkb_dump_header,
     wkb_dump_options, wkb_options,
 )
-from ._records import STRUCTS, Box, Fault, Found, GeoPackageHeader, Part, Table, box_in, found_in, record_in
+from ._records import STRUCTS, Box, Fault, Found, GeoPackageHeader, Part, Table, record_in
 
 # Results go into memory of this size first: so many bytes of an encoding, or parts.
 SMALL, FEW = 4096, 64
@@ -20,20 +20,17 @@ _Small, _Record, _Fault = ctypes.c_char * SMALL, ctypes.c_char * 96, ctypes.c_ch
 
 def _refuse(data: Buffer, which: int = 1) -> NoReturn:
     """Raise why an input is rejected, the first or the second one, and what it is if it is no WKB."""
-    fault = _Fault()
+    fault = fault_of(data)
     with Inputs() as inputs:
-        at, size = inputs.place(data)
-        status = inputs.choose(CHECK, size)(at, size, None, fault)
-        other = OTHER.locked(fault, at, size)
-    expect_same(is_refusal(status))
-    raise Refused(record_in(Fault, fault), which, status_text(status), other.decode())
+        other = OTHER.locked(STRUCTS[Fault].pack(*fault), *inputs.place(data))
+    raise Refused(fault, which, status_text(fault.status), other.decode())
 
 
 def fault_of(data: Any) -> Fault:
     """Return why bytes are rejected, which are."""
     fault = _Fault()
     expect_same(is_refusal(over(CHECK, data, None, fault)))
-    return record_in(Fault, fault)  # type: ignore[no-any-return]
+    return record_in(Fault, fault)
 
 
 def check(data: Buffer) -> Found:
@@ -41,7 +38,7 @@ def check(data: Buffer) -> Found:
     found = _Record()
     if over(CHECK, data, found, None):
         _refuse(data)
-    return found_in(found)
+    return record_in(Found, found)
 
 
 def well_formed(data: Buffer) -> bool:
@@ -50,7 +47,7 @@ def well_formed(data: Buffer) -> bool:
     No bytes raise an error. Those of a GeoPackage or of SpatiaLite, and hexadecimal text, are no geometry.
     """
     found = _Record()
-    return not over(CHECK, data, found, None) and found_in(found).size == view_of(data).nbytes
+    return not over(CHECK, data, found, None) and record_in(Found, found).size == view_of(data).nbytes
 
 
 def bounds(data: Buffer) -> Box:
@@ -58,7 +55,7 @@ def bounds(data: Buffer) -> Box:
     box = _Record()
     if over(BOUNDS, data, box, None):
         _refuse(data)
-    return box_in(box)
+    return record_in(Box, box)
 
 
 def _all(call: Call, data: Buffer, most: int, *more: Any) -> bytes:
@@ -120,10 +117,13 @@ def _words_of(data: Buffer, view: memoryview, part: Union[Part, Found]) -> Tuple
     elif is_there:
         found = _Record()
         is_there = not over(CHECK, view[begin:] if begin else data, found, None)
-        it = found_in(found) if is_there else part
+        it = record_in(Found, found) if is_there else part
         is_there = is_there and (begin + it.offset, *it[4:]) == (part.offset, part.count, *part[-4:])
     if not is_there:
-        no_such(part)
+        kind = getattr(part.kind, "name", part.kind)
+        if part.kind > Kind.LINE_STRING:
+            raise ValueError(f"a {kind} has no coordinates of its own, but {part.count} rings or members")
+        raise ValueError(f"these are other bytes than those of the part: they have no such {kind} there")
     return part.offset, part.offset + 8 * width * part.count
 
 

@@ -1,47 +1,23 @@
 # SPDX-License-Identifier: MIT OR Apache-2.0
 """What the calls raise."""
-from typing import TYPE_CHECKING, NoReturn, Optional, Union
+from typing import Optional
 
-from ._enums import Kind, Status
-
-if TYPE_CHECKING:
-    from ._records import Fault, Found, Part
+from ._enums import Status
+from ._records import Fault
 
 
 class Refused(ValueError):
-    """Some bytes are rejected. It can be pickled."""
+    """Some bytes are rejected. It can be pickled.
 
-    if TYPE_CHECKING:  # what it is made of is in `args`
+    :ivar fault: the part that is rejected, and why
+    :ivar which: the input that is rejected: 1, or 2 for the second one of `same`
+    :ivar text: what the status says
+    :ivar row: the row of a column that is no member of a collection; None if there is no column
+    """
 
-        def __init__(
-            self, fault: "Fault", which: int, text: str, hint: str = "", row: Optional[int] = None
-        ) -> None: ...
-
-    @property
-    def fault(self) -> "Fault":
-        """The part that is rejected, and why."""
-        fault: "Fault" = self.args[0]
-        return fault
-
-    @property
-    def which(self) -> int:
-        """The input that is rejected: 1, or 2 for the second one of `same`."""
-        return int(self.args[1])
-
-    @property
-    def text(self) -> str:
-        """What the status says."""
-        return str(self.args[2])
-
-    @property
-    def _hint(self) -> str:
-        return str(self.args[3]) if len(self.args) > 3 else ""
-
-    @property
-    def row(self) -> Optional[int]:
-        """The row of a column that is no member of a collection; None if there is no column."""
-        row: Optional[int] = self.args[4] if len(self.args) > 4 else None
-        return row
+    def __init__(self, fault: Fault, which: int, text: str, hint: str = "", row: Optional[int] = None):
+        super().__init__(fault, which, text, hint, row)
+        self.fault, self.which, self.text, self.row, self._hint = fault, which, text, row, hint
 
     @property
     def status(self) -> Status:
@@ -57,11 +33,3 @@ def expect_same(holds: bool) -> None:
     """Raise an error if a second call finds something else than the first one, or needs another room than that said."""
     if not holds:
         raise RuntimeError("the input has changed during the call")
-
-
-def no_such(part: "Union[Part, Found]") -> NoReturn:
-    """Raise the error that some bytes have no such coordinates."""
-    kind = getattr(part.kind, "name", part.kind)
-    if part.kind > Kind.LINE_STRING:
-        raise ValueError(f"a {kind} has no coordinates of its own, but {part.count} rings or members")
-    raise ValueError(f"these are other bytes than those of the part: they have no such {kind} there")

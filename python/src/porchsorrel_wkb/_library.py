@@ -79,7 +79,7 @@ def address_of(view: Any) -> int:
     return place
 
 
-class SHOWN:
+class BUFFER:
     """Of an object the memory that it shows, which is there while the call has the object; or None."""
 
     @classmethod
@@ -92,15 +92,15 @@ BOUNDS = Call("wkb_bounds", NUMBER, POINTER, SIZE, POINTER, POINTER)
 WRITE = Call("wkb_write", NUMBER, POINTER, SIZE, POINTER, POINTER, SIZE, POINTER, POINTER)
 SAME = Call("wkb_same", NUMBER, POINTER, SIZE, POINTER, SIZE, POINTER, POINTER, POINTER)
 PARTS = Call("wkb_parts", NUMBER, POINTER, SIZE, POINTER, SIZE, POINTER, POINTER)
-COLUMN_CHECK = Call("wkb_column_check", None, POINTER, SHOWN)
-COLUMN_BOUNDS = Call("wkb_column_bounds", None, POINTER, SHOWN, SHOWN)
-COLUMN_FOUND = Call("wkb_column_found", None, POINTER, SHOWN, SHOWN)
-COLUMN_PARTS = Call("wkb_column_parts", SIZE, POINTER, SHOWN, SIZE, SHOWN, SHOWN)
-COLUMN_WRITE = Call("wkb_column_write", SIZE, POINTER, POINTER, SHOWN, SIZE, SHOWN, SHOWN)
-COLLECT = Call("wkb_collect", NUMBER, POINTER, NUMBER, NUMBER, POINTER, SHOWN, SIZE, POINTER, POINTER, POINTER)
-COLUMN_COORDINATES = Call("wkb_column_coordinates", None, POINTER, NUMBER, POINTER, SHOWN)
-COLUMN_FROM_COORDINATES = Call("wkb_column_from_coordinates", SIZE, POINTER, NUMBER, NUMBER, POINTER, SHOWN, SIZE,
-                               SHOWN, SHOWN)
+COLUMN_CHECK = Call("wkb_column_check", None, POINTER, BUFFER)
+COLUMN_BOUNDS = Call("wkb_column_bounds", None, POINTER, BUFFER, BUFFER)
+COLUMN_FOUND = Call("wkb_column_found", None, POINTER, BUFFER, BUFFER)
+COLUMN_PARTS = Call("wkb_column_parts", SIZE, POINTER, BUFFER, SIZE, BUFFER, BUFFER)
+COLUMN_WRITE = Call("wkb_column_write", SIZE, POINTER, POINTER, BUFFER, SIZE, BUFFER, BUFFER)
+COLLECT = Call("wkb_collect", NUMBER, POINTER, NUMBER, NUMBER, POINTER, BUFFER, SIZE, POINTER, POINTER, POINTER)
+COLUMN_COORDINATES = Call("wkb_column_coordinates", None, POINTER, NUMBER, POINTER, BUFFER)
+COLUMN_FROM_COORDINATES = Call("wkb_column_from_coordinates", SIZE, POINTER, NUMBER, NUMBER, POINTER, BUFFER, SIZE,
+                               BUFFER, BUFFER)
 STATUS_TEXT = Call("wkb_status_text", ctypes.c_char_p, NUMBER)
 FAULT_TEXT = Call("wkb_fault_text", SIZE, POINTER, POINTER, SIZE)
 VERSION = Call("wkb_version", ctypes.c_uint)

@@ -2,14 +2,13 @@
 """The structs of wkb.h as Python has them, and tables of them."""
 import array
 import ctypes
-import enum
 import html
 import itertools
 import struct
 from functools import partial
 from typing import Any, Dict, Iterator, List, NamedTuple, Optional, Sequence, Tuple, Type, TypeVar, Union, overload
 
-from ._buffers import Numbers, has_numpy
+from ._buffers import CODES, Numbers, has_numpy
 from ._enums import Dimension, Kind, Order, Status
 from ._library import FAULT_TEXT, TEXT_ROOM
 
@@ -149,17 +148,14 @@ FIELDS: Dict[Any, Fields] = {
     Part: fields("i8", "begin end offset count next") + TYPE,
     Box: [(axis, RANGE) for axis in "xyzm"],
 }
-# Numbers as struct has them.
-FORMATS = {"i8": "Q", "u4": "I", "f8": "d"}
 
 
 def format_of(kind: Any) -> str:
     """Return the format of a field, or of many fields."""
-    return FORMATS[kind] if isinstance(kind, str) else "".join(format_of(it) for _, it in kind)
+    return CODES[kind] if isinstance(kind, str) else "".join(format_of(it) for _, it in kind)
 
 
 STRUCTS: Dict[Any, struct.Struct] = {record: struct.Struct("=" + format_of(known)) for record, known in FIELDS.items()}
-_GEOMETRY, _BOX = STRUCTS[Found], STRUCTS[Box]
 _new: Any = tuple.__new__  # of a named tuple, without a call of its own
 _KINDS, _DIMENSIONS, _ORDERS = tuple(Kind), tuple(Dimension), tuple(Order)
 
@@ -183,35 +179,15 @@ def _box(it: Any) -> Any:
 
 
 _MADE: Dict[Any, Any] = {Found: partial(_made, Found), Part: partial(_made, Part), Fault: _fault, Box: _box}
-
-
-def record_in(record: Any, memory: Any, place: int = 0) -> Any:
-    """Return the record whose struct is at some place."""
-    return _MADE[record](STRUCTS[record].unpack_from(memory, place))
-
-
-def found_in(memory: Any) -> Found:
-    """Return what the struct at the start of some memory says."""
-    found: Found = _made(Found, _GEOMETRY.unpack_from(memory))
-    return found
-
-
-def box_in(memory: Any) -> Box:
-    """Return what the struct at the start of some memory says."""
-    box: Box = _box(_BOX.unpack_from(memory))
-    return box
-
-
+Record = TypeVar("Record", Found, Fault, Part, Box)
 # A table shows so many rows.
 SHOWN = 5
 
 
-def _shown(value: Any) -> str:
-    """Return a value of a record as a cell of a table shows it."""
-    return value.name if isinstance(value, enum.Enum) else str(value)
-
-
-Record = TypeVar("Record", Found, Fault, Part, Box)
+def record_in(record: Type[Record], memory: Any, place: int = 0) -> Record:
+    """Return the record whose struct is at some place."""
+    made: Record = _MADE[record](STRUCTS[record].unpack_from(memory, place))
+    return made
 
 
 class Table(Sequence[Record]):
@@ -274,10 +250,9 @@ class Table(Sequence[Record]):
 
     def _repr_html_(self) -> str:
         """Return the first rows as a notebook shows them."""
-        names = self._record._fields
-        head = "".join(f"<th>{name}</th>" for name in names)
+        head = "".join(f"<th>{name}</th>" for name in self._record._fields)
         rows = "".join(
-            "<tr>" + "".join(f"<td>{html.escape(_shown(getattr(it, name)))}</td>" for name in names) + "</tr>"
+            "<tr>" + "".join(f"<td>{html.escape(str(getattr(value, 'name', value)))}</td>" for value in it) + "</tr>"
             for it in self[:SHOWN]
         )
         more = f"<p>{len(self)} rows, of which these are the first {SHOWN}</p>" if len(self) > SHOWN else ""
@@ -296,7 +271,7 @@ def every(table: Table[Any], *names: str) -> Numbers:
     for name in names:
         before = list(itertools.takewhile(lambda it: it[0] != name, kind))
         place, kind = place + struct.calcsize("=" + format_of(before)), kind[len(before)][1]
-    size, step = struct.calcsize(FORMATS[kind]), STRUCTS[table._record].size
-    words = memoryview(table._memory).cast("B")[: len(table) * step].cast(FORMATS[kind])
-    made: Any = array.array(FORMATS[kind], words[place // size :: step // size].tobytes())
+    size, step = struct.calcsize(CODES[kind]), STRUCTS[table._record].size
+    words = memoryview(table._memory).cast("B")[: len(table) * step].cast(CODES[kind])
+    made: Any = array.array(CODES[kind], words[place // size :: step // size].tobytes())
     return made  # type: ignore[no-any-return]
