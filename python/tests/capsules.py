@@ -53,8 +53,9 @@ def memory_of(data):
 
 
 def pointers(addresses):
-    """An array of pointers, as Arrow has it."""
-    return (ctypes.c_void_p * len(addresses))(*addresses)
+    """An array of pointers, as Arrow has it, which ends like a buffer."""
+    array = (ctypes.c_void_p * len(addresses))(*addresses)
+    return type(array).from_buffer(memory_of(bytes(array)))
 
 
 class Again:

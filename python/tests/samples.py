@@ -53,16 +53,6 @@ def flat(numbers):
     return " ".join(repr(float(number)) for number in memoryview(numbers).cast("B").cast("d"))
 
 
-def values_of(record):
-    """The values of a record by their names."""
-    return {name: getattr(record, name) for name in record._fields}
-
-
-def changed(record, **values):
-    """A record with other values in the place of some."""
-    return type(record)(**{**values_of(record), **values})
-
-
 def slices(count):
     """The first item and the length of each slice of so many items."""
     return [(first, length) for first in range(count + 1) for length in range(count + 1 - first)]

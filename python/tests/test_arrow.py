@@ -195,7 +195,7 @@ def cases():
         (lambda: records(Arrow()), (("schema.n_children", 2**31), ("array.n_children", 2**31))),
     ):
         yield some, WRONG, lambda: changed(make, 0, lambda it: it, array, *some)
-    yield "a record is null", WRONG, lambda: array(null_record(0b11011))
+    yield "a record is null", (ValueError, "null as a whole"), lambda: array(null_record(0b11011))
     yield "no record is null", STATUSES, lambda: array(null_record(0b11111))
     yield "records in records", OTHER, lambda: array(nested())
     for to, take, expected in ((lambda it: it, array, GONE), (records, array, GONE), (lambda it: it, stream, [])):
@@ -219,7 +219,7 @@ def cases():
 
 def stream_cases():
     def of(fault=None, **changes):
-        return lambda: Column.chunks_from_arrow(Stream(Arrow(), [Arrow()], fault, **changes))
+        return lambda: list(Column.chunks_from_arrow(Stream(Arrow(), [Arrow()], fault, **changes)))
 
     for name in ("get_schema", "get_next", "release"):
         yield name, WRONG, of(**{name: None})
@@ -267,24 +267,18 @@ class Wrong(unittest.TestCase):
         self.assertGreater(count, 1000)
 
     def test_names(self):
-        """A column that isn't there, and what has no such method. A rejected struct is released like another."""
+        """A column that isn't there, and what has no such method. The type of a stream is looked at first."""
         is_stream, chunks = type("Chunked", (), {"__arrow_c_stream__": None})(), Column.chunks_from_arrow
-        for error, text, source, *name in (
-            (TypeError, "'u' is not binary", Records(Arrow(name=b"name", format=b"u")), "name"),
-            (ValueError, r"no column 'x', but \['', 'shape'\]", records(Arrow()), "x"),
-            (ValueError, r"no column 'x', but \[\]", Arrow(), "x"),
-            (ValueError, "null as a whole", Records(Arrow(name=b"shape"), validity=b"\xfe"), "shape"),
-            (ValueError, "can't have 2 buffers", Arrow(n_buffers=2)),
+        for error, text, call, *arguments in (
+            (ValueError, r"no column 'x', but \['', 'shape'\]", Column.from_arrow, records(Arrow()), "x"),
+            (ValueError, r"no column 'x', but \[\]", Column.from_arrow, Arrow(), "x"),
+            (TypeError, "list has no method __arrow_c_array__$", Column.from_arrow, ROWS),
+            (TypeError, "list has no method __arrow_c_stream__$", chunks, ROWS),
+            (TypeError, "from_arrow takes", chunks, Arrow()),
+            (TypeError, "chunks_from_arrow takes", Column.from_arrow, is_stream),
+            (TypeError, "binary", chunks, Stream(Arrow(b"u"), [])),
         ):
-            self.assertRaisesRegex(error, text, Column.from_arrow, source, *name)
-            gc.collect()
-            self.assertEqual(sorted(source.released), ["array", "schema"])
-        for text, call, wrong in (
-            ("list has no method __arrow_c_array__$", Column.from_arrow, ROWS), ("from_arrow takes", chunks, Arrow()),
-            ("list has no method __arrow_c_stream__$", chunks, ROWS),
-            ("chunks_from_arrow takes", Column.from_arrow, is_stream), ("binary", chunks, Stream(Arrow(b"u"), [])),
-        ):
-            self.assertRaisesRegex(TypeError, text, call, wrong)
+            self.assertRaisesRegex(error, text, call, *arguments)
 
 
 class FromArrow(unittest.TestCase):
@@ -292,23 +286,21 @@ class FromArrow(unittest.TestCase):
         """Every slice of 17 rows, whose bits are in three bytes, some of them in views or in one of three buffers."""
         rows = [None if i % 3 == 1 else b"\2" if i % 5 == 2 else POINT for i in range(17)]
         rows[9:13] = b"", bytes(SHORT), bytes(SHORT + 1), ISO_POLYGON
-        expected = statuses(Column.of(rows))
+        whole = Column.of(rows)
         for make in (lambda *it: Arrow(b"z", rows, *it), lambda *it: Arrow(b"Z", rows, *it),
                      lambda *it: Views(rows, 3, *it)):
             for offset, length in slices(17):
                 source = make(offset, length)
                 column = Column.from_arrow(source)
                 again = pickle.loads(pickle.dumps(column))
-                self.assertEqual([statuses(column), statuses(again)], 2 * [expected[offset : offset + length]])
-                self.assertEqual(again.write(), column.write())
+                self.assertEqual([column.write(), again.write()], 2 * [whole[offset : offset + length].write()])
                 self.assertEqual(source.released[:1], ["schema"])
         # What is pickled is the bytes, the offsets and the bits of its own rows.
         self.assertLess(len(pickle.dumps(Column.from_arrow(Arrow(b"Z", 500 * [POINT, None], 900, 10)))), 1000)
         source = Views(rows[:8], 3)
         bits = memory_of(source.memory[0][:1])  # eight rows need no more
         source.array.buffers[0] = ctypes.addressof(bits)
-        self.assertEqual(statuses(Column.from_arrow(source)), expected[:8])
-        self.assertEqual(list(Column.from_arrow(Views(rows, 3)).write().rows), list(Column.of(rows).write().rows))
+        self.assertEqual(statuses(Column.from_arrow(source)), statuses(whole[:8]))
         self.assertEqual(source.released, ["schema", "array"])
         self.assertEqual(statuses(Column.from_arrow(Views([b"\2", None], 0))), [STATUSES[4], Status.NULL_ROW])
         self.assertEqual(statuses(Column.from_arrow(Arrow(rows=[None, b""]))), STATUSES[1:3])
@@ -319,11 +311,12 @@ class FromArrow(unittest.TestCase):
     def test_records(self):
         """Every slice of 16 records, whose bits are two bytes and no more, is taken unless a record in it is null."""
         rows = 2 * [BIG_POINT, *ROWS, b"", POINT]
-        whole = {"shape": statuses(Column.of(rows)), "other": 16 * [0]}
-        asked = (None, "shape"), (None, "other"), (0, "shape"), (7, "shape"), (8, "shape"), (15, "shape")
+        shape = 60 * "\u00e9"  # a name of 120 bytes
+        whole = {shape: statuses(Column.of(rows)), "other": 16 * [0]}
+        asked = (None, shape), (None, "other"), (0, shape), (7, shape), (8, shape), (15, shape)
         for (null, name), (offset, length) in itertools.product(asked, slices(16)):
             bits = None if null is None else (2**16 - 1 - 2**null).to_bytes(2, "little")
-            columns = Arrow(b"Z", name=b"other", rows=17 * [POINT]), Arrow(name=b"shape", rows=rows)
+            columns = Arrow(b"Z", name=b"other", rows=17 * [POINT]), Arrow(name=shape.encode(), rows=rows)
             source = Records(*columns, offset=offset, length=length, validity=bits)
             if null is not None and offset <= null < offset + length:
                 self.assertRaisesRegex(ValueError, "null as a whole", Column.from_arrow, source, name)
@@ -345,14 +338,6 @@ class FromArrow(unittest.TestCase):
 
     def test_hostile_offsets(self):
         """Offsets that fall or are negative. No byte past the last one is read, and what is pickled has these rows."""
-        bad, short = Status.BAD_OFFSETS, Status.SHORT_HEADER
-        for ends, found in (
-            ((0, 30, 21), [bad, bad]), ((21, 0, 21), [bad, 0]), ((0, 0, -1), [short, bad]), ((0, -5, 21), [bad, bad]),
-            ((0, 21, 0), [bad, bad]), ((0, 22, 21), [bad, bad]),
-        ):
-            source = Arrow(rows=[POINT, b""])
-            source.memory[1][:] = struct.pack("=3i", *ends)
-            self.assertEqual(statuses(Column.from_arrow(source)), found, ends)
         for ends in itertools.product((-(2**31), -1, 0, 7, 21, 42, 2**31 - 1), repeat=3):
             source = Arrow(rows=[BIG_POINT, POINT, POINT], offset=1, length=2)
             source.memory[1][4:] = struct.pack("=3i", *ends[:2], min(ends[2], 63))
@@ -379,14 +364,15 @@ class FromChunks(unittest.TestCase):
             self.assertEqual((stream.released, sources[2].released, statuses(third)), (1, [], STATUSES))
 
     def test_ends(self):
-        """A stream without arrays, one with an array of no rows, one that is left, one of a wrong array."""
-        self.assertEqual(list(Column.chunks_from_arrow(Stream(Arrow(), []))), [])
+        """A stream with an array of no rows, one that is left; a wrong array in one, and alone."""
         (column,) = Column.chunks_from_arrow(Stream(Arrow(), [Arrow(rows=[])]))
-        stream, wrong = Stream(Arrow(), [Arrow(), Arrow()]), Arrow(n_buffers=2)
+        stream, wrong, alone = Stream(Arrow(), [Arrow(), Arrow()]), Arrow(n_buffers=2), Arrow(n_buffers=2)
         self.assertEqual((len(column), statuses(next(Column.chunks_from_arrow(stream)))), (0, STATUSES))
         self.assertRaises(ValueError, next, Column.chunks_from_arrow(Stream(wrong, [wrong])))
+        self.assertRaises(ValueError, Column.from_arrow, alone)
         gc.collect()
-        self.assertEqual((stream.released, wrong.released), (1, ["schema", "array"]))
+        self.assertEqual((stream.released, sorted(alone.released)), (1, ["array", "schema"]))
+        self.assertEqual(wrong.released, ["schema", "array"])
 
 
 class Ogr:

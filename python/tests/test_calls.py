@@ -8,7 +8,7 @@ import struct
 import unittest
 
 import porchsorrel_wkb as wkb
-from samples import BIG_POINT, EMPTY_POINT, LINE, POINT, POINTS, POLYGON, calls, changed, numpy, rows_of, values_of
+from samples import BIG_POINT, EMPTY_POINT, LINE, POINT, POLYGON, calls, numpy, rows_of
 from porchsorrel_wkb import Column, Dimension, Form, Kind, Order, Part, Refused, Status
 
 
@@ -33,14 +33,12 @@ class Calls(unittest.TestCase):
             with self.assertRaisesRegex(ValueError, "a POLYGON has no coordinates of its own, but 1 rings or members"):
                 call(POLYGON, whole)
 
-    def test_every_part(self):
-        """Each point, line string and ring is found where it is, whatever byte of the count is not zero."""
+    def test_count(self):
+        """A ring is found where it is, whatever byte of its count is not zero."""
         count = 2**16 + 2**8 + 1
         rings = [struct.pack(order + "BIII", order == "<", 3, 1, count) + bytes(16 * count) for order in "<>"]
-        for data in (POINTS, POLYGON, struct.pack("<BII", 1, 7, 3) + LINE + POINTS + POLYGON, *rings):
-            for part in wkb.parts(data):
-                if part.kind <= Kind.LINE_STRING:
-                    self.assertEqual(len(wkb.coordinates(data, part)), part.count)
+        for data in rings:
+            self.assertEqual(len(wkb.coordinates(data, wkb.parts(data)[1])), count)
 
     @unittest.skipUnless(numpy, "numpy is not here")
     def test_numpy(self):
@@ -169,7 +167,7 @@ class Parts(unittest.TestCase):
         ring = wkb.parts(POLYGON)[1]
         for name, value in itertools.product(("begin", "offset", "count"), (-1, 0, 5, 2**31, 2**32, 2**63 - 1)):
             if value != getattr(ring, name):
-                self.no_coordinates(POLYGON, changed(ring, **{name: value}))
+                self.no_coordinates(POLYGON, ring._replace(**{name: value}))
         for size in range(len(POLYGON)):
             self.no_coordinates(POLYGON[:size], ring)
         for data in (POINT, LINE, wkb.write(LINE, srid=7)):
@@ -180,22 +178,9 @@ class Parts(unittest.TestCase):
                     if other == getattr(part, name):
                         self.assertEqual(len(wkb.coordinates(data, part)), part.count)
                     else:
-                        self.no_coordinates(data, changed(part, **{name: other}))
+                        self.no_coordinates(data, part._replace(**{name: other}))
         for other in (None, 1, POLYGON, wkb.Range(1.0, 2.0, 3)):
             self.assertRaisesRegex(TypeError, "a Part of parts", wkb.coordinates, POLYGON, other)
-
-
-class Records(unittest.TestCase):
-    ALL = wkb.check(POLYGON), wkb.parts(POLYGON)[1], wkb.bounds(LINE), wkb.bounds(LINE).x
-
-    def test_values(self):
-        """What a call returns is what the class itself makes of the same values."""
-        for record in self.ALL:
-            values = values_of(record)
-            made = type(record)(**values)
-            self.assertEqual((made, repr(made), values_of(made)), (record, repr(record), values))
-            self.assertEqual(pickle.loads(pickle.dumps(record)), record)
-            self.assertRaises(TypeError, type(record))
 
 
 class Buffers(unittest.TestCase):

@@ -1,4 +1,4 @@
-"""What is found in each row of a column, what rows have together, and what GeoParquet says of them."""
+"""What the rows of a column have together, results as a whole, and what GeoParquet says of rows."""
 import array
 import contextlib
 import itertools
@@ -10,19 +10,10 @@ import unittest
 
 import porchsorrel_wkb as wkb
 from porchsorrel_wkb import Column, Dimension, Kind, Range
-from samples import BIG_POINT, EMPTY_POINT, LINE, POINT, POINTS, POLYGON, ROWS, STATUSES, geometry
+from samples import BIG_POINT, EMPTY_POINT, LINE, POINT, POINTS, POLYGON, ROWS, geometry
 
 NONE = Range(math.inf, -math.inf, 0)
 Z_POINT = geometry(1, 1)
-
-
-class Found(unittest.TestCase):
-    def test_rows(self):
-        statuses, found = Column.of(ROWS).found()
-        self.assertEqual(list(statuses), STATUSES)
-        self.assertEqual((found[0], found[3], len(found)), (wkb.check(POINT), wkb.check(POLYGON), 5))
-        self.assertEqual(bytes(found._memory[64:192]), bytes(128))  # null and rejected rows are zeros
-        self.assertEqual(len(Column.of([]).found().found), 0)
 
 
 class Together(unittest.TestCase):
@@ -82,7 +73,6 @@ class Whole(unittest.TestCase):
         html = table._repr_html_()
         self.assertEqual((html.count("<tr>"), html.count("<th>begin</th>"), "7 rows" in html), (6, 1, True))
         self.assertIn("<td>MULTI_POINT</td><td>XY</td><td>LITTLE</td>", html)
-        self.assertEqual(repr(wkb.parts(POINT)), f"<table of 1 Part>\n  {wkb.parts(POINT)[0]}")
 
 
 CRS = {"type": "GeographicCRS", "name": "WGS 84"}

@@ -94,8 +94,6 @@ class Lasting(unittest.TestCase):
                        for point in wkb.coordinates(it.data, part) for number in point[:2]]
             found = Column.of([it.data]).coordinates().coordinates
             self.assertEqual(flat(array.array("d", numbers)), flat(found) if len(found) else "")
-            cut = answer_of(wkb.bounds, it.data[: it.answer.size - 1])
-            self.assertTrue(wkb.is_early_end(cut.status), it.data.hex())
             own = Column.of([it.data]).facts()
             self.assertEqual((own.types, own.srids), ([(it.answer.kind, it.answer.dimension)], {it.answer.srid}))
             self.assertEqual(summed(packed(own.box)), it.sums[8], it.data.hex())
@@ -104,7 +102,7 @@ class Lasting(unittest.TestCase):
         statuses, found = self.column.found()
         self.assertEqual((list(statuses), list(self.column.check())), (self.statuses, self.statuses))
         for it, entry in zip(self.rows, found[::2]):
-            self.assertTrue(entry == it.answer or it.status, it.data.hex())
+            self.assertTrue(repr(entry) == repr(it.answer) or it.status, it.data.hex())
         faults = {2 * i: it.answer for i, it in enumerate(self.rows) if it.status}
         self.assertEqual(self.column.faults(), faults)
         facts, count = self.column.facts(), len(self.rows)

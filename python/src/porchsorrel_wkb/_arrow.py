@@ -183,8 +183,8 @@ OFFSET_SIZES = {b"z": 4, b"Z": 8, b"vz": 0}
 VIEW_SIZE, SHORT = 16, 12
 # Views number buffers by signed 32-bit integers, and Arrow's libraries do so with children.
 MOST_PARTS = 2**31 - 1
-# How many buffers an array has: validity; offsets or numbers, too; and data; or views, any number of buffers, and their
-# sizes.
+# How many buffers an array has: validity alone; with offsets or numbers; with offsets and data; or with views, any
+# number of buffers, and their sizes.
 VALIDITY, WITH_ONE, WITH_TWO, OF_VIEWS = range(1, 2), range(2, 3), range(3, 4), range(3, MOST_PARTS)
 # The offsets or views of more rows are longer than any memory.
 MOST_ROWS = sys.maxsize // VIEW_SIZE - 1
