@@ -1,5 +1,5 @@
-// Times calls of C and C++ and the dump over files of checks/hosts/cost_inputs.py that are columns: prints the call, the
-// file, and the processor's seconds of the shorter of two runs. Usage: cost PART_OF_A_NAME FILE..
+// Times calls of C and C++ and the dump over files of checks/hosts/cost_inputs.py that are columns: prints the call,
+// the file, and the processor's seconds of the shorter of two runs. Usage: cost PART_OF_A_NAME FILE..
 #include "wkb_dump.h"
 #include "wkb_facts.hpp"
 

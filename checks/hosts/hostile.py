@@ -1,4 +1,4 @@
-"""Compares the extensions of SQLite and PostgreSQL with the Python package, over the inputs of c/test/lasting.rows, over
+"""Compares the extensions of SQLite and PostgreSQL with the Python package, over the inputs of c/test/lasting.rows, by
 which python/tests/test_lasting.py tries the package, and over geometries with each byte changed, and cut at each byte.
 
     python3 hostile.py sqlite PACKAGE EXTENSION    # tries all functions, also over the blobs of GeoPackages

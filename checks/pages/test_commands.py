@@ -29,7 +29,7 @@ BIG_COLLECTIONS = "000000000700000001", "000000000700000000"
 STACK = 160
 # The places of the code that pages show.
 SOURCES = {
-    "rust": ["crates/wkb_key/src/*.rt", "crates/wkb_c[al]*s/src/*.rt", "crates/wkb/src/**/*.rt", "rust/src/*.rs", "rust/src/columns/*.rs",
+    "rust": ["crates/wkb_key/src/*.rt", "crates/wkb_c[al]*s/src/*.rt", "crates/wkb/src/**/*.rt", "rust/src/**/*.rs",
              "rust/**/README.md", "docs/START_RUST.md"],
     "antt": ["crates/wkb_clients/proofs/**/*.antt"],
     "c": ["c/examples/*.c", "docs/START_C.md"],
@@ -118,8 +118,8 @@ def code_of(language):
 
 def lost_pieces(page):
     """The pieces of the code on a page, from one empty line to the next, that are in no source; and lost edits."""
-    languages = re.findall(r"(?m)^```(\w+)$", text_of(page))
-    yield from (f"{page}: nothing is known of {it}" for it in languages if it not in {*SOURCES, "console", "text", "toml"})
+    unknown = {*re.findall(r"(?m)^```(\w+)$", text_of(page))} - {*SOURCES, "console", "text", "toml"}
+    yield from (f"{page}: nothing is known of {it}" for it in unknown)
     for language in SOURCES:
         blocks = text_of(page).split(f"```{language}\n")[1:]
         for piece in (piece for block in blocks for piece in block.split("```")[0].strip("\n").split("\n\n")):

@@ -99,7 +99,7 @@ def calls():
 
 
 def named():
-    """(page, number of the line, name) of each command, and of each name in backticks, also in what tools/api prints."""
+    """(page, number of the line, name) of each command and each name in backticks, also in what tools/api prints."""
     yield from ((page, number, command) for page in PAGES for number, command, _ in commands(page))
     lines = [("tools/api", *it) for it in calls()]
     lines += [(page, *it) for page in PAGES for it in lines_of(page)]

@@ -37,7 +37,8 @@ LICENSE = r'(?m)^license = .*"(.*)"'
 CLAIM = "compiled from formally verified sources"
 FACES = """
     CITATION.cff Cargo.toml c/package/package.md c/package/wkb.pc.in postgres/wkb.control python/README.md
-    python/pyproject.toml python/src/porchsorrel_wkb/__init__.py rust/README.md rust/geo/Cargo.toml rust/geo/README.md web/package.json web/README.md
+    python/pyproject.toml python/src/porchsorrel_wkb/__init__.py rust/README.md rust/geo/Cargo.toml rust/geo/README.md
+    web/package.json web/README.md
     """.split()
 # The page that names the oldest Rust of Cargo.toml.
 RUST = "README.md", r"\bRust\s(\d[\d.]*\d)"
