@@ -123,18 +123,14 @@ def lost_promises(clauses):
                 yield f"{PROMISES}:{number}: {', '.join(of) or 'the crate'} has no clause `{label}`"
 
 
-def lacks(clauses, own, name):
-    """Whether a name that is said to be of what has these clauses is none of them, and no call's."""
-    return own and name not in own and not clauses.is_name(name)
-
-
 def lost_in_sentences(clauses):
     """The clauses that other pages say to be of a call or a record which has others."""
     for page in PAGES:
         text = " ".join(text_of(page).split()) if page != PROMISES else ""
         for names, owner in re.findall(r"((?:`\w+`(?:, | and ))*`\w+`) of `(\w+)`", text):
             own = clauses.of(owner, ())
-            yield from (f"{page}: `{owner}` has no clause `{it}`" for it in spans(names) if lacks(clauses, own, it))
+            lost = [it for it in spans(names) if own and it not in own and not clauses.is_name(it)]
+            yield from (f"{page}: `{owner}` has no clause `{it}`" for it in lost)
 
 
 def lost_tests():
