@@ -55,16 +55,13 @@ def looks_like_a_path(span):
     return re.fullmatch(r"[\w.*+{},-]+/[\w./*+{},-]*", span) and not re.fullmatch(r"[\d./]+", span)
 
 
-def looks_like_ours(word):
-    return looks_like_a_path(word) and OF_OURS.match(word)
-
-
 def lost_in(span):
     """The parts of a span that no source has."""
     path = re.sub(r"(:\d+)+$", "", span)
     if looks_like_a_path(path):
         return [] if is_there(path) else [f"no file `{span}`"]
-    lost = [f"no file `{it}`" for it in span.split() if looks_like_ours(it) and not is_there(it)]
+    ours = [it for it in span.split() if looks_like_a_path(it) and OF_OURS.match(it)]
+    lost = [f"no file `{it}`" for it in ours if not is_there(it)]
     return lost + [f"no source has `{it}`" for it in PATH.findall(span) if not is_named(it)]
 
 

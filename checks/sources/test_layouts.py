@@ -125,29 +125,20 @@ def wrong_calls():
                 yield f"{RAW}: {name} has the parameter {its}, and {proved_its} in the crate"
 
 
-def is_length(name, at, known):
-    """Whether a member of C is the length of the slice before it."""
-    return LENGTH.match(name) is not None and at - POINTER in known.values()
-
-
-def wrong():
-    """The differences."""
-    ours, theirs = asserted(), proved()
-    yield from (f"{C}: nothing is known of {it}" for it in ours.keys() - STRUCTS.keys())
-    yield from (f"{PROVED}: nothing is known of {it}Layout" for it in theirs.keys() - set(STRUCTS.values()))
-    for struct, name in STRUCTS.items():
-        (size, places), (proved_size, known) = ours.get(struct, (None, {})), theirs.get(name, (None, {}))
-        if size is None or size != proved_size:
-            yield f"{struct} has the size and the alignment {size} in {C}, and {proved_size} in {PROVED}"
-        for field in known.keys() | places.keys():
-            at, proved_at = places.get(field), known.get(field)
-            if at != proved_at and not (proved_at is None and is_length(field, at, known)):
-                yield f"{struct}: {field} is at {at} in {C}, and at {proved_at} in {PROVED}"
-    yield from wrong_calls()
-
-
 class Layouts(judge.Judge):
     """C lays out its structs as they are proved."""
 
     def wrong(self):
-        return wrong()
+        ours, theirs = asserted(), proved()
+        yield from (f"{C}: nothing is known of {it}" for it in ours.keys() - STRUCTS.keys())
+        yield from (f"{PROVED}: nothing is known of {it}Layout" for it in theirs.keys() - set(STRUCTS.values()))
+        for struct, name in STRUCTS.items():
+            (size, places), (proved_size, known) = ours.get(struct, (None, {})), theirs.get(name, (None, {}))
+            if size is None or size != proved_size:
+                yield f"{struct} has the size and the alignment {size} in {C}, and {proved_size} in {PROVED}"
+            for field in known.keys() | places.keys():
+                at, proved_at = places.get(field), known.get(field)
+                is_length = proved_at is None and LENGTH.match(field) and at - POINTER in known.values()
+                if at != proved_at and not is_length:
+                    yield f"{struct}: {field} is at {at} in {C}, and at {proved_at} in {PROVED}"
+        yield from wrong_calls()

@@ -19,11 +19,6 @@ IMPORT = re.compile(r"(?m)^ *(?:pub )?use [^\n]*(?:\n +[^\n]*)*")
 COMMENT = {".antt": re.compile(r"--[^\n]*"), ".rt": re.compile(r"//[^\n]*")}
 
 
-def sources():
-    """The text of each source of the crates."""
-    return texts("crates/*/specs/**/*.antt", "crates/*/proofs/**/*.antt", "crates/*/src/**/*.rt")
-
-
 def words_of(text):
     """The words of a text, and the last part of each that has dots or colons."""
     found = set(NAME.findall(text))
@@ -48,21 +43,13 @@ def blocks_of(path, text):
     return blocks
 
 
-def uncited(known={}):
-    """The message about each definition that nothing else names."""
-    found = []
-    for path, text in sources().items():
-        if (path, text) not in known:
-            known[path, text] = blocks_of(path, text)
-        found += [(path, *block) for block in known[path, text]]
-    cited = collections.Counter(word for *_, name, words in found for word in words if word != name)
-    for path, line, name, _ in found:
-        if name and path.split("/")[-1] not in OF_FUNCTIONS and not cited[name] and not name.startswith("worked_"):
-            yield f"{path}:{line}: nothing cites {name}"
-
-
 class Lemmas(judge.Judge):
-    """Something cites each lemma and each definition."""
+    """Something else names each lemma and each definition."""
 
     def wrong(self):
-        return uncited()
+        sources = texts("crates/*/specs/**/*.antt", "crates/*/proofs/**/*.antt", "crates/*/src/**/*.rt")
+        found = [(path, *block) for path, text in sources.items() for block in blocks_of(path, text)]
+        cited = collections.Counter(word for *_, name, words in found for word in words if word != name)
+        for path, line, name, _ in found:
+            if name and path.split("/")[-1] not in OF_FUNCTIONS and not cited[name] and not name.startswith("worked_"):
+                yield f"{path}:{line}: nothing cites {name}"
