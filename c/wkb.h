@@ -7,8 +7,8 @@
  * proved one: it replaces null pointers, passes structs on, and returns what it has found.
  *
  * An input may contain arbitrary bytes, in either byte order. They may be at any alignment (tested). Structs have the
- * machine's byte order and alignment. Every call but wkb_next_part() rejects an input as wkb_check() does, with the same
- * status and fault. Bytes after the geometry are ignored.
+ * machine's byte order and alignment. Every call but wkb_next_part() rejects an input as wkb_check() does, with the
+ * same status and fault. Bytes after the geometry are ignored.
  *
  * What wkb_collect() and the calls for one geometry write, by the status that they return:
  *
@@ -207,20 +207,17 @@ typedef struct wkb_column {
 
 /** Returns the version of the library.
  *
- * @return its WKB_VERSION
- * @since 1.0 */
+ * @return its WKB_VERSION */
 unsigned wkb_version(void);
 /** Returns the text of a status, or of its class if the number has no name, in one line.
  *
  * @param status  any number
- * @return a string with static storage, never null
- * @since 1.0 */
+ * @return a string with static storage, never null */
 const char *wkb_status_text(wkb_status status);
 /** Returns the name of a kind in lower case, such as "linestring".
  *
  * @param kind  any number
- * @return a string with static storage, never null
- * @since 1.0 */
+ * @return a string with static storage, never null */
 const char *wkb_kind_text(wkb_kind kind);
 
 /** Writes what a fault says as one line: the text of its status, the type code, the byte of the input at which the part
@@ -231,35 +228,30 @@ const char *wkb_kind_text(wkb_kind kind);
  * @param fault     the fault; not null
  * @param[out] out  the text: at most room - 1 of its characters, and a terminating NUL; may be null if room is 0
  * @param room      the capacity of out in bytes; nothing is cut off if it is WKB_FAULT_TEXT_ROOM
- * @return the length of the whole text in bytes, without the NUL
- * @since 1.0 */
+ * @return the length of the whole text in bytes, without the NUL */
 size_t wkb_fault_text(const wkb_fault *fault, char *out, size_t room);
 
 /** Tells whether a status says that the input is rejected.
  *
  * @param status  any number
- * @return 1 if the status is 32 or more, else 0
- * @since 1.0 */
+ * @return 1 if the status is 32 or more, else 0 */
 int wkb_status_is_refusal(wkb_status status);
 /** Tells whether a status says that the input ends before its geometry does, so that bytes are missing.
  *
  * @param status  any number
- * @return 1 if the status is WKB_STATUS_SHORT_HEADER, or 48 or more, else 0
- * @since 1.0 */
+ * @return 1 if the status is WKB_STATUS_SHORT_HEADER, or 48 or more, else 0 */
 static inline int wkb_status_is_early_end(wkb_status status) {
   return status == WKB_STATUS_SHORT_HEADER || status >= WKB_STATUS_SHORT_POINT;
 }
 /** Tells whether a status says that a row of a column is null or invalid, whatever its bytes are.
  *
  * @param status  any number
- * @return 1 if the status is from 16 to 31, else 0
- * @since 1.0 */
+ * @return 1 if the status is from 16 to 31, else 0 */
 static inline int wkb_status_is_of_row(wkb_status status) { return status >= 16 && status < 32; }
 /** Tells whether a status says that the call failed.
  *
  * @param status  any number
- * @return 1 if the status is from 1 to 15, else 0
- * @since 1.0 */
+ * @return 1 if the status is from 1 to 15, else 0 */
 static inline int wkb_status_is_failure(wkb_status status) { return status >= 1 && status < 16; }
 
 /** Validates the geometry at the start of the input: it has to follow the grammar, with at most 128 collections inside
@@ -269,8 +261,7 @@ static inline int wkb_status_is_failure(wkb_status status) { return status >= 1 
  * @param len         its length in bytes
  * @param[out] found  what the geometry is, written if the result is WKB_STATUS_OK; may be null
  * @param[out] fault  the first error, written if the input is rejected; may be null
- * @return WKB_STATUS_OK, or a status of 32 or more if the input is rejected
- * @since 1.0 */
+ * @return WKB_STATUS_OK, or a status of 32 or more if the input is rejected */
 wkb_status wkb_check(const void *buf, size_t len, wkb_found *found, wkb_fault *fault);
 
 /** Computes the bounds of the input's geometry.
@@ -279,8 +270,7 @@ wkb_status wkb_check(const void *buf, size_t len, wkb_found *found, wkb_fault *f
  * @param len         its length in bytes
  * @param[out] box    the bounds, written if the result is WKB_STATUS_OK; may be null
  * @param[out] fault  the first error, written if the input is rejected; may be null
- * @return WKB_STATUS_OK, or the status of wkb_check() if the input is rejected
- * @since 1.0 */
+ * @return WKB_STATUS_OK, or the status of wkb_check() if the input is rejected */
 wkb_status wkb_bounds(const void *buf, size_t len, wkb_box *box, wkb_fault *fault);
 
 /** Writes the one encoding of the input's geometry under the options.
@@ -294,8 +284,7 @@ wkb_status wkb_bounds(const void *buf, size_t len, wkb_box *box, wkb_fault *faul
  *                    WKB_STATUS_NO_ROOM; may be null
  * @param[out] fault  the first error, written if the input is rejected; may be null
  * @return WKB_STATUS_OK; WKB_STATUS_NO_ROOM if the encoding is longer than room; WKB_STATUS_UNKNOWN_OPTION if the
- *         options are invalid, whatever the input is; or the status of wkb_check() if the input is rejected
- * @since 1.0 */
+ *         options are invalid, whatever the input is; or the status of wkb_check() if the input is rejected */
 wkb_status wkb_write(const void *buf, size_t len, const wkb_options *options, void *out, size_t room, size_t *size,
                      wkb_fault *fault);
 
@@ -309,8 +298,7 @@ wkb_status wkb_write(const void *buf, size_t len, const wkb_options *options, vo
  * @param[out] equal  1 if the geometries are equal, else 0, written if the result is WKB_STATUS_OK; may be null
  * @param[out] fault  the first error of the input that is rejected, written if one is; may be null
  * @param[out] which  1 if a is rejected, 2 if only b is, written if one is; may be null
- * @return WKB_STATUS_OK, or the status of wkb_check() for a, or else for b, if it is rejected
- * @since 1.0 */
+ * @return WKB_STATUS_OK, or the status of wkb_check() for a, or else for b, if it is rejected */
 wkb_status wkb_same(const void *a, size_t a_len, const void *b, size_t b_len, uint32_t *equal, wkb_fault *fault,
                     uint32_t *which);
 
@@ -324,8 +312,7 @@ wkb_status wkb_same(const void *a, size_t a_len, const void *b, size_t b_len, ui
  *                    WKB_STATUS_NO_ROOM; may be null
  * @param[out] fault  the first error, written if the input is rejected; may be null
  * @return WKB_STATUS_OK; WKB_STATUS_NO_ROOM if the table is longer than room; or the status of wkb_check() if the input
- *         is rejected
- * @since 1.0 */
+ *         is rejected */
 wkb_status wkb_parts(const void *buf, size_t len, wkb_part *parts, size_t room, size_t *count, wkb_fault *fault);
 
 /** Moves on to the next part of any bytes, in preorder, also of an input that is rejected.
@@ -339,8 +326,7 @@ wkb_status wkb_parts(const void *buf, size_t len, wkb_part *parts, size_t room, 
  *                      written: the part as in wkb_parts(), but end is where its own coordinates end, or its rings or
  *                      members start, and next is how many rings of a polygon come directly after it; any numbers are
  *                      safe; not null
- * @return 1 if the next part is there up to its rings or members; else 0, and part is unchanged
- * @since 1.0 */
+ * @return 1 if the next part is there up to its rings or members; else 0, and part is unchanged */
 uint32_t wkb_next_part(const void *buf, size_t len, wkb_part *part);
 
 /** Validates each row as wkb_check() does. No row stops the others.
@@ -348,8 +334,7 @@ uint32_t wkb_next_part(const void *buf, size_t len, wkb_part *part);
  * @param column         the rows; not null
  * @param[out] statuses  one byte per row: what wkb_check() returns, WKB_STATUS_NULL_ROW or WKB_STATUS_BAD_OFFSETS; may
  *                       be null if there are no rows
- * @note No byte of a row that is WKB_STATUS_NULL_ROW or WKB_STATUS_BAD_OFFSETS is read (tested).
- * @since 1.0 */
+ * @note No byte of a row that is WKB_STATUS_NULL_ROW or WKB_STATUS_BAD_OFFSETS is read (tested). */
 void wkb_column_check(const wkb_column *column, uint8_t *statuses);
 
 /** Validates each row as wkb_check() does, and finds what its geometry is. No row stops the others.
@@ -357,8 +342,7 @@ void wkb_column_check(const wkb_column *column, uint8_t *statuses);
  * @param column         the rows; not null
  * @param[out] found     an entry a row: what wkb_check() finds, or all zeros if the row's status isn't WKB_STATUS_OK;
  *                       may be null
- * @param[out] statuses  one byte per row, as for wkb_column_check(); may be null if there are no rows
- * @since 1.0 */
+ * @param[out] statuses  one byte per row, as for wkb_column_check(); may be null if there are no rows */
 void wkb_column_found(const wkb_column *column, wkb_found *found, uint8_t *statuses);
 
 /** Computes the bounds of each row as wkb_bounds() does. No row stops the others.
@@ -366,8 +350,7 @@ void wkb_column_found(const wkb_column *column, wkb_found *found, uint8_t *statu
  * @param column         the rows; not null
  * @param[out] boxes     an entry a row: its bounds, or those of a geometry without coordinates if the row's status
  *                       isn't WKB_STATUS_OK; may be null if there are no rows
- * @param[out] statuses  one byte per row, as for wkb_column_check(); may be null if there are no rows
- * @since 1.0 */
+ * @param[out] statuses  one byte per row, as for wkb_column_check(); may be null if there are no rows */
 void wkb_column_bounds(const wkb_column *column, wkb_box *boxes, uint8_t *statuses);
 
 /** Lists the parts of each row as wkb_parts() does, the tables one after another. No row stops the others.
@@ -382,8 +365,7 @@ void wkb_column_bounds(const wkb_column *column, wkb_box *boxes, uint8_t *status
  * @param[out] ends      one number per row, in entries; may be null if there are no rows
  * @param[out] statuses  one byte per row, as for wkb_column_check(), or WKB_STATUS_NO_ROOM if the table would end at
  *                       ends[i], which is more than room; may be null if there are no rows
- * @return the last end, or 0 without rows (tested).
- * @since 1.0 */
+ * @return the last end, or 0 without rows (tested). */
 size_t wkb_column_parts(const wkb_column *column, wkb_part *parts, size_t room, uint64_t *ends, uint8_t *statuses);
 
 /** Writes the one encoding of each row as wkb_write() does, one after another. No row stops the others.
@@ -399,8 +381,7 @@ size_t wkb_column_parts(const wkb_column *column, wkb_part *parts, size_t room, 
  * @param[out] statuses  one byte per row, as for wkb_column_check(), or WKB_STATUS_NO_ROOM if the encoding would end at
  *                       ends[i], which is more than room, or WKB_STATUS_UNKNOWN_OPTION if the row isn't null, its
  *                       offsets are good, and the options are invalid; may be null if there are no rows
- * @return the last end, or 0 without rows (tested).
- * @since 1.0 */
+ * @return the last end, or 0 without rows (tested). */
 size_t wkb_column_write(const wkb_column *column, const wkb_options *options, void *out, size_t room, uint64_t *ends,
                         uint8_t *statuses);
 
@@ -428,8 +409,7 @@ size_t wkb_column_write(const wkb_column *column, const wkb_options *options, vo
  *         is none of these four, or the dimension or the options are invalid, whatever the rows are;
  *         WKB_STATUS_TOO_MANY_ROWS if these are valid, and there are 2^32 rows or more; or else the status of the first
  *         row that can't be a member: WKB_STATUS_NULL_ROW, WKB_STATUS_BAD_OFFSETS, or 32 or more if it is rejected
- * @note With WKB_STATUS_UNKNOWN_OPTION and WKB_STATUS_TOO_MANY_ROWS no row is read (tested).
- * @since 1.0 */
+ * @note With WKB_STATUS_UNKNOWN_OPTION and WKB_STATUS_TOO_MANY_ROWS no row is read (tested). */
 wkb_status wkb_collect(const wkb_column *column, wkb_kind kind, wkb_dim dimension, const wkb_options *options,
                        void *out, size_t room, size_t *size, wkb_fault *fault, size_t *row);
 
@@ -473,8 +453,7 @@ typedef struct wkb_coordinates {
  * @param[out] statuses  one byte per row, as for wkb_column_check(), or WKB_STATUS_NO_ROOM if one of the three
  *                       capacities is too small for the row, whose end would be row_ends[i], and none of the row is
  *                       written, or WKB_STATUS_UNKNOWN_OPTION if the row isn't null, its offsets are good, and the
- *                       dimension is invalid; may be null if there are no rows
- * @since 1.0 */
+ *                       dimension is invalid; may be null if there are no rows */
 void wkb_column_coordinates(const wkb_column *column, wkb_dim dimension, wkb_coordinates *out, uint8_t *statuses);
 
 /** Levels to read, as wkb_coordinates has them.
@@ -530,8 +509,7 @@ typedef struct wkb_levels {
  *                       if the encoding would end at ends[i], which is more than room, or WKB_STATUS_UNKNOWN_OPTION if
  *                       the row isn't null, and the kind, the dimension or the options are invalid; may be null if
  *                       there are no rows
- * @return the last end, or 0 without rows (tested).
- * @since 1.0 */
+ * @return the last end, or 0 without rows (tested). */
 size_t wkb_column_from_coordinates(const wkb_levels *levels, wkb_kind kind, wkb_dim dimension,
                                    const wkb_options *options, void *out, size_t room, uint64_t *ends,
                                    uint8_t *statuses);
@@ -540,8 +518,7 @@ size_t wkb_column_from_coordinates(const wkb_levels *levels, wkb_kind kind, wkb_
  *
  * @param words       the point's words, to which the levels point
  * @param word_count  the number of words: the width of the point's dimension
- * @return the levels
- * @since 1.0 */
+ * @return the levels */
 static inline wkb_levels wkb_one_point(const double *words, size_t word_count) {
   wkb_levels levels;
   memset(&levels, 0, sizeof levels);
@@ -555,8 +532,7 @@ static inline wkb_levels wkb_one_point(const double *words, size_t word_count) {
  * needs.
  *
  * @param found  what wkb_check() has written; not null
- * @return the entry
- * @since 1.0 */
+ * @return the entry */
 static inline wkb_part wkb_whole(const wkb_found *found) {
   wkb_part whole = {0,           found->size,     found->offset, found->count,     found->parts, found->srid,
                     found->has_srid, found->kind, found->dimension, found->width, found->order};
@@ -569,15 +545,13 @@ static inline wkb_part wkb_whole(const wkb_found *found) {
  * @param part      an entry for a ring, point or line string in it, from wkb_parts() or wkb_whole(); not null
  * @param first     the index of the first coordinate
  * @param count     the number of coordinates; first + count is at most the part's count
- * @param[out] out  the words: capacity for count times the part's width of them; may be null if count is 0
- * @since 1.0 */
+ * @param[out] out  the words: capacity for count times the part's width of them; may be null if count is 0 */
 void wkb_words(const void *buf, const wkb_part *part, uint64_t first, uint64_t count, double *out);
 
 /** Returns the little-endian number in eight bytes.
  *
  * @param b  the bytes; not null
- * @return the number
- * @since 1.0 */
+ * @return the number */
 static inline uint64_t wkb_little_word(const uint8_t *b) {
   uint64_t b0 = b[0], b1 = b[1], b2 = b[2], b3 = b[3], b4 = b[4], b5 = b[5], b6 = b[6], b7 = b[7];
   return b0 | b1 << 8 | b2 << 16 | b3 << 24 | b4 << 32 | b5 << 40 | b6 << 48 | b7 << 56;
@@ -586,8 +560,7 @@ static inline uint64_t wkb_little_word(const uint8_t *b) {
 /** Returns the big-endian number in eight bytes.
  *
  * @param b  the bytes; not null
- * @return the number
- * @since 1.0 */
+ * @return the number */
 static inline uint64_t wkb_big_word(const uint8_t *b) {
   uint64_t b0 = b[0], b1 = b[1], b2 = b[2], b3 = b[3], b4 = b[4], b5 = b[5], b6 = b[6], b7 = b[7];
   return b7 | b6 << 8 | b5 << 16 | b4 << 24 | b3 << 32 | b2 << 40 | b1 << 48 | b0 << 56;
@@ -601,8 +574,7 @@ static inline uint64_t wkb_big_word(const uint8_t *b) {
  * @param part  an entry for a ring, point or line string in it, from wkb_parts() or wkb_whole(); not null
  * @param i     the index of the coordinate, below the part's count
  * @param n     the index of the word in it, below the part's width
- * @return the word as a number
- * @since 1.0 */
+ * @return the word as a number */
 static inline double wkb_word(const void *buf, const wkb_part *part, uint64_t i, unsigned n) {
 #ifdef __cplusplus
   const uint8_t *front = static_cast<const uint8_t *>(buf);
