@@ -2,19 +2,15 @@
  * all constants of a type without a default, and sizes and counts of C's own type. */
 #include "wkb.h"
 
-/* A switch over a number is never full for a compiler, so each has an end of its own. */
-int words_of(wkb_dim dimension);
-int words_of(wkb_dim dimension) {
-  switch (dimension) {
-    case WKB_DIM_XY: return 2;
-    case WKB_DIM_XYZ:
-    case WKB_DIM_XYM: return 3;
-    case WKB_DIM_XYZM: return 4;
-  }
-  return 0;
-}
+/* Lengths that are negative where a number has no four bytes, and where the version is another one. */
+extern const char four[sizeof(wkb_status) + sizeof(wkb_kind) + sizeof(wkb_dim) + sizeof(wkb_order) == 16 ? 1 : -1];
+#undef WKB_VERSION_MINOR
+#undef WKB_VERSION_PATCH
+#define WKB_VERSION_MINOR 2
+#define WKB_VERSION_PATCH 3
+extern const char version[WKB_VERSION == 1002003 && sizeof(wkb_form) == 4 ? 1 : -1];
 
-int class_of(wkb_status status);
+/* A switch over a number is never full for a compiler, so it has an end of its own. */
 int class_of(wkb_status status) {
   switch (status) {
     case WKB_STATUS_OK: return 0;
@@ -26,7 +22,6 @@ int class_of(wkb_status status) {
 }
 
 /* Writes an input in the other order, and returns how many bytes and parts there are. */
-size_t turned(const void *buf, size_t len, void *out, size_t room, char *text, size_t text_room);
 size_t turned(const void *buf, size_t len, void *out, size_t room, char *text, size_t text_room) {
   wkb_found found;
   wkb_fault fault;
@@ -44,7 +39,6 @@ size_t turned(const void *buf, size_t len, void *out, size_t room, char *text, s
 }
 
 /* How long the rows are as one geometry, or else which row can't be a member. */
-size_t length_of(const wkb_column *column, size_t *row);
 size_t length_of(const wkb_column *column, size_t *row) {
   const wkb_options options = {WKB_ORDER_LITTLE, WKB_FORM_ISO, 0};
   size_t size = 0;
@@ -54,7 +48,6 @@ size_t length_of(const wkb_column *column, size_t *row) {
 }
 
 /* The rooms that a column needs. */
-size_t rooms_of(const wkb_column *column, const wkb_levels *levels, uint64_t *ends, uint8_t *statuses);
 size_t rooms_of(const wkb_column *column, const wkb_levels *levels, uint64_t *ends, uint8_t *statuses) {
   const wkb_options options = {WKB_ORDER_LITTLE, WKB_FORM_ISO, 0};
   size_t parts = wkb_column_parts(column, NULL, 0, ends, statuses);
