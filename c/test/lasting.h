@@ -29,7 +29,4 @@ bool is_kept(const void *from, size_t len);
 /* FNV-1a in 32 bits, from a sum on, over items of one byte, of eight, or of a part. Numbers count as in little endian. */
 uint32_t summed(uint32_t sum, const void *of, size_t len, size_t item);
 
-/* The rows as a column, in the calls for columns. */
-void what_lasts_is_as_it_was_in_columns(void);
-
 #endif

@@ -13,6 +13,7 @@ int main(void) {
   levels_are_right();
   printf("levels are written as they must\n");
   what_lasts_is_as_it_was();
+  what_lasts_is_as_it_was_in_columns();
   little_stack_is_taken();
   printf("calls take little stack\n");
   return 0;

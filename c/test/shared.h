@@ -32,5 +32,6 @@ void texts_are_right(void);
 void levels_are_right(void);
 void little_stack_is_taken(void);
 void what_lasts_is_as_it_was(void);
+void what_lasts_is_as_it_was_in_columns(void);
 
 #endif
