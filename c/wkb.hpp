@@ -229,12 +229,13 @@ class part {
  private:
   friend class reader;
   friend std::optional<part> try_read(bytes input, std::span<wkb_part> table, wkb_fault *fault) noexcept;
+  part() = default;
   part(const std::byte *input, const wkb_part *table, const wkb_part *entry) noexcept
       : input_(input), table_(table), entry_(entry) {}
 
-  const std::byte *input_;
-  const wkb_part *table_;
-  const wkb_part *entry_;
+  const std::byte *input_ = nullptr;
+  const wkb_part *table_ = nullptr;
+  const wkb_part *entry_ = nullptr;
 };
 
 // Iterates over the rings or members of a part.
@@ -247,27 +248,22 @@ class part::iterator {
 
   iterator() = default;
 
-  part operator*() const noexcept { return part(input_, table_, entry_); }
-  iterator &operator++() noexcept {
-    entry_ = table_ + entry_->next;
-    return *this;
-  }
-  iterator operator++(int) noexcept { return std::exchange(*this, iterator(input_, table_, table_ + entry_->next)); }
-  bool operator==(const iterator &other) const noexcept { return entry_ == other.entry_; }
+  part operator*() const noexcept { return at_; }
+  // The next part is at the end of this one's own.
+  iterator &operator++() noexcept { return *this = at_.end(); }
+  iterator operator++(int) noexcept { return std::exchange(*this, at_.end()); }
+  bool operator==(const iterator &other) const noexcept { return at_.entry_ == other.at_.entry_; }
 
  private:
   friend class part;
-  iterator(const std::byte *input, const wkb_part *table, const wkb_part *entry) noexcept
-      : input_(input), table_(table), entry_(entry) {}
+  explicit iterator(const part &at) noexcept : at_(at) {}
 
-  const std::byte *input_ = nullptr;
-  const wkb_part *table_ = nullptr;
-  const wkb_part *entry_ = nullptr;
+  part at_{};
 };
 
 // The next entry is that of the first ring or member, or the end if there is none.
-inline part::iterator part::begin() const noexcept { return {input_, table_, entry_ + 1}; }
-inline part::iterator part::end() const noexcept { return {input_, table_, table_ + entry_->next}; }
+inline part::iterator part::begin() const noexcept { return iterator({input_, table_, entry_ + 1}); }
+inline part::iterator part::end() const noexcept { return iterator({input_, table_, table_ + entry_->next}); }
 
 // Reads the input's geometry into the start of TABLE, which takes as many entries as check finds parts. If the input is
 // rejected or TABLE is too small, it returns nothing, TABLE is unchanged, and FAULT says why, unless it is null.
