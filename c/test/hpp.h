@@ -30,13 +30,6 @@ inline input spelled(const std::string &text) {
   return bytes;
 }
 
-// The same numbers in each run.
-inline std::uint64_t below(std::uint64_t count) {
-  static std::uint64_t state = 1;
-  state ^= state << 13, state ^= state >> 7, state ^= state << 17;
-  return state % count;
-}
-
 template <typename Record>
 bool is_same(const Record &a, const Record &b) {
   return std::memcmp(&a, &b, sizeof a) == 0;
@@ -55,15 +48,11 @@ inline const input POLYGONS = spelled(
     "000000000300000000"
     "000000000300000002" "00000001" "3ff00000000000004000000000000000" "00000000");
 
-constexpr std::size_t ROWS = 70, MOST_BITS = 200;
-
-// Rows as a column. Of some columns every few rows are null, with bits of validity that begin anywhere.
+// Rows as a column.
 template <typename Offset = std::int32_t>
 struct filled {
-  std::size_t first = below(MOST_BITS);
   input data{};
   std::vector<Offset> offsets{0};
-  std::vector<std::uint8_t> validity = std::vector<std::uint8_t>((ROWS + MOST_BITS) / 8 + 1);
 
   filled(const auto &...rows) { (add(spelled(rows)), ...); }
   void add(const input &it) {
@@ -72,12 +61,6 @@ struct filled {
   }
   wkb_column column(const void *bits = nullptr, std::size_t begin = 0) const {
     return wkb::column(data, std::span<const Offset>(offsets), bits, begin);
-  }
-  // Some of its rows are null, and every second column has a bad offset.
-  wkb_column spoiled() {
-    for (std::uint8_t &byte : validity) byte = static_cast<std::uint8_t>(below(4) ? 255 : below(256));
-    if (below(2) == 0) offsets[below(offsets.size())] = static_cast<Offset>(below(data.size() + 9)) - 4;
-    return column(below(8) ? validity.data() : nullptr, first);
   }
 };
 

@@ -89,17 +89,14 @@ void exceptions() {
 // The row that can't be a member.
 void rows_that_are_no_members() {
   const filled all(POINT_TEXT, "010200000000000000", "");
-  const std::uint8_t validity = 1;
-  const auto throws_at = [&](std::size_t row, wkb_kind kind, const void *valid, const char *text) {
-    wkb_column column = all.column(valid);
-    column.rows = row + 1;
-    throws<wkb::refused_row>(text, [&] { wkb::collect(column, kind, WKB_DIM_XY, BIG); }, nothing,
+  const auto throws_at = [&](std::size_t row, wkb_kind kind, const std::string &text, std::uint8_t validity = 7) {
+    throws<wkb::refused_row>(text, [&] { wkb::collect(all.column(&validity), kind, WKB_DIM_XY, BIG); }, nothing,
                              [&](const wkb::refused_row &it) { return it.row() == row; });
   };
-  throws_at(1, WKB_KIND_MULTI_POINT, nullptr,
+  throws_at(1, WKB_KIND_MULTI_POINT,
             "a member has the wrong kind, dimension or SRID for its multi geometry, at byte 0 (part 0)");
-  throws_at(2, WKB_KIND_GEOMETRY_COLLECTION, nullptr, SAYS_ENDED.c_str());
-  throws_at(1, WKB_KIND_GEOMETRY_COLLECTION, &validity, "the row is null");
+  throws_at(2, WKB_KIND_GEOMETRY_COLLECTION, SAYS_ENDED);
+  throws_at(1, WKB_KIND_GEOMETRY_COLLECTION, "the row is null", 1);
   throws<std::invalid_argument>(SAYS_UNKNOWN, [&] { wkb::collect(all.column(), WKB_KIND_POINT, WKB_DIM_XY, BIG); },
                                 nothing);
 }

@@ -4,8 +4,6 @@
 #include "wkb_facts.hpp"
 
 void drop(wkb::bytes in, const wkb_options &options, std::vector<std::byte> &out, std::span<wkb_part> table,
-          wkb::reader &reader, const wkb_column &rows);
-void drop(wkb::bytes in, const wkb_options &options, std::vector<std::byte> &out, std::span<wkb_part> table,
           wkb::reader &reader, const wkb_column &rows) {
   wkb::check(in);  // dropped
   wkb::try_bounds(in);  // dropped
@@ -27,7 +25,6 @@ void drop(wkb::bytes in, const wkb_options &options, std::vector<std::byte> &out
   reader.read(in);
 }
 
-wkb::part kept(wkb::bytes in, wkb::reader &reader);
 wkb::part kept(wkb::bytes in, wkb::reader &reader) {
   wkb::reader own;
   auto part = wkb::reader{}.read(in);  // outlived
