@@ -1,7 +1,7 @@
 /* A reader of columns as a C programmer writes it who trusts no length and proves nothing: one pass over each row, a
  * test of the bounds before each number and before the coordinates of each ring, no memory but the caller's. It takes
  * the kinds of members as they come. */
-#include "plain_columns.h"
+#include "plain.h"
 
 #include <stdbool.h>
 

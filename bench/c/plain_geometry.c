@@ -1,6 +1,6 @@
 /* A geometry as a C programmer writes it, or takes its bounds, who trusts no length and proves nothing: one pass, which
  * checks on its way what wkb_check checks. */
-#include "plain_geometry.h"
+#include "plain.h"
 
 #include <math.h>
 #include <stdbool.h>

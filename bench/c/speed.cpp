@@ -4,8 +4,7 @@
 // speed --count: calls each once over all geometries of a shape, between two looks at the clock, and prints a line for
 // it: the shape, the call and the geometries, with tabs between them. bench/instructions counts what lies between, also
 // of plain C, which checks/hosts/fuzz compares with the library.
-#include "plain_columns.h"
-#include "plain_geometry.h"
+#include "plain.h"
 #include "speed_shapes.hpp"
 
 #include <cstdio>

@@ -1,7 +1,6 @@
 /* A target for libFuzzer: the calls for columns, row by row beside the calls for one input and plain C. An input is
  * choices, the rows' validity, a step from each offset to the next, and the data. */
 #include "fuzz.h"
-#include "plain_columns.h"
 
 enum { ROWS_MOST = 16, VALIDITY = 4, CHOICES = 8, FRONT = 9, LEVELS_MOST = 1 << 14 };
 

@@ -1,7 +1,7 @@
 /* What the targets for libFuzzer share. Each compares calls with plain C, and with calls that another target compares
  * with plain C. checks/hosts/fuzz builds and runs them. */
 #define _GNU_SOURCE
-#include "plain_geometry.h"
+#include "plain.h"
 
 #include <math.h>
 #include <sys/mman.h>
