@@ -168,16 +168,13 @@ static const char *name_of(const list *items) { return items->is_of_rings ? "rin
 /* Shows the line before the item of the innermost lists, from a depth on: how many are left out, and its index. */
 static void put_headings(dump *it, uint32_t from) {
   uint32_t depth = it->depth;
-  for (it->depth = from; it->depth <= depth; it->depth++) {
-    list *items = &it->lists[it->depth - 1];
+  for (it->depth = from - 1; it->depth < depth; it->depth++) {
+    const list *items = &it->lists[it->depth];
     uint32_t item = items->begun - 1;
-    it->depth--;
     if (items->left_out > 0) put_left_out(it, items->left_out, name_of(items));
     put_line(it, "%10s%*s- %s %" PRIu32 "%s", "", indent_of(it), "", name_of(items), item,
              !items->is_of_rings ? "" : item == 0 ? ", exterior" : ", interior");
-    it->depth++;
   }
-  it->depth = depth;
 }
 
 /* Begins the next item of the innermost list. */
