@@ -86,45 +86,37 @@ static void are_checked(const wkb_column *column) {
   expect(is_kept(&found[rows], sizeof found[0]) && is_kept(&boxes[rows], sizeof boxes[0]), "a row more", "");
 }
 
+/* The parts of all rows, or under options their encodings, in a room. */
+static size_t put(const wkb_column *column, const wkb_options *options, size_t room) {
+  if (options == NULL) return wkb_column_parts(column, room ? parts : NULL, room, ends, statuses);
+  return wkb_column_write(column, options, room ? out : NULL, room, ends, statuses);
+}
+
 /* The items of rows, of a size each, that a call has put into a room, of which it tells the ends. */
-static void are_put(const uint8_t *items, size_t item, size_t room, size_t total, int sum) {
-  uint64_t start = 0, put = 0;
+static void are_in(const uint8_t *items, size_t item, size_t room, size_t total, int sum) {
+  uint64_t start = 0, last = 0;
   for (size_t i = 0; i < rows; start = ends[i++]) {
     expect(statuses[i] == status_in(i, ends[i], room), "the status of a row in a room", "");
     expect(is_good(i) ? ends[i] > start : ends[i] == start, "the end of a row", "");
     if (statuses[i] != WKB_STATUS_OK) continue;
     const uint32_t found_sum = summed(NO_SUM, items + item * start, item * (size_t)(ends[i] - start), item);
     expect(found_sum == of[i - 1].sums[sum], "the items of a row", sum == OF_PARTS ? "parts" : "bytes");
-    put = ends[i];
+    last = ends[i];
   }
   expect(start == total && statuses[rows] == UNTOUCHED && is_kept(&ends[rows], sizeof ends[0]), "the last end", "");
-  expect(is_kept(items + item * put, item * (total + 1 - put)), "more was written", "");
+  expect(is_kept(items + item * last, item * (total + 1 - last)), "more was written", "");
 }
 
 /* In room for all, for all but the last item, for half of them, for one and in none. */
-static void are_listed(const wkb_column *column) {
-  const size_t total = wkb_column_parts(column, NULL, 0, ends, statuses), rooms[] = {total, total - 1, total / 2, 1, 0};
-  expect(total < PARTS_MOST, "too many parts", "");
+static void are_put(const wkb_column *column, const wkb_options *options, int sum) {
+  uint8_t *items = options ? out : (uint8_t *)parts;
+  const size_t item = options ? 1 : sizeof parts[0], total = put(column, options, 0);
+  const size_t rooms[] = {total, total - 1, total / 2, 1, 0};
+  expect(total < (options ? (size_t)OUT_MOST : PARTS_MOST), "too many items", "");
   for (int k = 0; k < 5; k++) {
-    clear(parts, sizeof parts);
-    size_t all = wkb_column_parts(column, rooms[k] ? parts : NULL, rooms[k], ends, statuses);
-    expect(all == total, "all parts", "");
-    are_put((const uint8_t *)parts, sizeof parts[0], rooms[k], total, OF_PARTS);
-  }
-}
-
-static void are_written(const wkb_column *column) {
-  for (uint32_t i = 0; i < OPTION_COUNT; i++) {
-    const wkb_options options = {i / 4, i % 4, CALLER_SRID};
-    const size_t total = wkb_column_write(column, &options, NULL, 0, ends, statuses);
-    const size_t rooms[] = {total, total - 1, total / 2, 0};
-    expect(total < OUT_MOST, "too many bytes", "");
-    for (int k = 0; k < 4; k++) {
-      clear(out, sizeof out);
-      size_t all = wkb_column_write(column, &options, rooms[k] ? out : NULL, rooms[k], ends, statuses);
-      expect(all == total, "all bytes", "");
-      are_put(out, 1, rooms[k], total, (int)i);
-    }
+    clear(items, item * (total + 1));
+    expect(put(column, options, rooms[k]) == total, "all items", "");
+    are_in(items, item, rooms[k], total, sum);
   }
 }
 
@@ -230,8 +222,9 @@ void what_lasts_is_as_it_was_in_columns(void) {
   for (int i = 0; i < 6; i++) {
     const wkb_column column = column_from(first_bits[i / 2], i % 2);
     are_checked(&column);
-    are_listed(&column);
-    are_written(&column);
+    are_put(&column, NULL, OF_PARTS);
+    for (uint32_t number = 0; number < OPTION_COUNT; number++)
+      are_put(&column, &(wkb_options){number / 4, number % 4, CALLER_SRID}, (int)number);
     are_split(&column);
     are_sliced(&column);
   }

@@ -54,29 +54,18 @@ void expect(bool holds, const char *what, const char *where) {
   exit(1);
 }
 
-/* The word of a capital letter. */
-static const char *letter(char name) {
-  switch (name) {
-    case 'P': return "000000000000f03f 0000000000000040";
-    case 'W': return "000000000000f03f";
-    case 'X': return "0000000000000040";
-    case 'Y': return "0000000000000840";
-    case 'Z': return "0000000000001040";
-    case 'N': return "000000000000f87f";
-    case 'I': return "000000000000f07f";
-    case 'J': return "000000000000f0ff";
-    case 'O': return "0000000000000000";
-    case 'M': return "0000000000000080";
-  }
-  return NULL;
-}
+/* The words of capital letters. */
+static const char *const WORDS['Z' + 1] = {
+    ['P'] = "000000000000f03f 0000000000000040", ['W'] = "000000000000f03f", ['X'] = "0000000000000040",
+    ['Y'] = "0000000000000840", ['Z'] = "0000000000001040", ['N'] = "000000000000f87f", ['I'] = "000000000000f07f",
+    ['J'] = "000000000000f0ff", ['O'] = "0000000000000000", ['M'] = "0000000000000080"};
 
 size_t spelled(const char *text, uint8_t *bytes) {
   size_t len = 0;
   for (; *text != '\0'; text++) {
     if (*text == ' ') continue;
-    if (letter(*text)) {
-      len += spelled(letter(*text), bytes + len);
+    if (*text >= 'A' && *text <= 'Z' && WORDS[(int)*text]) {
+      len += spelled(WORDS[(int)*text], bytes + len);
       continue;
     }
     char digits[3] = {text[0], text[1], '\0'}, *end;
