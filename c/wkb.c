@@ -327,19 +327,17 @@ void wkb_column_coordinates(const wkb_column *column, wkb_dim dimension, wkb_coo
 
 /* Returns levels with the lengths of their slices, if there are rows. */
 static wkb_raw_level_column unpacked_levels(const wkb_levels *levels) {
-  static const double no_words[1] = {0};
-  static const uint64_t no_ends[1] = {0};
   size_t validity = validity_len(levels->validity, levels->validity_offset, levels->rows);
   wkb_raw_level_column raw = {
-      .words = levels->word_count == 0 ? no_words : levels->words,
+      .words = levels->word_count == 0 ? (const double *)NOTHING : levels->words,
       .word_count = levels->word_count,
-      .ring_ends = levels->ring_ends ? levels->ring_ends : no_ends,
+      .ring_ends = levels->ring_ends ? levels->ring_ends : NOTHING,
       .ring_end_count = levels->ring_ends ? levels->rings : 0,
       .rings = levels->rings,
-      .single_ends = levels->single_ends ? levels->single_ends : no_ends,
+      .single_ends = levels->single_ends ? levels->single_ends : NOTHING,
       .single_end_count = levels->single_ends ? levels->singles : 0,
       .singles = levels->singles,
-      .row_ends = levels->row_ends ? levels->row_ends : no_ends,
+      .row_ends = levels->row_ends ? levels->row_ends : NOTHING,
       .row_end_count = levels->row_ends ? levels->rows : 0,
       .rows = levels->rows,
       .validity = bytes_of(levels->validity, validity),
