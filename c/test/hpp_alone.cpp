@@ -1,6 +1,6 @@
 // Tries what wkb.hpp has and wkb.h has not: exceptions, each refused allocation, readers that are copied and moved,
-// room, levels without ends, words that no input has, and facts. After an error an object is as it was or
-// empty, and no memory is lost. It prints nothing, and an error if there is one.
+// room, levels without ends, words that no input has, and facts. After an error an object is as it was or empty, and no
+// memory is lost. The examples have what the calls that throw return. It prints nothing, and an error if there is one.
 #include "hpp.h"
 
 #include <new>
@@ -82,8 +82,7 @@ void exceptions() {
   is_left();
   throws<of_two>(SAYS_ENDED, [] { wkb::same({}, POINT); }, nothing, [](const of_two &it) { return it.which() == 1; });
   throws<of_two>(SAYS_ENDED, [] { wkb::same(POINT, {}); }, nothing, [](const of_two &it) { return it.which() == 2; });
-  expect(wkb::bounds(POLYGONS).y.greatest == 2 && wkb::write(POINT, BIG).size() == 21, "bounds and a writing");
-  expect(wkb::same(POINT, wkb::write(POINT, BIG)) && !wkb::same(POINT, POLYGONS), "comparisons");
+  expect(!wkb::same(POINT, POLYGONS), "another value");
 }
 
 // The row that can't be a member.
@@ -136,7 +135,6 @@ void outputs() {
   expect(refusals(writes, is_unchanged) > 0 && refusals(writes, nothing) == 0, "an output");
   out = input(3);
   expect(refusals(collects, is_unchanged) > 0 && refusals(collects, nothing) == 0, "an output of rows");
-  expect(wkb::collect(points.column(), WKB_KIND_MULTI_POINT, WKB_DIM_XY, BIG) == multi, "collect");
 
   // An input that is longer than its geometry.
   struct { const char *begin; std::size_t size, written, room; } const cases[] = {
@@ -172,7 +170,8 @@ static_assert(!is_offset<std::uint32_t> && !is_offset<std::uint64_t> && !is_offs
 static_assert(std::ranges::view<wkb::part> && std::ranges::borrowed_range<wkb::part>);
 static_assert(std::ranges::forward_range<wkb::part> && std::forward_iterator<wkb::part::iterator>);
 
-// Levels without ends. Of words that are no whole number of coordinates no row is written, whichever levels have ends.
+// Levels without ends, which example_own.cpp has too. Of words that are no whole number of coordinates no row is
+// written, whichever levels have ends.
 void levels_without_ends() {
   const std::vector<std::uint64_t> one{1}, none{0};
   const std::vector<double> words{1, 2, 1, 2, 1, 2, 1, 2, 1, 2, 1, 2};
@@ -184,9 +183,7 @@ void levels_without_ends() {
   const auto points = write({.words = {}, .validity = &validity}, 6, WKB_KIND_POINT);
   expect(points.data == spelled(POINT_TEXT + POINT_TEXT), "points");
   expect(points.ends == std::vector<std::uint64_t>{0, 21, 42} && points.statuses[0] == WKB_STATUS_NULL_ROW, "ends");
-  const auto line = write({.words = {}, .ring_ends = one}, 2, WKB_KIND_LINE_STRING);
   const auto multi = write({.words = {}, .row_ends = one}, 2, WKB_KIND_MULTI_POINT);
-  expect(line.data == spelled("010200000001000000" + ONE_AND_TWO), "a line string");
   expect(multi.data == spelled("010400000001000000" + POINT_TEXT), "a multi point");
   for (wkb_dim dimension = WKB_DIM_XY; dimension <= WKB_DIM_XYZM; dimension++)
     for (std::size_t count = 1, width = wkb::width_of(dimension); count < words.size(); count++) {
