@@ -107,13 +107,13 @@ static void are_in(const uint8_t *items, size_t item, size_t room, size_t total,
   expect(is_kept(items + item * last, item * (total + 1 - last)), "more was written", "");
 }
 
-/* In room for all, for all but the last item, for half of them, for one and in none. */
+/* In room for more, for all, for all but the last item, for half of them, for one and in none. */
 static void are_put(const wkb_column *column, const wkb_options *options, int sum) {
   uint8_t *items = options ? out : (uint8_t *)parts;
   const size_t item = options ? 1 : sizeof parts[0], total = put(column, options, 0);
-  const size_t rooms[] = {total, total - 1, total / 2, 1, 0};
+  const size_t rooms[] = {total + 1, total, total - 1, total / 2, 1, 0};
   expect(total < (options ? (size_t)OUT_MOST : PARTS_MOST), "too many items", "");
-  for (int k = 0; k < 5; k++) {
+  for (int k = 0; k < 6; k++) {
     clear(items, item * (total + 1));
     expect(put(column, options, rooms[k]) == total, "all items", "");
     are_in(items, item, rooms[k], total, sum);
