@@ -71,7 +71,7 @@ const wkb_part *walked(wkb::bytes in, const wkb::part &part, const wkb_part *ent
     expect(part.begin() == part.end(), "members of a part that has coordinates");
     return entry;
   }
-  expect(std::ranges::distance(part) == static_cast<std::ptrdiff_t>(e.count), "how many members there are");
+  expect(std::distance(part.begin(), part.end()) == static_cast<std::ptrdiff_t>(e.count), "how many members");
   for (auto member = part.begin(); member != part.end();) entry = walked(in, *member++, entry);
   return entry;
 }
