@@ -85,6 +85,12 @@ export function result(name) {
 }
 export const copyOf = (name) => result(name).slice();
 
+/** A copy of its bytes: without a view of them, a point is written in three quarters of the time. */
+export function copyOfBytes() {
+  const at = calls.wkb_place(desk, 1) >>> 0;
+  return bytesThere.slice(at, at + (calls.wkb_size(desk, 1) >>> 0));
+}
+
 function failure(status) {
   if (status in REFUSALS) return new RangeError(REFUSALS[status]);
   const [part, offset, ...more] = result('why');
