@@ -92,7 +92,7 @@ function shapesOf(chosen, whole, [x, y]) {
   });
 }
 
-/** The drawing, so many pixels wide, and what it shows; none without a finite coordinate. */
+/** The drawing, so many pixels wide, and what it shows; an empty one without a finite coordinate. */
 export function draw(bytes, parts, width) {
   const own = parts.filter((it) => isSimple(it.kind));
   const everyPart = Math.ceil(own.length / LIMITS.parts);
@@ -101,7 +101,7 @@ export function draw(bytes, parts, width) {
   const every = Math.max(1, Math.ceil(sum(some) / LIMITS.coordinates));
   const chosen = some.map((part) => ({ part, places: placesOf(bytes, part, every) }));
   const places = chosen.flatMap((it) => it.places.filter(Boolean));
-  if (places.length === 0) return null;
+  if (places.length === 0) return { picture: '', caption: 'There is no coordinate to draw' };
   const size = { width, height: Math.round(0.65 * width) };
   const scales = scalesOf(places, size);
   const [isSome, isSample] = [places.length < sum(own), everyPart > 1 || every > 1];

@@ -5,12 +5,19 @@ import { equal, geopackageHeader, inspect } from './wkb.js';
 
 const NOUNS = { Point: 'coordinate', LineString: 'coordinate', Ring: 'coordinate', Polygon: 'ring' };
 export const nounOf = (kind) => NOUNS[kind] ?? 'member';
+/** What a part is called. */
+export function nameOf({ kind, number }) {
+  if (kind !== 'Ring') return kind ?? 'rejected part';
+  return number === 0 ? 'exterior ring' : `interior ring ${number}`;
+}
+
 export const said = (number) => number.toLocaleString('en');
 export const counted = (count, noun) => `${said(count)} ${noun}${count === 1 ? '' : 's'}`;
 /** A number in the fewest digits, as JavaScript has it, but with the sign of zero. */
 export const spelled = (it) => Object.is(it, -0) ? '-0' : String(it).replace('Infinity', 'infinity');
-/** Bytes from a place on, in spans, and what they mean. */
-export const row = (at, spans, text, more = {}) => ({ at, spans, text, ...more });
+/** Bytes from a place on, in spans, and what they mean; or how many of what are left out. */
+const row = (at, spans, text, isBad = false) => ({ at, spans, text, isBad });
+export const gap = (count, noun) => ({ spans: [], text: `.. ${counted(count, noun)}`, isGap: true });
 const wordsOf = (axes) => [...axes].map((name) => ({ length: 8, name }));
 /** Whether a part has coordinates of its own. */
 export const isSimple = (kind) => nounOf(kind) === 'coordinate';
@@ -79,16 +86,17 @@ class Fields {
   take(length, name, say) {
     const there = Math.min(length, this.view.byteLength - this.at);
     this.goesOn = there === length;
-    const value = !this.goesOn ? undefined
-      : length === 1 ? this.view.getUint8(this.at) : this.view.getUint32(this.at, this.isLittle);
-    const cut = there === 0 ? 'the input ends here' : `cut off: ${there} of ${length} bytes`;
-    const [text, isBad] = this.goesOn ? say(value) : [cut, true];
-    this.add([{ length: there, name }], text, { isBad });
+    if (!this.goesOn) {
+      const text = there === 0 ? 'the input ends here' : `cut off: ${there} of ${length} bytes`;
+      return this.add([{ length: there, name }], text, true);
+    }
+    const value = length === 1 ? this.view.getUint8(this.at) : this.view.getUint32(this.at, this.isLittle);
+    this.add([{ length, name }], ...say(value));
     return value;
   }
 
-  add(spans, text, more) {
-    this.rows.push(row(this.at, spans, text, more));
+  add(spans, text, isBad) {
+    this.rows.push(row(this.at, spans, text, isBad));
     for (const { length } of spans) this.at += length;
   }
 
@@ -128,7 +136,7 @@ class Fields {
     const word = (axis, i) => `${axis}\u00a0${spelled(this.view.getFloat64(this.at + 8 * i, this.isLittle))}`;
     for (let i = 0; i < whole - left; i++) {
       if (left > 0 && i === most - 1) {
-        this.add([], `.. ${counted(left, 'more coordinate')}`, { isGap: true });
+        this.rows.push(gap(left, 'more coordinate'));
         this.at += size * left;
       }
       this.add(wordsOf(dimension), [...dimension].map(word).join('  '));
@@ -151,6 +159,15 @@ export function rowsOf(bytes, front, part, most) {
   const own = fields.front();
   if (fields.goesOn && isSimple(own.kind)) fields.coordinates(own, most);
   return fields.rows;
+}
+
+/** The row of the end of a geometry, and of the bytes behind it. */
+export function endOf(bytes, front, parts) {
+  if (parts.at(-1).error) return [];
+  const at = front + parts[0].end;
+  const length = bytes.length - at;
+  const text = length > 0 ? `${counted(length, 'byte')} behind the geometry` : 'the end';
+  return [row(at, [{ length, name: 'rest' }], text)];
 }
 
 /** The header of a GeoPackage's blob, if the bytes begin with one: its size, and the rows of its fields. */
