@@ -58,11 +58,7 @@ export interface Part extends Header<Kind | 'Ring'> {
   next: number;
 }
 /** Without NaNs. Where there is no number it is from Infinity to -Infinity. */
-export interface Range {
-  min: number;
-  max: number;
-  count: number;
-}
+export type Range = { min: number; max: number; count: number };
 export type Bounds = { x: Range; y: Range; z: Range; m: Range };
 
 export interface WriteOptions {

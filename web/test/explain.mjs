@@ -3,7 +3,7 @@
 import assert from 'node:assert/strict';
 import { readFileSync } from 'node:fs';
 import { test } from 'node:test';
-import { compared, readFront, readParts, rowsOf } from '../out/page/explain.js';
+import { readFront, readParts, rowsOf } from '../out/page/explain.js';
 import { columnsOf, inputsOf, textOf } from '../out/page/input.js';
 import { bytesOf } from '../out/page/wkb.js';
 
@@ -11,7 +11,8 @@ const POINT = '0101000000000000000000f03f0000000000000040';
 const BIG_POINT = '00000000013ff00000000000004000000000000000';
 
 test('each byte of each row', () => {
-  const lines = readFileSync(new URL('../../c/test/lasting.rows', import.meta.url), 'utf8').split('\n').filter((it) => it && it[0] !== '#');
+  const file = readFileSync(new URL('../../c/test/lasting.rows', import.meta.url), 'utf8');
+  const lines = file.split('\n').filter((it) => it && it[0] !== '#');
   assert.equal(lines.length, 1387);
   for (const line of lines) {
     const [hex, status, first] = line.split(' ');
@@ -62,19 +63,9 @@ test('texts', () => {
   assert.deepEqual(files.map(textOf), [null, POINT, POINT, POINT]);
 });
 
-test('two inputs', () => {
-  const others = {
-    [POINT]: 'The same geometry. All bytes are the same.',
-    [BIG_POINT]: 'The same geometry. 9 bytes of 21 and 21 differ, the first at 0.',
-    '0101000000000000000000f03f0000000000000840': 'Another geometry. 1 byte of 21 and 21 differs, the first at 19.',
-    '0101000000000000000000f03f00000000000000': 'One is rejected. 1 byte of 21 and 20 differs, the first at 20.',
-  };
-  for (const [hex, text] of Object.entries(others)) assert.equal(compared(bytesOf(POINT), bytesOf(hex)), text);
-});
-
 const ONE = '000000000000f03f';
-// Rejected bytes, and of each part there is: kind, depth, where it begins, order, and how many whole coordinates it has,
-// or members or rings it claims.
+// Rejected bytes, and of each part there is: kind, depth, where it begins, order, and how many whole coordinates it
+// has, or members or rings it claims.
 const REJECTED = {
   [`010400000003000000${POINT}${BIG_POINT}01010000000000`]: [['MultiPoint', 0, 0, 'little', 3],
     ['Point', 1, 9, 'little', 1], ['Point', 1, 30, 'big', 1], ['Point', 1, 51, 'little', 0]],
@@ -97,7 +88,10 @@ test('what there is of rejected parts', () => {
 
 test('the header of a blob of a GeoPackage', () => {
   const { size, rows, header } = readFront(bytesOf(`47500003e6100000${`${ONE}0000000000000040`.repeat(2)}`));
-  assert.deepEqual([size, header.srsId], [40, 4326]);
+  assert.equal(size, 40);
+  assert.deepEqual(header, { size, srsId: 4326, isEmpty: false, axes: 'xy', envelope: [[1, 2], [1, 2]] });
+  const { srsId, isEmpty } = readFront(bytesOf('47500010ffffffff')).header;
+  assert.deepEqual([srsId, isEmpty], [-1, true]);
   assert.deepEqual(rows.map((it) => [it.at, it.spans.reduce((sum, { length }) => sum + length, 0), it.text]), [
     [0, 2, 'the header of a GeoPackage'], [2, 1, 'version 1'], [3, 1, 'flags: little endian, xy envelope'],
     [4, 4, 'SRID 4326'], [8, 16, 'x from 1 to 2'], [24, 16, 'y from 1 to 2']]);
