@@ -1,14 +1,16 @@
 //! What the check finds in a column's rows.
 
-ghost use Rattle.std.specs.Prelude.{◌+◌, ◌<◌, ◌^◌};
+ghost use Rattle.std.specs.Prelude.{◌+◌, ◌<◌, ◌^◌, ℕ};
 ghost use Rattle.wkb_abi.specs.Classes.{FitsByte};
 ghost use Rattle.wkb_abi.specs.Checks.{IsFound, all_zeros};
-ghost use Rattle.wkb_abi.specs.Columns.{Reach, RowShows, RowsShow, AreStatuses};
+ghost use Rattle.wkb_abi.specs.Columns.{Reach, IsRow, RowShows, RowsShow, AreStatuses};
 ghost use Rattle.wkb_abi.specs.RowItems.{SetsRows, rows_of};
+ghost use Rattle.wkb_abi.specs.declared.column.Column.{Column};
 
-use wkb_abi::column::{Column, found_in};
+use wkb_abi::column::{Column, check_row};
 use wkb_abi::found::{Found, NOTHING_FOUND, found_of};
 use wkb_abi::status::OK;
+use wkb_check::check_plain;
 
 /// Lays what the check finds of row i, and returns its status.
 fn find_row(column: &Column, i: usize, reach: &mut u64, found: &mut Found) -> u32
@@ -25,7 +27,25 @@ fn find_row(column: &Column, i: usize, reach: &mut u64, found: &mut Found) -> u3
             return status;
         }
     };
-    match found_in(row) {
+    match check_plain(row) {
+        Some(plain) => {
+            *found = found_of(row, &plain);
+            OK
+        }
+        None => find_any(row, found),
+    }
+}
+
+/// Lays what the check finds of a row by the long way, and returns its status.
+///
+/// It isn't inlined, so that other rows don't pay for its frame.
+#[inline(never)]
+fn find_any(row: &[u8], found: &mut Found) -> u32
+    ensures found { (column : Column) → (i : ℕ) → IsRow column i row.now
+        → RowShows IsFound all_zeros column i result found.new }
+    ensures known { FitsByte result }
+{
+    match check_row(row) {
         Ok(in_row) => {
             *found = found_of(row, &in_row);
             OK

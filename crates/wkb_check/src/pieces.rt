@@ -278,19 +278,39 @@ impl<'a> Pieces<'a> {
 
     /// The next piece, if it is a geometry in this order whose code is the number of its kind and nothing else. `next`
     /// takes it, too: this way is short where the order is a constant.
-    #[tactic(auto, using(crate::proofs::Placing::onward))]
     #[inline(always)]
     pub fn next_bare(&mut self, order: Endianness) -> Option<Piece>
         requires ahead { HasAhead self.old }
         ensures taken { TakesOrStays self.old result self.new }
         ensures none { result ≡ None → IsBareNext order self.old → ⊥ }
     {
+        self.next_bare_to(order, GEOMETRY_COLLECTION)
+    }
+
+    /// As `next_bare`, if it is a point: then the kind is a constant, too.
+    #[inline(always)]
+    pub fn next_if_point(&mut self, order: Endianness) -> Option<Piece>
+        requires { HasAhead self.old }
+        ensures { TakesOrStays self.old result self.new }
+    {
+        self.next_bare_to(order, POINT)
+    }
+
+    /// As `next_bare`, if its kind has no greater number than the last.
+    #[tactic(auto, using(crate::proofs::Placing::onward))]
+    #[inline(always)]
+    fn next_bare_to(&mut self, order: Endianness, last: u32) -> Option<Piece>
+        requires ahead { HasAhead self.old }
+        requires last { last ≤ GEOMETRY_COLLECTION }
+        ensures taken { TakesOrStays self.old result self.new }
+        ensures none { last ≡ GEOMETRY_COLLECTION → result ≡ None → IsBareNext order self.old → ⊥ }
+    {
         if self.rings > 0 || self.geometries == 0 {
             return None;
         }
         let here = rest_from(self.bytes, self.at);
         let kind = u32_at(here, 1, order);
-        if here[0] != order.byte() || kind < POINT || GEOMETRY_COLLECTION < kind {
+        if here[0] != order.byte() || kind < POINT || last < kind {
             return None;
         }
         let piece = Piece::of_header(self.bytes, self.at, kind, Dimension::Xy, order, None);

@@ -66,7 +66,7 @@ fn type_of_bare(code: u32) -> Option<WkbType>
 }
 
 impl Head {
-    ghost use Rattle.std.specs.Prelude.{◌≡◌, IfSome, Ok};
+    ghost use Rattle.std.specs.Prelude.{◌≡◌, IfSome, Ok, false};
     ghost use Rattle.wkb_geom.specs.Reading.{head_at, layout_of};
 
     /// The header at the start of the bytes, or why there is none. Its geometry may follow.
@@ -127,10 +127,11 @@ impl Head {
         }
     }
 
-    /// The header at the start of the bytes, if it has the code that ISO writes of this type.
+    /// The order of the header at the start of the bytes, if it has the code that ISO writes of this type.
     #[inline]
-    fn read_iso(wanted: WkbType, bytes: &[u8]) -> Option<Head>
-        ensures head { IfSome result (λ header. head_at bytes.now ≡ Ok header) }
+    fn order_of_iso(wanted: WkbType, bytes: &[u8]) -> Option<Endianness>
+        ensures head { IfSome result (λ order. head_at bytes.now ≡ Ok (record {
+            order = order; wkb_type = wanted; has_srid = false })) }
     {
         if bytes.len() < MEMBER_HEADER_SIZE {
             return None;
@@ -139,11 +140,7 @@ impl Head {
         if u32_at(bytes, ORDER_SIZE, order) != u32::from(wanted) {
             return None;
         }
-        Some(Head {
-            order,
-            wkb_type: wanted,
-            has_srid: false,
-        })
+        Some(order)
     }
 
     /// How the body after it is laid out.
@@ -176,10 +173,14 @@ impl Layout {
         ensures { member_layout (type_kind wanted) (type_dimension wanted) bytes.now ≡ result }
     {
         // Most members have the code that ISO writes.
-        let header = match Head::read_iso(wanted, bytes) {
-            Some(header) => header,
-            None => Head::read_any(bytes)?,
-        };
+        if let Some(order) = Head::order_of_iso(wanted, bytes) {
+            return Ok(Layout {
+                order,
+                dimension: wanted.dimension(),
+                has_srid: false,
+            });
+        }
+        let header = Head::read_any(bytes)?;
         // By numbers: `==` of the seven kinds makes a proof of many cases (docs/PROVING.md).
         let found = header.wkb_type;
         let is_same = found.kind() == wanted.kind() && found.dimension() == wanted.dimension();

@@ -97,7 +97,9 @@ fn lay_each_piece(buf: &[u8], first: &Piece, options: WriteOptions, out: &mut [u
         form: form.inner(),
     };
     loop {
-        if let Some(piece) = pieces.next_bare(other(endianness)) {
+        if let Some(point) = pieces.next_if_point(other(endianness)) {
+            at = lay_piece(buf, &point, inner, out, at);
+        } else if let Some(piece) = pieces.next_bare(other(endianness)) {
             at = lay_piece(buf, &piece, inner, out, at);
             while let Some(ring) = pieces.next_if_ring() {
                 at = lay_piece(buf, &ring, inner, out, at);

@@ -4,11 +4,11 @@ use Rattle.wkb_check.specs.Prelude.{HasGeometry, bytes_left}
 use Rattle.wkb_rewrite.proofs.Encoded.{Left}
 use Rattle.wkb_rewrite.proofs.encoding.lay_each_piece.Given as goal
 
-abbrev pub decreases-loop-piece : goal.decreases-loop-piece
-decreases-loop-piece l = bytes_left l.pieces
+abbrev pub decreases-loop-point : goal.decreases-loop-point
+decreases-loop-point l = bytes_left l.pieces
 
-abbrev pub invariant-loop-piece : goal.invariant-loop-piece
-invariant-loop-piece l = (g : HasGeometry l.buf)
+abbrev pub invariant-loop-point : goal.invariant-loop-point
+invariant-loop-point l = (g : HasGeometry l.buf)
     → Left l.buf l.endianness l.inner.form l.pieces l.at l.out l.fn.out
     (encoding l.endianness l.fn.options.form (geometry_of g.value))
 

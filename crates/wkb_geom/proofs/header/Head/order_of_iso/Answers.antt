@@ -1,7 +1,7 @@
 use Rattle.std.proofs.Common.{◌∙◌, sym, ap, arith, false}
 use Rattle.wkb_geom.specs.Reading.{meaning_of}
 use Rattle.wkb_geom.proofs.Heads.{head_meant, iso_meant}
-use Rattle.wkb_geom.proofs.header.Head.read_iso.Goals as goal
+use Rattle.wkb_geom.proofs.header.Head.order_of_iso.Goals as goal
 
 pub returns : goal.returns
 returns c = record {

@@ -10,7 +10,7 @@ use Rattle.wkb_check.specs.declared.pieces.Pieces.{Pieces}
 use Rattle.wkb_check.proofs.Ahead.{bare_header, bare_meant}
 use Rattle.wkb_check.proofs.Bodies.{rest_smaller}
 use Rattle.wkb_check.proofs.Following.{geometry_there}
-use Rattle.wkb_check.proofs.pieces.Pieces.next_bare.Goals as goal
+use Rattle.wkb_check.proofs.pieces.Pieces.next_bare_to.Goals as goal
 
 own_byte : (order : Endianness) → order_of_byte (order_byte order) ≡ Some order
 own_byte BigEndian = refl
@@ -40,11 +40,11 @@ pub of_header-piece-requires-clause-header : goal.of_header-piece-requires-claus
 of_header-piece-requires-clause-header c =
     let k = c.u32_at-kind.result in
     let least = c.if-kind-lt-POINT.false in
-    let most = c.if-kind-gt-GEOMETRY_COLLECTION.false in
+    let most = c.if-last-kind.false in
     λ g. bare_header c.args.self.now.bytes.now c.args.self.now.at g c.rest_from-here.result.now c.args.order k
     c.rest_from-here.ensures
     (head_meant c.rest_from-here.result.now c.args.order k (type_of k Xy) false
     (omega (arith, rest_smaller g, ap length c.rest_from-here.ensures))
     (ap order_of_byte (c.if-here-byte.false ∙ c.byte.ensures) ∙ own_byte c.args.order) c.u32_at-kind.ensures
-    (bare_meant k (omega (arith, least)) (omega (arith, most))))
-    (omega (arith, least)) (omega (arith, most))
+    (bare_meant k (omega (arith, least)) (omega (arith, most, c.requires.last))))
+    (omega (arith, least)) (omega (arith, most, c.requires.last))
