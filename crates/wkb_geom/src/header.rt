@@ -131,7 +131,10 @@ impl Head {
     #[inline]
     fn order_of_iso(wanted: WkbType, bytes: &[u8]) -> Option<Endianness>
         ensures head { IfSome result (λ order. head_at bytes.now ≡ Ok (record {
-            order = order; wkb_type = wanted; has_srid = false })) }
+          order = order;
+          wkb_type = wanted;
+          has_srid = false;
+        })) }
     {
         if bytes.len() < MEMBER_HEADER_SIZE {
             return None;
