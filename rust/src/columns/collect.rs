@@ -53,20 +53,6 @@ impl Column<'_> {
     /// order. Of a row only the value counts: its byte order and its SRID don't matter. A collection takes rows of any
     /// type.
     ///
-    /// ```
-    /// use porchsorrel_wkb::check::WkbType;
-    /// use porchsorrel_wkb::columns::{NotCollected, Rows};
-    /// use porchsorrel_wkb::reader::Dimension;
-    /// use porchsorrel_wkb::writer::WriteOptions;
-    ///
-    /// let point = [1, 1, 0, 0, 0, 0, 0, 0, 0, 0, 0, 0xf0, 0x3f, 0, 0, 0, 0, 0, 0, 0, 0x40];
-    /// let rows = Rows::of([Some(&point), Some(&point)])?;
-    /// let points = rows.column().collect(WkbType::MultiPoint(Dimension::Xy), &WriteOptions::default())?;
-    /// assert_eq!(points[..9], [1, 4, 0, 0, 0, 2, 0, 0, 0]);
-    /// assert_eq!(points[9..30], point);
-    /// # Ok::<(), NotCollected>(())
-    /// ```
-    ///
     /// # Errors
     ///
     /// The first row that can't be a member, and why; or memory is refused.

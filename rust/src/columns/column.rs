@@ -1,6 +1,6 @@
 // SPDX-License-Identifier: MIT OR Apache-2.0
 //! A column of encodings, as Arrow has it.
-use super::{Coordinates, Encodings, Status};
+use super::{Coordinates, Status};
 use crate::canon::lay;
 use crate::check::{Bounds, Summary};
 use crate::reader::Dimension;
@@ -18,6 +18,7 @@ use core::ops::Range;
 /// A column as Arrow has it: row i has the bytes of the data from offset i up to offset i + 1. Offsets and validity may
 /// be anything: a row with bad offsets is [`Status::BAD_OFFSETS`].
 #[derive(Clone, Copy, Debug)]
+#[must_use]
 pub struct Column<'a> {
     data: &'a [u8],
     offsets: &'a [u8],
@@ -29,13 +30,11 @@ pub struct Column<'a> {
 impl<'a> Column<'a> {
     /// A column with offsets of 32 bits in the machine's order, as the bytes of Arrow's buffer, which aren't copied.
     /// There is one offset more than there are rows. Numbers become such bytes by `to_ne_bytes`.
-    #[must_use]
     pub fn binary(data: &'a [u8], offsets: &'a [u8]) -> Self {
         Column { data, offsets, offset_size: 4, validity: (&[], 0) }
     }
 
     /// A column with offsets of 64 bits.
-    #[must_use]
     pub fn large_binary(data: &'a [u8], offsets: &'a [u8]) -> Self {
         Column { offset_size: 8, ..Column::binary(data, offsets) }
     }
@@ -66,7 +65,6 @@ impl<'a> Column<'a> {
     /// # Panics
     ///
     /// If there are fewer rows.
-    #[must_use]
     pub fn slice(&self, rows: Range<usize>) -> Column<'a> {
         assert!(rows.start <= rows.end && rows.end <= self.len(), "rows {rows:?} of {}", self.len());
         let validity = (self.validity.0, self.validity.1 + rows.start);
@@ -94,7 +92,6 @@ impl<'a> Column<'a> {
     /// # Panics
     ///
     /// If there should be none.
-    #[must_use]
     pub fn split(&self, columns: usize) -> impl DoubleEndedIterator<Item = Column<'a>> + ExactSizeIterator {
         assert!(columns > 0, "rows have to be in a column");
         let (whole, each, longer) = (*self, self.len() / columns, self.len() % columns);
@@ -120,10 +117,6 @@ impl<'a> Column<'a> {
     }
 
     /// The status of each row: whether it is a geometry, as [`check`](crate::check::check) finds it.
-    ///
-    /// # Errors
-    ///
-    /// Memory is refused.
     pub fn check(&self) -> Result<Vec<Status>, AllocError> {
         let mut statuses = try_filled(0, self.len())?;
         wkb_raw_column_check(&self.raw(), &mut statuses);
@@ -131,10 +124,6 @@ impl<'a> Column<'a> {
     }
 
     /// What [`bounds`](crate::check::bounds) finds of each row: the bounds of no coordinate where it has none.
-    ///
-    /// # Errors
-    ///
-    /// Memory is refused.
     pub fn bounds(&self) -> Result<(Vec<Bounds>, Vec<Status>), AllocError> {
         let (mut boxes, mut statuses) = (try_filled(Bounds::empty(), self.len())?, try_filled(0, self.len())?);
         wkb_raw_column_bounds(&self.raw(), &mut boxes, &mut statuses);
@@ -142,19 +131,11 @@ impl<'a> Column<'a> {
     }
 
     /// What [`canonical`](crate::canon::canonical) makes of each row.
-    ///
-    /// # Errors
-    ///
-    /// Memory is refused.
     pub fn write(&self, options: &WriteOptions) -> Result<Encodings, AllocError> {
         self.write_by(|_| *options)
     }
 
     /// What [`canonical_with_srid`](crate::canon::canonical_with_srid) makes of each row.
-    ///
-    /// # Errors
-    ///
-    /// Memory is refused.
     pub fn write_with_srids(&self, order: Endianness) -> Result<Encodings, AllocError> {
         self.write_by(|found| WriteOptions { endianness: order, form: Form::Ewkb { srid: found.srid } })
     }
@@ -177,25 +158,20 @@ impl<'a> Column<'a> {
 
     /// The coordinates of each row. Words that the dimension doesn't name are left out, and a word that a geometry
     /// doesn't have is a NaN.
-    ///
-    /// # Errors
-    ///
-    /// Memory is refused.
     pub fn coordinates(&self, dimension: Dimension) -> Result<Coordinates, AllocError> {
         let (mut row_ends, mut statuses) = (try_filled(0, self.len())?, try_filled(0, self.len())?);
-        let mut lay = |words: &mut [u64], ring_ends: &mut [u64], single_ends: &mut [u64]| {
+        let (column, asked) = (self.raw(), dimension.thousands());
+        let mut lay = |mut out: LevelSlices<'_>| {
             let mut totals = Totals { coordinates: 0, rings: 0, singles: 0 };
-            let (column, mut out) = (self.raw(), LevelSlices { words, ring_ends, single_ends });
-            let (asked, ends) = (dimension.thousands(), &mut row_ends[..]);
-            wkb_raw_column_coordinates(&column, asked, &mut out, ends, &mut totals, &mut statuses);
+            wkb_raw_column_coordinates(&column, asked, &mut out, &mut row_ends, &mut totals, &mut statuses);
             totals
         };
         // Without room the totals are counted alone.
-        let totals = lay(&mut [], &mut [], &mut []);
+        let totals = lay(LevelSlices { words: &mut [], ring_ends: &mut [], single_ends: &mut [] });
         let mut words = try_filled(0, dimension.width() * totals.coordinates as usize)?;
         let mut ring_ends = try_filled(0, totals.rings as usize)?;
         let mut single_ends = try_filled(0, totals.singles as usize)?;
-        lay(&mut words, &mut ring_ends, &mut single_ends);
+        lay(LevelSlices { words: &mut words, ring_ends: &mut ring_ends, single_ends: &mut single_ends });
         // The same memory, since a word has the size of a number.
         let words = words.into_iter().map(f64::from_bits).collect();
         Ok(Coordinates { words, ring_ends, single_ends, row_ends, statuses: Status::all(statuses) })
@@ -218,10 +194,6 @@ pub struct Rows {
 
 impl Rows {
     /// A copy of the rows; None is a null row.
-    ///
-    /// # Errors
-    ///
-    /// Memory is refused.
     pub fn of<R: AsRef<[u8]>>(rows: impl IntoIterator<Item = Option<R>>) -> Result<Rows, AllocError> {
         let mut made = Rows { data: Vec::new(), offsets: try_filled(0, 8)?, validity: Vec::new() };
         for (row, bytes) in rows.into_iter().enumerate() {
@@ -236,8 +208,36 @@ impl Rows {
     }
 
     /// The rows as a column.
-    #[must_use]
     pub fn column(&self) -> Column<'_> {
         Column { validity: (&self.validity, 0), ..Column::large_binary(&self.data, &self.offsets) }
+    }
+}
+
+/// The encodings of rows, one after another. A row without one ends where it begins, and its status says why.
+#[derive(Clone, Debug, Default, PartialEq, Eq, Hash)]
+pub struct Encodings {
+    /// The bytes of all encodings.
+    pub data: Vec<u8>,
+    /// Where each row ends in the data.
+    pub ends: Vec<u64>,
+    /// What became of each row.
+    pub statuses: Vec<Status>,
+}
+
+impl Encodings {
+    /// The encoding of a row, where it has one.
+    ///
+    /// # Panics
+    ///
+    /// If there is no such row.
+    #[must_use]
+    pub fn row(&self, row: usize) -> Option<&[u8]> {
+        let begin = if row == 0 { 0 } else { self.ends[row - 1] };
+        self.statuses[row].is_ok().then(|| &self.data[begin as usize..self.ends[row] as usize])
+    }
+
+    /// The encoding of each row, where it has one.
+    pub fn rows(&self) -> impl ExactSizeIterator<Item = Option<&[u8]>> {
+        (0..self.ends.len()).map(move |row| self.row(row))
     }
 }

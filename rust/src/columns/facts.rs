@@ -30,11 +30,7 @@ pub struct Facts {
 
 impl Facts {
     /// Adds the facts of other rows, as of another part of a column that threads have shared. Where offsets decrease,
-    /// parts may accept rows that the whole column doesn't.
-    ///
-    /// # Errors
-    ///
-    /// Memory is refused. Then the facts are to be thrown away.
+    /// parts may accept rows that the whole column doesn't. After an error the facts are to be thrown away.
     pub fn add(&mut self, other: &Facts) -> Result<(), AllocError> {
         self.rows += other.rows;
         self.accepted += other.accepted;
@@ -91,10 +87,6 @@ impl Facts {
 
 impl Column<'_> {
     /// What occurs in the rows. Memory is taken for the SRIDs that occur.
-    ///
-    /// # Errors
-    ///
-    /// Memory is refused.
     pub fn facts(&self) -> Result<Facts, AllocError> {
         let mut facts = Facts { rows: self.len(), ..Facts::default() };
         for row in self.rows() {

@@ -1,5 +1,5 @@
 // SPDX-License-Identifier: MIT OR Apache-2.0
-//! Encodings of one's own coordinates.
+//! Coordinates of rows, and rows of coordinates.
 use super::{Encodings, Status};
 use crate::check::WkbType;
 use crate::rt::try_filled;
@@ -8,9 +8,54 @@ use crate::writer::WriteOptions;
 use crate::AllocError;
 use alloc::vec::Vec;
 
-/// Rows of one type, as [`Coordinates`](super::Coordinates) has them. Where the ends of a level are left out, item i has
-/// item i of the next level: points need no ends, line strings `ring_ends`, polygons `single_ends` too, and multi
-/// geometries `row_ends` besides what their members need.
+/// The coordinates of rows, in levels as GeoArrow has them: a row has singles (points, line strings and polygons), a
+/// single has rings, a ring has coordinates. Each end counts from the start of the column.
+///
+/// Let `rows`, `singles` and `rings` be a 0 and then the ends of a level. Of rows of one kind, GeoArrow's offsets are
+/// these, from the outermost list on:
+///
+/// | rows | offsets |
+/// |---|---|
+/// | line strings, multi points | `rings[singles[rows[i]]]` |
+/// | polygons | `singles[rows[i]]`; `rings` |
+/// | multi line strings | `rows`; `rings` |
+/// | multi polygons | `rows`; `singles`; `rings` |
+///
+/// A row whose status isn't OK is null and has an empty list. Points have no lists: there a null row takes a coordinate
+/// too, of NaNs.
+///
+/// ```
+/// use porchsorrel_wkb::columns::Rows;
+/// use porchsorrel_wkb::reader::Dimension;
+///
+/// let mut line = vec![1, 2, 0, 0, 0, 2, 0, 0, 0];
+/// line.extend([1.0, 2.0, 3.0, 4.0].iter().flat_map(|word: &f64| word.to_le_bytes()));
+/// let rows = Rows::of([Some(&line), None, Some(&line)])?;
+/// let found = rows.column().coordinates(Dimension::Xy)?;
+///
+/// let levels = [&found.row_ends, &found.single_ends, &found.ring_ends];
+/// let [rows, singles, rings] = levels.map(|ends| [&[0], &ends[..]].concat());
+/// let offsets: Vec<u64> = rows.iter().map(|row| rings[singles[*row as usize] as usize]).collect();
+/// assert_eq!(offsets, [0, 2, 2, 4]);
+/// # Ok::<(), porchsorrel_wkb::AllocError>(())
+/// ```
+#[derive(Clone, Debug, Default, PartialEq)]
+pub struct Coordinates {
+    /// One coordinate after another.
+    pub words: Vec<f64>,
+    /// For each ring, its end in coordinates.
+    pub ring_ends: Vec<u64>,
+    /// For each single, its end in rings.
+    pub single_ends: Vec<u64>,
+    /// For each row, its end in singles.
+    pub row_ends: Vec<u64>,
+    /// What became of each row.
+    pub statuses: Vec<Status>,
+}
+
+/// Rows of one type, as [`Coordinates`] has them. Where the ends of a level are left out, item i has item i of the next
+/// level: points need no ends, line strings `ring_ends`, polygons `single_ends` too, and multi geometries `row_ends`
+/// besides what their members need.
 ///
 /// ```
 /// use porchsorrel_wkb::check::{check, WkbType};
@@ -39,18 +84,13 @@ pub struct Levels<'a> {
 }
 
 impl Levels<'_> {
-    /// The encoding of each row. A row whose levels don't fit its type or each other is
-    /// [`Status::BAD_LEVELS`](super::Status::BAD_LEVELS); no row stops the others. If the words are no whole number of
-    /// coordinates, all rows are that; a level without ends has an item for the rest of them as well.
+    /// The encoding of each row. A row whose levels don't fit its type or each other is [`Status::BAD_LEVELS`]; no row
+    /// stops the others. If the words are no whole number of coordinates, all rows are that; a level without ends has
+    /// an item for the rest of them as well.
     ///
-    /// Of [`Coordinates`](super::Coordinates) leave out null and rejected rows, and collections. Otherwise a null or
-    /// rejected row, which has no singles, comes back as an empty multi geometry, or is
-    /// [`Status::BAD_LEVELS`](super::Status::BAD_LEVELS) if the type is no multi geometry. A collection comes back as
-    /// the geometry of this type that its singles make, if they make one.
-    ///
-    /// # Errors
-    ///
-    /// Memory is refused.
+    /// Of [`Coordinates`] leave out null and rejected rows, and collections. Otherwise a null or rejected row, which
+    /// has no singles, comes back as an empty multi geometry, or is [`Status::BAD_LEVELS`] if the type is no multi
+    /// geometry. A collection comes back as the geometry of this type that its singles make, if they make one.
     ///
     /// # Panics
     ///

@@ -2,9 +2,12 @@
 //! Columns of geometries, as Arrow and GeoArrow have them: each call answers for all rows, and no row stops the others.
 //!
 //! ```
-//! use porchsorrel_wkb::columns::{Rows, Status};
+//! use porchsorrel_wkb::check::WkbType;
+//! use porchsorrel_wkb::columns::{NotCollected, Rows, Status};
+//! use porchsorrel_wkb::reader::Dimension;
 //! use porchsorrel_wkb::writer::WriteOptions;
 //!
+//! let options = WriteOptions::default();
 //! let point = b"\0\0\0\0\x01\x3f\xf0\0\0\0\0\0\0\x40\0\0\0\0\0\0\0";
 //! let rows = Rows::of([Some(&point[..]), None, Some(&point[..20])])?;
 //! let column = rows.column();
@@ -12,24 +15,28 @@
 //! assert_eq!(column.bounds()?.0[0].x.max(), 1.0);
 //!
 //! // The rows in little endian, by which equal geometries have equal bytes.
-//! let keys = column.write(&WriteOptions::default())?;
+//! let keys = column.write(&options)?;
 //! assert_eq!(keys.row(0).map(|it| it[0]), Some(1));
-//! # Ok::<(), porchsorrel_wkb::AllocError>(())
+//!
+//! // A multi point of the first row.
+//! let points = column.slice(0..1).collect(WkbType::MultiPoint(Dimension::Xy), &options)?;
+//! assert_eq!((&points[..9], &points[9..]), (&[1, 4, 0, 0, 0, 1, 0, 0, 0][..], keys.row(0).unwrap()));
+//! # Ok::<(), NotCollected>(())
 //! ```
 //!
 //! Bytes, offsets and validity bitmaps are taken where they are. Memory is taken for results alone, by their own rows,
-//! and for a copy of the words of [`Levels`]; where it is refused, the call returns an error.
+//! and for a copy of the words of [`Levels`]; where it is refused, the call returns an
+//! [`AllocError`](crate::AllocError).
+#![allow(clippy::missing_errors_doc)] // An `AllocError` needs no more than that.
 
 mod collect;
 mod column;
 mod facts;
 mod levels;
-mod results;
 mod status;
 
 pub use collect::NotCollected;
-pub use column::{Column, Rows};
+pub use column::{Column, Encodings, Rows};
 pub use facts::Facts;
-pub use levels::Levels;
-pub use results::{Coordinates, Encodings};
+pub use levels::{Coordinates, Levels};
 pub use status::Status;
