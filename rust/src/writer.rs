@@ -28,6 +28,7 @@ use core::fmt;
 
 /// Any writer, as it is. An interrupted write is tried again.
 impl<W: io::Write> Sink for W {
+    #[inline(always)]
     fn put(&mut self, bytes: &[u8]) -> io::Result<usize> {
         loop {
             match self.write(bytes) {
