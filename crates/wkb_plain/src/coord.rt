@@ -21,6 +21,7 @@ impl<'w> Coord<'w> {
 
     /// The coordinate of these words. None if the dimension has no words at all, or another
     /// number of them.
+    #[inline]
     pub fn new(dim: Dimensions, words: &'w [u64]) -> Option<Coord<'w>>
         ensures some { IsSome result ↔ ((0 < size dim) × (length words.now ≡ size dim)) }
         ensures dimensions { HasDimensions coord_dimensions result dim }
@@ -39,6 +40,7 @@ impl Dimensioned for Coord<'_> {
 
     ghost dimensions = { coord_dimensions };
 
+    #[inline]
     fn dim(&self) -> Dimensions {
         self.dim
     }
@@ -53,22 +55,27 @@ impl CoordTrait for Coord<'_> {
 
     ghost lawful = { coord_lawful };
 
+    #[inline]
     fn nth(&self, n: usize) -> Option<u64> {
         self.words.get(n).copied()
     }
 
+    #[inline]
     fn at(&self, n: usize) -> u64 {
         self.words[n]
     }
 
+    #[inline]
     fn x(&self) -> u64 {
         self.words[0]
     }
 
+    #[inline]
     fn y(&self) -> u64 {
         self.words[1]
     }
 
+    #[inline]
     fn x_y(&self) -> (u64, u64) {
         (self.words[0], self.words[1])
     }

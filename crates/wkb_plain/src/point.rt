@@ -21,6 +21,7 @@ impl<'w> Point<'w> {
     ghost use Rattle.wkb_plain.specs.Kinds.{point_coordinate};
 
     /// The point at a coordinate, of the coordinate's dimension.
+    #[inline]
     pub fn new(coord: Coord<'w>) -> Point<'w>
         ensures dimensions { point_dimensions result ≡ coord_dimensions coord.entry }
         ensures coordinate { point_coordinate result ≡ Some (coord_words coord.entry) }
@@ -32,6 +33,7 @@ impl<'w> Point<'w> {
     }
 
     /// The empty point. None if the dimension has no words.
+    #[inline]
     pub fn empty(dim: Dimensions) -> Option<Point<'w>>
         ensures some { IsSome result ↔ (0 < size dim) }
         ensures dimensions { HasDimensions point_dimensions result dim }
@@ -49,6 +51,7 @@ impl Dimensioned for Point<'_> {
 
     ghost dimensions = { point_dimensions };
 
+    #[inline]
     fn dim(&self) -> Dimensions {
         self.dim
     }
@@ -64,6 +67,7 @@ impl<'w> PointTrait for Point<'w> {
 
     ghost lawful = { point_lawful };
 
+    #[inline]
     fn coord(&self) -> Option<Coord<'w>> {
         self.coord
     }
