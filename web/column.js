@@ -58,7 +58,7 @@ export class Column {
     if (size >= 2 ** 31) throw new RangeError('rows of 2 GB or more');
     const data = new Uint8Array(size);
     all.forEach((it, i) => it && data.set(it, ends[i]));
-    return new Column(data, ends, { validity: bitsOf(all, Boolean) });
+    return new Column(data, ends, { validity: all.includes(null) ? bitsOf(all, Boolean) : null });
   }
 
   #run(name, ...values) {
