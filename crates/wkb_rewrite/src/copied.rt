@@ -75,7 +75,10 @@ fn pass_next(buf: &[u8], pieces: &mut Pieces<'_>, order: Endianness, form: Form)
     ensures passed { IfSome result (HasPassed order form buf.now pieces.old pieces.new) }
     ensures same { pieces.new.bytes.now ≡ pieces.old.bytes.now }
 {
-    // Most pieces are bare, and the tests of these are short, and of points the shortest.
+    if let Some(ring) = pieces.next_if_ring() {
+        return Some(stands_as_written(buf, &ring, order, form));
+    }
+    // Most geometries are bare, and the tests of these are short, and of points the shortest.
     if let Some(point) = pieces.next_if_point(order) {
         return Some(stands_as_written(buf, &point, order, form));
     }
