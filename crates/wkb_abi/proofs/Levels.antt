@@ -350,6 +350,10 @@ module _ {asked : Dimension} {row : List ℕ} {from at : Totals} {before out : L
     same_slices = stay_same same walk.same_slices;
   }
 
+  -- where no piece was taken it is where it was
+  pub walk_stays : {now : Pieces} → now ≡ w → Walks asked row from before now at out
+  walk_stays same = subst (λ v. Walks asked row from before v at out) (sym same) walk
+
   -- and where no piece is left it ends
   pub walk_ends : ((ps : List Piece) → IsAhead w ps → ps ≡ []) → LaysLevels asked row from before out
   walk_ends none = λ g. let l = walk.left g in rw (none l.ps l.ahead) at l.left

@@ -369,8 +369,15 @@ fn lay_walked(row: &[u8], first: &Piece, from: Totals, asked: Dimension, out: &m
     let mut pieces = Pieces::behind(row, first);
     lay_piece_levels(row, first, asked, from, out);
     let mut at = from.with(first);
-    while let Some(piece) = pieces.next() {
-        lay_piece_levels(row, &piece, asked, at, out);
-        at = at.with(&piece);
+    loop {
+        if let Some(ring) = pieces.next_if_ring() {
+            lay_piece_levels(row, &ring, asked, at, out);
+            at = at.with(&ring);
+        } else if let Some(piece) = pieces.next() {
+            lay_piece_levels(row, &piece, asked, at, out);
+            at = at.with(&piece);
+        } else {
+            return;
+        }
     }
 }
