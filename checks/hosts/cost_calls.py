@@ -1,9 +1,11 @@
-"""Times calls of the Python package, or of the extension for SQLite, over files of checks/hosts/cost_inputs.py: prints
-the call, the file, and the processor's seconds of the shorter of two runs.
+"""Times calls of C and C++, of the Python package with the dump, or of the extension for SQLite, over files of
+checks/hosts/cost_inputs.py: prints the call, the file, and the processor's seconds of the shorter of two runs.
 
-    cost_calls.py python|EXTENSION PART_OF_A_NAME FILE..
+    cost_calls.py cpp|python|sqlite LIBRARY PART_OF_A_NAME FILE..
 """
+import ctypes
 import gc
+import itertools
 import sqlite3
 import sys
 import time
@@ -13,7 +15,27 @@ import cost_inputs
 FUNCTIONS = ("wkb_well_formed", "wkb_fault", "wkb_num_parts", "wkb_ewkb", "wkb_gpkg", "wkb_xmax")
 
 
-def of_python():
+def of_cpp(path):
+    """The calls of cost.cpp by their names: of one input, and of columns."""
+    from porchsorrel_wkb._library import POINTER, SIZE, address_of, wkb_column
+
+    library = ctypes.CDLL(path)
+    library.run_one.argtypes, library.run_rows.argtypes = (SIZE, POINTER, SIZE), (SIZE, POINTER)
+    library.name_of_one.restype = library.name_of_rows.restype = ctypes.c_char_p
+
+    def named(name_of, call):
+        names = itertools.takewhile(bool, map(name_of, itertools.count()))
+        return {name.decode(): lambda given, i=i: call(i, given) for i, name in enumerate(names)}
+
+    def column(offsets, bitmap, data):
+        bits = address_of(bitmap) if bitmap else None
+        return wkb_column(address_of(data), len(data), address_of(offsets), 8, bits, 0, len(offsets) // 8 - 1)
+
+    one = named(library.name_of_one, lambda i, data: library.run_one(i, address_of(data), len(data)))
+    return one, named(library.name_of_rows, lambda i, it: library.run_rows(i, ctypes.byref(it))), column, {}
+
+
+def of_python(_):
     """The calls of the package by their names: of one input, of columns and of levels."""
     import porchsorrel_wkb as wkb
 
@@ -22,6 +44,7 @@ def of_python():
 
     one = {it.__name__: it for it in (wkb.check, wkb.bounds, wkb.write, wkb.parts, all_coordinates)}
     one |= {"same": lambda data: wkb.same(data, data), "dump": lambda data: wkb.dump(data, 0, 0)}
+    one |= {"dump_of_few": lambda data: wkb.dump(data, 5000, 10)}
     names = ("check", "faults", "bounds", "found", "facts", "parts", "write", "coordinates")
     columns = {f"Column.{it}": getattr(wkb.Column, it) for it in names}
     columns |= {"joined": lambda column: wkb.Facts.joined(it.facts() for it in column.split(9))}
@@ -46,7 +69,8 @@ def of_sqlite(extension):
     database = sqlite3.connect(":memory:")
     database.enable_load_extension(True)
     database.load_extension(extension)
-    return {it: lambda data, it=it: database.execute(f"select {it}(?)", (data,)).fetchone() for it in FUNCTIONS}
+    one = {it: lambda data, it=it: database.execute(f"select {it}(?)", (data,)).fetchone() for it in FUNCTIONS}
+    return one, {}, None, {}
 
 
 def seconds(call, *given):
@@ -67,9 +91,9 @@ def seconds(call, *given):
     return min(found)
 
 
-def main(door, part, *files):
+def main(door, library, part, *files):
     gc.disable()
-    one, columns, column, levels = of_python() if door == "python" else (of_sqlite(door), {}, None, {})
+    one, columns, column, levels = {"cpp": of_cpp, "python": of_python, "sqlite": of_sqlite}[door](library)
     for file in files:
         lists = cost_inputs.read(file)
         if len(lists) == 4:
