@@ -168,6 +168,25 @@ static void null_is_allowed_in_collections(void) {
   expect(wkb_collect(&column, KIND, 0, &LITTLE_ISO, out, 30, NULL, NULL, NULL) == BAD, "null", "no data");
 }
 
+/* A point that has an infinity beside NaNs is not empty: from each order its words go into each as they are. */
+static void points_with_infinities_are_written(void) {
+  static const char *const TEXTS[] = {"01 01000000 IN",   "01 01000000 NI",   "01 e9030000 INN",
+                                      "01 e9030000 NJN",  "01 e9030000 NNI",  "01 b90b0000 INNN",
+                                      "01 b90b0000 NJNN", "01 b90b0000 NNIN", "01 b90b0000 NNNJ"};
+  for (size_t i = 0; i < sizeof TEXTS / sizeof TEXTS[0]; i++) {
+    uint8_t encodings[2][37] = {{0}}, out[37];
+    uint8_t *big = encodings[WKB_ORDER_BIG], *little = encodings[WKB_ORDER_LITTLE];
+    const size_t len = spelled(TEXTS[i], little);
+    for (size_t k = 0; k < 4; k++) big[1 + k] = little[4 - k];
+    for (size_t k = 5; k < len; k++) big[k] = little[5 + ((k - 5) ^ 7)];
+    for (unsigned k = 0; k < 4; k++) {
+      const wkb_options options = {k % 2, WKB_FORM_ISO, 0};
+      const wkb_status status = wkb_write(encodings[k / 2], len, &options, out, len, NULL, NULL);
+      expect(status == GOOD && memcmp(out, encodings[k % 2], len) == 0, "a point with an infinity", TEXTS[i]);
+    }
+  }
+}
+
 /* An unknown order or form is reported before the input is looked at, and nothing is written. */
 static void options_are_unknown(void) {
   const wkb_options *const unknown[] = {&NO_ORDER, &NO_FORM};
@@ -226,6 +245,7 @@ void calls_are_right(void) {
   null_is_allowed();
   null_is_allowed_without_rows();
   null_is_allowed_in_collections();
+  points_with_infinities_are_written();
   options_are_unknown();
   no_row_is_read_in_vain();
 }

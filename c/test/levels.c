@@ -1,7 +1,7 @@
 /* Levels that no input has, and what wkb.h says of them; wkb_hpp_test.cpp has those of all inputs under each option. */
 #include "shared.h"
 
-enum { ROWS_MOST = 6, OUT_MOST = 512 };
+enum { ROWS_MOST = 10, OUT_MOST = 512 };
 
 /* Levels of one kind, and the encoding of each row in hex, or none and the status of the row. */
 typedef struct worked {
@@ -18,6 +18,9 @@ typedef struct worked {
 #define OK WKB_STATUS_OK
 #define BAD WKB_STATUS_BAD_LEVELS
 #define NONE WKB_STATUS_NULL_ROW
+#define ONES ENDS(1, 2, 3, 4, 5, 6, 7, 8, 9, 10)
+#define BACK ENDS(1, 0, 1, 9, 2, 1, 2, 3, 2, 4)
+#define AFTER_NULL {NONE, BAD, BAD, BAD, NONE, BAD, OK, NONE, BAD, BAD}
 
 static const worked WORKED[] = {
     /* No ends: a point each. Of NaNs it is empty, and they are written as they are. A word more is ignored. */
@@ -43,6 +46,15 @@ static const worked WORKED[] = {
      {"01 04000000 00000000", "01 04000000 01000000 01 01000000 WX", NULL}, {OK, OK, BAD}},
     {"WX", WKB_KIND_LINE_STRING, WKB_DIM_XY, 2, 2, 3, ENDS(1, 1), ENDS(1, 2), ENDS(0, 1, 2),
      {NULL, "01 02000000 01000000 WX", "01 02000000 00000000"}, {BAD, OK, OK}},
+    /* Null rows end too, where they don't end before they begin. In each, one level has these ends. */
+    {"WX YZ ZW WX", WKB_KIND_LINE_STRING, WKB_DIM_XY, 10, 10, 10, BACK, NULL, NULL,
+     {[6] = "01 02000000 01000000 YZ"}, AFTER_NULL},
+    {"WX YZ ZW WX", WKB_KIND_POLYGON, WKB_DIM_XY, 4, 10, 10, ONES, BACK, NULL,
+     {[6] = "01 03000000 01000000 01000000 YZ"}, AFTER_NULL},
+    {"WX YZ ZW WX", WKB_KIND_MULTI_POINT, WKB_DIM_XY, 4, 4, 10, NULL, NULL, BACK,
+     {[6] = "01 04000000 01000000 01 01000000 YZ"}, AFTER_NULL},
+    {"WX YZ ZW WX", WKB_KIND_MULTI_POLYGON, WKB_DIM_XY, 10, 10, 10, BACK, ONES, ONES,
+     {[6] = "01 06000000 01000000 01 03000000 01000000 01000000 YZ"}, AFTER_NULL},
 };
 
 static const uint64_t *ends_at(int place, const uint64_t *ends, size_t count) {
