@@ -2,11 +2,9 @@
 #include "every.h"
 #include "lasting.h"
 
-/* What wkb.h says of calls that return parts, and of the others, times what other compilers of the core take, or the
- * memcpy of a sanitizer. */
-#ifdef __SANITIZE_ADDRESS__
-#define STACK_TIMES 3
-#elif !defined STACK_TIMES
+/* What wkb.h says of calls that return parts, and of the others, times what other compilers of the core take, or
+ * sanitizers. */
+#ifndef STACK_TIMES
 #define STACK_TIMES 1
 #endif
 #ifndef _WIN32
