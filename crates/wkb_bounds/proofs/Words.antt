@@ -1,5 +1,5 @@
 -- The words of a geometry's pieces: they widen a range as the words of its value do.
-use Rattle.std.proofs.Common.{◌≡◌, ℕ, zero, suc, ◌+◌, ◌*◌, List, [], ◌∷◌, ◌++◌, take, drop, arith, Some, None, Option}
+use Rattle.std.proofs.Common.{◌≡◌, ℕ, zero, suc, ◌+◌, ◌*◌, ◌≤◌, List, [], ◌∷◌, ◌++◌, length, take, drop, arith, Some, None, Option}
 use Rattle.std.proofs.Common.{true, false, nat_lt, refl, sym, ap, ◌∙◌, append-nil, append_assoc, subst}
 use Rattle.std.proofs.lemmas.Bool.{cond-true, cond-false}
 use Rattle.std.specs.Cmp.{first_so, second_so}
@@ -10,18 +10,16 @@ use Rattle.wkb_laws.specs.Prelude.{no_spellings, spelling, Spells, SpellsEach, W
 use Rattle.wkb_check.specs.Prelude.{HasGeometry, Subject, whole, dimension_in, subject_coordinates}
 use Rattle.wkb_check.specs.declared.{pieces.Piece.Piece, pieces.Pieces.Pieces}
 use Rattle.wkb_check.specs.Prelude.{subjects, subjects_of_rings, subjects_of_each}
-use Rattle.wkb_bounds.specs.declared.{range.Range.Range, range.Bounds.Bounds}
+use Rattle.wkb_bounds.specs.declared.{range.Range.Range, range.Bounds.Bounds, axes.AxisExtremes.AxisExtremes}
 use Rattle.wkb_bounds.specs.Ranges.{widened, range_of, no_numbers}
 use Rattle.wkb_bounds.specs.Ordinates.{Axis, axis_place, word_at, words_of_each, words_in, words_on, words_on_each}
-use Rattle.wkb_bounds.specs.Bounded.{on, nothing, AreBounds}
+use Rattle.wkb_bounds.specs.Bounded.{on, nothing, AreBounds, bounds_by}
+use Rattle.wkb_bounds.specs.Walking.{piece_words, CountsUpTo, WidensByPiece, WidenedSoFar, HasWidened}
 use Rattle.wkb_check.specs.Pieces.{pieces_of, piece_of, own_end, IsRing, IsAhead, IsTaken, IsNext, Steps, OnlyMember}
+use Rattle.wkb_check.specs.Pieces.{HasAll, HasAhead, TakesOrStays}
 use Rattle.wkb_bounds.proofs.Widening.{widened-append}
 use Rattle.wkb_check.proofs.Placing.{only_piece}
-use Rattle.wkb_check.proofs.Subjects.{piece_coordinates, ArePiecesOf, pieces_match}
-
--- the words of a piece's own coordinates on an axis
-abbrev pub piece_words : Axis → List ℕ → Piece → List ℕ
-piece_words a buf p = words_in a p.dimension (piece_coordinates buf p)
+use Rattle.wkb_check.proofs.Subjects.{ArePiecesOf, pieces_match}
 
 -- of a piece with coordinates its words, and where they end; other pieces have none
 pub leaf_words : (a : Axis) (buf : List ℕ) (p : Piece) → nat_lt p.kind 3 ≡ true
@@ -162,14 +160,6 @@ pub ring_words : (a : Axis) (buf : List ℕ) (p : Piece) {order : Endianness} {d
     → piece_words a buf p ≡ words_in a d (coordinates order d p.count (drop p.offset buf))
 ring_words a buf p r = grind arith
 
--- the bounds are widened by the pieces that were passed, and the others are to come
-pub record WidenedSoFar (buf : List ℕ) (w : Pieces) (b : Bounds) (g : HasGeometry buf) : Type 0 where
-  pub passed : List Piece
-  pub left : List Piece
-  pub all : pieces_of 0 g.spelled g.value ≡ passed ++ left
-  pub ahead : IsAhead w left
-  pub widens : (a : Axis) → on a b ≡ widened (on a nothing) (words_of_each (piece_words a buf) passed)
-
 module _ {buf : List ℕ} where
   -- the first piece has no coordinates
   pub first_passed : {w : Pieces} {first : Piece} {b : Bounds} (g : HasGeometry buf)
@@ -203,3 +193,51 @@ module _ {buf : List ℕ} where
       all_widened buf b x.passed g
       (x.all ∙ ap (λ ps. x.passed ++ ps) (subst (IsNext new x.left) none (s.steps x.left x.ahead)) ∙ append-nil x.passed)
       x.widens
+
+-- ---- the loop over the pieces of any geometry
+
+-- a piece that was taken came by a step
+pub stepped : {old new : Pieces} {p : Piece} → TakesOrStays old (Some p) new → Steps old (Some p) new
+stepped t = record { steps = t.takes.steps; inside = t.takes.inside; further = t.further; same = t.same }
+
+module _ {buf : List ℕ} where
+  pub walk_starts : {w : Pieces} {k : AxisExtremes} → HasAll buf w → bounds_by k ≡ nothing → HasWidened buf w k
+  walk_starts all none = record {
+    so_far = λ g. record {
+      passed = [];
+      left = _;
+      all = refl;
+      ahead = all.ahead g;
+      widens = λ a. ap (on a) none;
+    };
+    same = all.same;
+    few = λ a. omega (arith, ap (λ b. (on a b).count) none, none_counted a);
+    inside = omega (arith, all.begins);
+  }
+
+  pub walk_ahead : {w : Pieces} {k : AxisExtremes} → HasGeometry buf → HasWidened buf w k → HasAhead w
+  walk_ahead g x = record { pieces = _; are = (x.so_far g).ahead }
+
+  pub walk_few : {old new : Pieces} {k : AxisExtremes} {p : Piece} → HasWidened buf old k → Steps old (Some p) new
+      → CountsUpTo p.offset k
+  walk_few x s a = omega (arith, x.few a, s.inside.begins)
+
+  pub walk_inside : {old new : Pieces} {k : AxisExtremes} {p : Piece} → HasWidened buf old k → Steps old (Some p) new
+      → own_end p ≤ length buf
+  walk_inside x s = omega (arith, s.inside.ends, s.inside.inside, ap length x.same)
+
+  pub walk_goes : {old new : Pieces} {k now : AxisExtremes} {p : Piece} → HasWidened buf old k
+      → Steps old (Some p) new → WidensByPiece buf p k now → HasWidened buf new now
+  walk_goes x s w = record {
+    so_far = λ g. one_passed (x.so_far g) s w.widens;
+    same = s.same ∙ x.same;
+    few = λ a. omega (arith, w.few a, s.inside.ends);
+    inside = omega (arith, s.inside.inside, ap length x.same);
+  }
+
+  pub walk_stays : {old new : Pieces} {k : AxisExtremes} → HasWidened buf old k → new ≡ old → HasWidened buf new k
+  walk_stays {k = k} x is = subst (λ w. HasWidened buf w k) (sym is) x
+
+  pub walk_ends : {old new : Pieces} {k : AxisExtremes} {r : Option Piece} {b : Bounds} → HasWidened buf old k
+      → r ≡ None → Steps old r new → b ≡ bounds_by k → (g : HasGeometry buf) → AreBounds b g.value
+  walk_ends x none s is g = subst (λ b. AreBounds b g.value) (sym is) (all_passed (x.so_far g) none s)

@@ -4,3 +4,4 @@ pub mod Ordinates
 pub mod Bounded
 pub mod Runs
 pub mod Within
+pub mod Walking

@@ -8,7 +8,8 @@ ghost use Rattle.wkb_check.specs.Known.{HasGeometry};
 ghost use Rattle.wkb_bounds.specs.Bounded.{AreBounds, BoundsFront, BoundsOnlyFront, FindsBounds};
 ghost use Rattle.wkb_bounds.specs.Bounded.{nothing as no_bounds, Widens};
 ghost use Rattle.wkb_bounds.specs.Ordinates.{words_in};
-ghost use Rattle.wkb_check.specs.Pieces.{IsPieceAt, IsHeaderAt};
+ghost use Rattle.wkb_check.specs.Pieces.{IsPieceAt, IsHeaderAt, own_end};
+ghost use Rattle.wkb_bounds.specs.Walking.{CountsUpTo, WidensByPiece, HasWidened};
 ghost use Rattle.wkb_check.specs.Public.{Checks, DescribesFront, HasNoPlain};
 
 use crate::axes::AxisExtremes;
@@ -16,7 +17,7 @@ use crate::range::Bounds;
 use wkb_check::{Piece, Pieces, Refused, Summary, check, check_plain};
 use wkb_geom::code::{POLYGON, WkbType};
 use wkb_geom::words::rest_from;
-use wkb_geom::{Dimension, Endianness};
+use wkb_geom::{Dimension, Endianness, by_order};
 
 /// Writes the bounds of `count` coordinates. If it is inlined, the dimension and the order are constants.
 #[inline(always)]
@@ -159,6 +160,46 @@ fn member_bounds_into(buf: &[u8], bounds: &mut Bounds)
     front_bounds_into(buf, bounds);
 }
 
+/// Widens the ranges by the coordinates of a piece, if it has some.
+#[inline(always)]
+fn widen_by_piece(buf: &[u8], piece: &Piece, extremes: &mut AxisExtremes)
+    requires inside { own_end piece.now ≤ length buf.now }
+    requires few { CountsUpTo piece.now.offset extremes.old }
+    ensures { WidensByPiece buf.now piece.now extremes.old extremes.new }
+{
+    if piece.has_coordinates() {
+        let bytes = rest_from(buf, piece.offset);
+        extremes.widen(piece.dimension, piece.order, piece.count, bytes);
+    }
+}
+
+/// Widens the ranges by the next pieces, as long as geometries have a plain header in this order. Where that is a
+/// constant, these headers are compared, not decoded, and the ranges stay in registers.
+#[inline(always)]
+fn widen_by_bare(
+    order: Endianness,
+    buf: &[u8],
+    pieces: &mut Pieces<'_>,
+    extremes: &mut AxisExtremes,
+)
+    requires here { HasGeometry buf.now }
+    requires before { HasWidened buf.now pieces.old extremes.old }
+    ensures { HasWidened buf.now pieces.new extremes.new }
+{
+    loop {
+        if let Some(point) = pieces.next_if_point(order) {
+            widen_by_piece(buf, &point, extremes);
+        } else if let Some(piece) = pieces.next_bare(order) {
+            widen_by_piece(buf, &piece, extremes);
+            while let Some(ring) = pieces.next_if_ring() {
+                widen_by_piece(buf, &ring, extremes);
+            }
+        } else {
+            return;
+        }
+    }
+}
+
 /// Writes the bounds of the geometry at the start of the bytes, which is known to be there.
 #[inline(never)]
 fn front_bounds_into(buf: &[u8], bounds: &mut Bounds)
@@ -166,11 +207,14 @@ fn front_bounds_into(buf: &[u8], bounds: &mut Bounds)
     ensures { (g : HasGeometry buf.now) → AreBounds bounds.new g.value }
 {
     let mut extremes = AxisExtremes::none();
-    for piece in Pieces::of(buf) {
-        if piece.has_coordinates() {
-            let bytes = rest_from(buf, piece.offset);
-            extremes.widen(piece.dimension, piece.order, piece.count, bytes);
-        }
+    let mut pieces = Pieces::of(buf);
+    let order = Piece::of_geometry(buf, 0).order;
+    by_order!(
+        order,
+        widen_by_bare(order, buf, &mut pieces, &mut extremes)
+    );
+    while let Some(piece) = pieces.next() {
+        widen_by_piece(buf, &piece, &mut extremes);
     }
     *bounds = extremes.bounds();
 }

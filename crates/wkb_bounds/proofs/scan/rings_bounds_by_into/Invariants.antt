@@ -2,7 +2,7 @@ use Rattle.std.proofs.Common.{◌≡◌, ◌≤◌, length}
 use Rattle.wkb_check.specs.Prelude.{HasGeometry, AreRings, bytes_left}
 use Rattle.wkb_bounds.specs.Bounded.{on, bounds_by}
 use Rattle.wkb_bounds.specs.Ordinates.{Axis}
-use Rattle.wkb_bounds.proofs.Words.{WidenedSoFar}
+use Rattle.wkb_bounds.specs.Walking.{WidenedSoFar}
 use Rattle.wkb_bounds.proofs.scan.rings_bounds_by_into.Given as goal
 
 abbrev pub decreases-loop-ring : goal.decreases-loop-ring
