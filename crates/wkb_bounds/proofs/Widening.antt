@@ -83,6 +83,17 @@ run_done {k} {now} {left = left} l none =
     l.goes (range_by 0 now)
     (λ i. widened (range_by (sym none i) now) (words_at (Some k) (rows left.order left.size (sym none i) left.bytes.now)))
 
+-- the last word of a run widens no range more
+pub run_last : {k : ℕ} {now first : Extremes} {left run : Run} → RunLeft k now left first run → left.count ≡ 1
+    → {w : ℕ} {new : Extremes} → w ≡ first_word k left → CountsWord now new w
+    → WidensRange first new (words_at (Some k) (run_coordinates run))
+run_last {k} {now} {left = left} l one {w} {new} w-is counts =
+    let words : (w ∷ []) ≡ words_at (Some k) (run_coordinates left) =
+    (λ i. w-is i ∷ []) ∙ sym (first_words left k 0 one l.there) in
+    l.goes (range_by 0 new)
+    (counts.range 0 (omega (arith, l.counted, one)) ∙ ap (λ n. widened (range_by n now) (w ∷ [])) (sym one)
+    ∙ ap (widened (range_by left.count now)) words)
+
 pub ruleset run_laws = (run_first, run_done)
 
 no_column : (cs : List Coordinate) → words_of_each (word_at None) cs ≡ []

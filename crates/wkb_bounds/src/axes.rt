@@ -74,7 +74,8 @@ impl AxisExtremes {
         }
     }
 
-    /// Widens the ranges of x and y by a run. If the order is a constant, the extremes stay in registers.
+    /// Widens the ranges of x and y by a run, two coordinates per iteration. If the order is a constant, the extremes
+    /// stay in registers.
     #[tactic(auto, using(crate::proofs::Widening::run_laws))]
     #[inline(always)]
     fn widen_plane_by(&mut self, run: Run<'_>)
@@ -85,10 +86,19 @@ impl AxisExtremes {
         let mut x = self.x.counting(run.count);
         let mut y = self.y.counting(run.count);
         let mut left = run;
-        while left.count > 0 {
+        let mut pairs = run.count / 2;
+        while pairs > 0 {
             x = x.with(left.first_word(0));
             y = y.with(left.first_word(1));
-            left = left.behind_first();
+            let second = left.behind_first();
+            x = x.with(second.first_word(0));
+            y = y.with(second.first_word(1));
+            left = second.behind_first();
+            pairs -= 1;
+        }
+        if left.count > 0 {
+            x = x.with(left.first_word(0));
+            y = y.with(left.first_word(1));
         }
         self.x = x;
         self.y = y;

@@ -37,6 +37,22 @@ fn run_bounds_by_into(
     *bounds = extremes.bounds();
 }
 
+/// As `run_bounds_by_into`. It isn't inlined, so that others don't pay for its frame.
+#[inline(never)]
+fn other_run_bounds_into(
+    dimension: Dimension,
+    order: Endianness,
+    count: u32,
+    bytes: &[u8],
+    bounds: &mut Bounds,
+)
+    requires { 8 * width dimension * count ≤ length bytes.now }
+    ensures { Widens no_bounds bounds.new
+        (λ a. words_in a dimension (coordinates order dimension count bytes.now)) }
+{
+    run_bounds_by_into(dimension, order, count, bytes, bounds);
+}
+
 /// Writes the bounds of `count` coordinates, with a loop for each order if they have neither z nor m. It isn't inlined,
 /// so that others don't pay for its frame.
 #[inline(never)]
@@ -56,7 +72,7 @@ fn run_bounds_into(
     match (dimension, order) {
         (Xy, Big) => run_bounds_by_into(Xy, Big, count, bytes, bounds),
         (Xy, Little) => run_bounds_by_into(Xy, Little, count, bytes, bounds),
-        _ => run_bounds_by_into(dimension, order, count, bytes, bounds),
+        _ => other_run_bounds_into(dimension, order, count, bytes, bounds),
     }
 }
 
@@ -100,6 +116,22 @@ fn rings_bounds_by_into(
     *bounds = extremes.bounds();
 }
 
+/// As `rings_bounds_by_into`. It isn't inlined, so that others don't pay for its frame.
+#[inline(never)]
+fn other_rings_bounds_into(
+    buf: &[u8],
+    dimension: Dimension,
+    order: Endianness,
+    srid: Option<u32>,
+    bounds: &mut Bounds,
+)
+    requires here { HasGeometry buf.now }
+    requires header { IsHeaderAt buf.now 0 POLYGON dimension order srid }
+    ensures { (g : HasGeometry buf.now) → AreBounds bounds.new g.value }
+{
+    rings_bounds_by_into(buf, dimension, order, srid, bounds);
+}
+
 /// Writes the bounds of a polygon with this header, with a loop for each order if it has neither z nor m. It takes
 /// scalars, so that the findings on other geometries need no place in memory.
 #[inline(never)]
@@ -119,7 +151,7 @@ fn rings_bounds_into(
     match (dimension, order) {
         (Xy, Big) => rings_bounds_by_into(buf, Xy, Big, srid, bounds),
         (Xy, Little) => rings_bounds_by_into(buf, Xy, Little, srid, bounds),
-        _ => rings_bounds_by_into(buf, dimension, order, srid, bounds),
+        _ => other_rings_bounds_into(buf, dimension, order, srid, bounds),
     }
 }
 
@@ -209,10 +241,7 @@ fn front_bounds_into(buf: &[u8], bounds: &mut Bounds)
     let mut extremes = AxisExtremes::none();
     let mut pieces = Pieces::of(buf);
     let order = Piece::of_geometry(buf, 0).order;
-    by_order!(
-        order,
-        widen_by_bare(order, buf, &mut pieces, &mut extremes)
-    );
+    by_order!(order, widen_by_bare(order, buf, &mut pieces, &mut extremes));
     while let Some(piece) = pieces.next() {
         widen_by_piece(buf, &piece, &mut extremes);
     }
