@@ -294,6 +294,18 @@ fn lay_piece_levels(
     lay_single(piece, at, out.single_ends);
 }
 
+/// The first piece of a geometry. A plain header in this order is compared, not decoded.
+#[inline(always)]
+fn first_of_member(bytes: &[u8], order: Endianness) -> Piece
+    requires { HasGeometry bytes.now }
+    ensures { IsPieceAt bytes.now 0 result }
+{
+    match Pieces::of(bytes).next_bare(order) {
+        Some(piece) => piece,
+        None => Piece::of_geometry(bytes, 0),
+    }
+}
+
 /// Writes the levels of a row from the totals on, for which there is room, by its first piece. Those of a geometry with
 /// one member are those of that member.
 #[inline(always)]
@@ -311,7 +323,10 @@ pub fn lay_levels(
     ensures same_slices { AreSameSlices out.old out.new }
 {
     match first.only_member(row) {
-        Some(member) => lay_by_kind(member, &Piece::of_geometry(member, 0), from, asked, out),
+        Some(member) => {
+            let own = first_of_member(member, first.order);
+            lay_by_kind(member, &own, from, asked, out);
+        }
         None => lay_by_kind(row, first, from, asked, out),
     }
 }
@@ -328,9 +343,16 @@ fn lay_by_kind(row: &[u8], first: &Piece, from: Totals, asked: Dimension, out: &
     if first.has_coordinates() {
         lay_piece_levels(row, first, asked, from, out);
     } else if first.kind == POLYGON {
-        // In the first arm the loop tests neither for each ring.
+        // In the first arm the loop tests neither for each ring: the order is a constant, and the dimensions are one.
         match (first.order, first.dimension == asked) {
-            (Endianness::LittleEndian, true) => lay_rings(row, first, from, asked, out),
+            (Endianness::LittleEndian, true) => {
+                let plain = Piece {
+                    order: Endianness::LittleEndian,
+                    dimension: asked,
+                    ..*first
+                };
+                lay_rings(row, &plain, from, asked, out);
+            }
             _ => lay_rings(row, first, from, asked, out),
         }
     } else {

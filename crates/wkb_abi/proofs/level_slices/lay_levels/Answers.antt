@@ -2,8 +2,8 @@ use Rattle.wkb_abi.proofs.Common.{levels_of, ◌∙◌}
 use Rattle.wkb_abi.proofs.Levels.{member_levels, member_fits}
 use Rattle.wkb_abi.proofs.level_slices.lay_levels.Goals as goal
 
-pub of_geometry-requires : goal.of_geometry-requires
-of_geometry-requires c = record { here = (c.in-Some.ensures c.requires.here).member }
+pub first_of_member-own-requires : goal.first_of_member-own-requires
+first_of_member-own-requires c = (c.in-Some.ensures c.requires.here).member
 
 pub lay_by_kind-requires-clause-here : goal.lay_by_kind-requires-clause-here
 lay_by_kind-requires-clause-here c = (c.in-Some.ensures c.requires.here).member
