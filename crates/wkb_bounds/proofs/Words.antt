@@ -1,6 +1,7 @@
 -- The words of a geometry's pieces: they widen a range as the words of its value do.
-use Rattle.std.proofs.Common.{◌≡◌, ℕ, zero, suc, ◌+◌, ◌*◌, ◌≤◌, List, [], ◌∷◌, ◌++◌, length, take, drop, arith, Some, None, Option}
-use Rattle.std.proofs.Common.{true, false, nat_lt, refl, sym, ap, ◌∙◌, append-nil, append_assoc, subst}
+use Rattle.std.proofs.Common.{◌≡◌, ℕ, zero, suc, ◌+◌, ◌*◌, ◌≤◌, List, [], ◌∷◌, ◌++◌, length, take, drop, arith}
+use Rattle.std.proofs.Common.{true, false, nat_lt, refl, sym, ap, ◌∙◌, append-nil, append_assoc, subst, Some, None}
+use Rattle.std.proofs.Common.{Option}
 use Rattle.std.proofs.lemmas.Bool.{cond-true, cond-false}
 use Rattle.std.specs.Cmp.{first_so, second_so}
 use Rattle.wkb_geom.specs.Numbers.{is_nan}
@@ -14,9 +15,9 @@ use Rattle.wkb_bounds.specs.declared.{range.Range.Range, range.Bounds.Bounds, ax
 use Rattle.wkb_bounds.specs.Ranges.{widened, range_of, no_numbers}
 use Rattle.wkb_bounds.specs.Ordinates.{Axis, axis_place, word_at, words_of_each, words_in, words_on, words_on_each}
 use Rattle.wkb_bounds.specs.Bounded.{on, nothing, AreBounds, bounds_by}
-use Rattle.wkb_bounds.specs.Walking.{piece_words, CountsUpTo, WidensByPiece, WidenedSoFar, HasWidened}
-use Rattle.wkb_check.specs.Pieces.{pieces_of, piece_of, own_end, IsRing, IsAhead, IsTaken, IsNext, Steps, OnlyMember}
-use Rattle.wkb_check.specs.Pieces.{HasAll, HasAhead, TakesOrStays}
+use Rattle.wkb_bounds.specs.Walking.{piece_words, CountsUpTo, WidensByPiece, HasWidened}
+use Rattle.wkb_check.specs.Pieces.{pieces_of, piece_of, own_end, IsNext, Steps, OnlyMember}
+use Rattle.wkb_check.specs.Pieces.{HasAll, HasAhead, IsBehind, TakesOrStays}
 use Rattle.wkb_bounds.proofs.Widening.{widened-append}
 use Rattle.wkb_check.proofs.Placing.{only_piece}
 use Rattle.wkb_check.proofs.Subjects.{ArePiecesOf, pieces_match}
@@ -153,56 +154,18 @@ pub all_widened : (buf : List ℕ) (b : Bounds) (ps : List Piece) (g : HasGeomet
     → ((a : Axis) → on a b ≡ widened (on a nothing) (words_of_each (piece_words a buf) ps)) → AreBounds b g.value
 all_widened buf b ps g all widens = λ a. rw (widens a, on_nothing a, ← all) (all_words a buf g)
 
--- ---- the loop over the rings of a polygon
-
--- the words of a ring
-pub ring_words : (a : Axis) (buf : List ℕ) (p : Piece) {order : Endianness} {d : Dimension} → IsRing order d p
-    → piece_words a buf p ≡ words_in a d (coordinates order d p.count (drop p.offset buf))
-ring_words a buf p r = grind arith
-
-module _ {buf : List ℕ} where
-  -- the first piece has no coordinates
-  pub first_passed : {w : Pieces} {first : Piece} {b : Bounds} (g : HasGeometry buf)
-      → IsTaken w (pieces_of 0 g.spelled g.value) first → nat_lt first.kind 3 ≡ false → b ≡ nothing
-      → WidenedSoFar buf w b g
-  first_passed {first = first} g taken high none = record {
-    passed = first ∷ [];
-    left = taken.rest;
-    all = taken.first;
-    ahead = taken.ahead;
-    widens = λ a.
-        ap (on a) none ∙ ap (λ ws. widened (on a nothing) (ws ++ [])) (sym (no_words a buf first high));
-  }
-
-  pub one_passed : {old new : Pieces} {b now : Bounds} {p : Piece} {g : HasGeometry buf} → WidenedSoFar buf old b g
-      → Steps old (Some p) new → ((a : Axis) → on a now ≡ widened (on a b) (piece_words a buf p))
-      → WidenedSoFar buf new now g
-  one_passed {p = p} x s more =
-      let taken = s.steps x.left x.ahead in
-      record {
-        passed = x.passed ++ p ∷ [];
-        left = taken.rest;
-        all = x.all ∙ ap (λ ps. x.passed ++ ps) taken.first ∙ sym (append_assoc x.passed (p ∷ []) taken.rest);
-        ahead = taken.ahead;
-        widens = λ a. more a ∙ widened_push a buf (on a nothing) x.passed p _ (x.widens a);
-      }
-
-  pub all_passed : {old new : Pieces} {b : Bounds} {r : Option Piece} {g : HasGeometry buf} → WidenedSoFar buf old b g
-      → r ≡ None → Steps old r new → AreBounds b g.value
-  all_passed {new = new} {b = b} {g = g} x none s =
-      all_widened buf b x.passed g
-      (x.all ∙ ap (λ ps. x.passed ++ ps) (subst (IsNext new x.left) none (s.steps x.left x.ahead)) ∙ append-nil x.passed)
-      x.widens
-
--- ---- the loop over the pieces of any geometry
+-- ---- a walk over the pieces
 
 -- a piece that was taken came by a step
 pub stepped : {old new : Pieces} {p : Piece} → TakesOrStays old (Some p) new → Steps old (Some p) new
 stepped t = record { steps = t.takes.steps; inside = t.takes.inside; further = t.further; same = t.same }
 
+none_few : (n : ℕ) (k : AxisExtremes) → bounds_by k ≡ nothing → CountsUpTo n k
+none_few n k none a = omega (arith, ap (λ b. (on a b).count) none, none_counted a)
+
 module _ {buf : List ℕ} where
   pub walk_starts : {w : Pieces} {k : AxisExtremes} → HasAll buf w → bounds_by k ≡ nothing → HasWidened buf w k
-  walk_starts all none = record {
+  walk_starts {w} {k} all none = record {
     so_far = λ g. record {
       passed = [];
       left = _;
@@ -211,8 +174,25 @@ module _ {buf : List ℕ} where
       widens = λ a. ap (on a) none;
     };
     same = all.same;
-    few = λ a. omega (arith, ap (λ b. (on a b).count) none, none_counted a);
+    few = none_few w.at k none;
     inside = omega (arith, all.begins);
+  }
+
+  -- the first piece has no coordinates
+  pub walk_behind : {w : Pieces} {first : Piece} {k : AxisExtremes} → IsBehind buf first w
+      → nat_lt first.kind 3 ≡ false → bounds_by k ≡ nothing → HasWidened buf w k
+  walk_behind {w} {first} {k} behind high none = record {
+    so_far = λ g. let taken = behind.steps g in record {
+      passed = first ∷ [];
+      left = taken.rest;
+      all = taken.first;
+      ahead = taken.ahead;
+      widens = λ a.
+          ap (on a) none ∙ ap (λ ws. widened (on a nothing) (ws ++ [])) (sym (no_words a buf first high));
+    };
+    same = behind.same;
+    few = none_few w.at k none;
+    inside = behind.inside.inside;
   }
 
   pub walk_ahead : {w : Pieces} {k : AxisExtremes} → HasGeometry buf → HasWidened buf w k → HasAhead w
@@ -228,8 +208,17 @@ module _ {buf : List ℕ} where
 
   pub walk_goes : {old new : Pieces} {k now : AxisExtremes} {p : Piece} → HasWidened buf old k
       → Steps old (Some p) new → WidensByPiece buf p k now → HasWidened buf new now
-  walk_goes x s w = record {
-    so_far = λ g. one_passed (x.so_far g) s w.widens;
+  walk_goes {p = p} x s w = record {
+    so_far = λ g.
+        let f = x.so_far g in
+        let taken = s.steps f.left f.ahead in
+        record {
+          passed = f.passed ++ p ∷ [];
+          left = taken.rest;
+          all = f.all ∙ ap (λ ps. f.passed ++ ps) taken.first ∙ sym (append_assoc f.passed (p ∷ []) taken.rest);
+          ahead = taken.ahead;
+          widens = λ a. w.widens a ∙ widened_push a buf (on a nothing) f.passed p _ (f.widens a);
+        };
     same = s.same ∙ x.same;
     few = λ a. omega (arith, w.few a, s.inside.ends);
     inside = omega (arith, s.inside.inside, ap length x.same);
@@ -240,4 +229,8 @@ module _ {buf : List ℕ} where
 
   pub walk_ends : {old new : Pieces} {k : AxisExtremes} {r : Option Piece} {b : Bounds} → HasWidened buf old k
       → r ≡ None → Steps old r new → b ≡ bounds_by k → (g : HasGeometry buf) → AreBounds b g.value
-  walk_ends x none s is g = subst (λ b. AreBounds b g.value) (sym is) (all_passed (x.so_far g) none s)
+  walk_ends {new = new} {k} x none s is g =
+      let f = x.so_far g in
+      let all = f.all ∙ ap (λ ps. f.passed ++ ps) (subst (IsNext new f.left) none (s.steps f.left f.ahead))
+      ∙ append-nil f.passed in
+      subst (λ b. AreBounds b g.value) (sym is) (all_widened buf (bounds_by k) f.passed g all f.widens)

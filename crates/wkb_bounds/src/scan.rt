@@ -92,6 +92,19 @@ fn piece_bounds_into(buf: &[u8], only: &Piece, bounds: &mut Bounds)
     run_bounds_into(only.dimension, only.order, only.count, bytes, bounds);
 }
 
+/// Widens the ranges by the coordinates of a piece, if it has some.
+#[inline(always)]
+fn widen_by_piece(buf: &[u8], piece: &Piece, extremes: &mut AxisExtremes)
+    requires inside { own_end piece.now ≤ length buf.now }
+    requires few { CountsUpTo piece.now.offset extremes.old }
+    ensures { WidensByPiece buf.now piece.now extremes.old extremes.new }
+{
+    if piece.has_coordinates() {
+        let bytes = rest_from(buf, piece.offset);
+        extremes.widen(piece.dimension, piece.order, piece.count, bytes);
+    }
+}
+
 /// Writes the bounds of a polygon with this header. If it is inlined, the order and the dimension are constants.
 #[tactic(auto, using(wkb_check::proofs::Following::fewer_left))]
 #[inline(always)]
@@ -110,8 +123,7 @@ fn rings_bounds_by_into(
     let mut extremes = AxisExtremes::none();
     let mut pieces = Pieces::behind(buf, &first);
     while let Some(ring) = pieces.next_if_ring() {
-        let bytes = rest_from(buf, ring.offset);
-        extremes.widen(dimension, order, ring.count, bytes);
+        widen_by_piece(buf, &ring, &mut extremes);
     }
     *bounds = extremes.bounds();
 }
@@ -190,19 +202,6 @@ fn member_bounds_into(buf: &[u8], bounds: &mut Bounds)
         return rings_bounds_into(buf, first.dimension, first.order, first.srid, bounds);
     }
     front_bounds_into(buf, bounds);
-}
-
-/// Widens the ranges by the coordinates of a piece, if it has some.
-#[inline(always)]
-fn widen_by_piece(buf: &[u8], piece: &Piece, extremes: &mut AxisExtremes)
-    requires inside { own_end piece.now ≤ length buf.now }
-    requires few { CountsUpTo piece.now.offset extremes.old }
-    ensures { WidensByPiece buf.now piece.now extremes.old extremes.new }
-{
-    if piece.has_coordinates() {
-        let bytes = rest_from(buf, piece.offset);
-        extremes.widen(piece.dimension, piece.order, piece.count, bytes);
-    }
 }
 
 /// Widens the ranges by the next pieces, as long as geometries have a plain header in this order. Where that is a

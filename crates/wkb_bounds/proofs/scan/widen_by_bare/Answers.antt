@@ -1,6 +1,6 @@
-use Rattle.std.proofs.Common.{arith, ◌∙◌}
+use Rattle.std.proofs.Common.{arith}
 use Rattle.wkb_check.proofs.Following.{fewer_left}
-use Rattle.wkb_bounds.proofs.Words.{stepped, walk_ahead, walk_few, walk_inside, walk_goes, walk_stays}
+use Rattle.wkb_bounds.proofs.Words.{stepped, walk_ahead, walk_goes, walk_stays}
 use Rattle.wkb_bounds.proofs.scan.widen_by_bare.Goals as goal
 
 -- ---- a point with a plain header
@@ -16,7 +16,8 @@ loop-point-preserved-in-Some c =
 
 pub next_bare-requires : goal.next_bare-requires
 next_bare-requires c =
-    record { ahead = walk_ahead c.requires.here (walk_stays c.loop-point.invariant (c.next_if_point.ensures.stays c.in_default.is)) }
+    let still = walk_stays c.loop-point.invariant (c.next_if_point.ensures.stays c.in_default.is) in
+    record { ahead = walk_ahead c.requires.here still }
 
 pub loop-ring-init : goal.loop-ring-init
 loop-ring-init c = record {

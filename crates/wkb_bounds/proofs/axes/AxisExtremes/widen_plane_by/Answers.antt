@@ -1,6 +1,6 @@
 use Rattle.std.proofs.Common.{◌≡◌, arith, refl}
 use Rattle.wkb_bounds.specs.Ordinates.{x_axis, y_axis}
-use Rattle.wkb_bounds.proofs.Widening.{run_first, run_next, run_last, run_done}
+use Rattle.wkb_bounds.proofs.Widening.{run_next, run_last, run_done}
 use Rattle.wkb_bounds.proofs.axes.AxisExtremes.widen_plane_by.Goals as goal
 use Rattle.wkb_bounds.proofs.axes.AxisExtremes.widen_plane_by.Goals.{then-left-gt0, else-left-gt0}
 
