@@ -6,7 +6,7 @@ ghost use Rattle.wkb_geom.specs.Reading.{meaning, meaning_of};
 
 use crate::code::{
     GEOMETRY_COLLECTION, LINE_STRING, MULTI_LINE_STRING, MULTI_POINT, MULTI_POLYGON, POINT,
-    POLYGON, SRID_FLAG, WkbGeometryCode, WkbType,
+    POLYGON, SRID_FLAG, WkbGeometryCode, WkbType, of_kind,
 };
 use crate::common::{Dimension, Endianness};
 use crate::error::{Cause, General};
@@ -65,6 +65,22 @@ fn type_of_bare(code: u32) -> Option<WkbType>
     }
 }
 
+/// The type of a code without flags, by comparisons: a division takes longer.
+#[inline(always)]
+fn type_of_iso(code: u32) -> Option<WkbType>
+    ensures { IfSome result (λ t. meaning_of code ≡ Some (meaning t false)) }
+{
+    if let Some(wkb_type) = type_of_bare(code) {
+        return Some(wkb_type);
+    }
+    match code {
+        1001..=1007 => Some(of_kind(code - 1000, Dimension::Xyz)),
+        2001..=2007 => Some(of_kind(code - 2000, Dimension::Xym)),
+        3001..=3007 => Some(of_kind(code - 3000, Dimension::Xyzm)),
+        _ => None,
+    }
+}
+
 impl Head {
     ghost use Rattle.std.specs.Prelude.{◌≡◌, IfSome, Ok, false};
     ghost use Rattle.wkb_geom.specs.Reading.{head_at, layout_of};
@@ -92,7 +108,12 @@ impl Head {
         let order = Endianness::of_byte(bytes[0])?;
         let code = u32_at(bytes, ORDER_SIZE, order);
         let has_srid = SRID_FLAG <= code;
-        let wkb_type = type_of_bare(if has_srid { code - SRID_FLAG } else { code })?;
+        // By arms, so that it is a constant in what follows whether an SRID is there.
+        let wkb_type = if has_srid {
+            type_of_bare(code - SRID_FLAG)?
+        } else {
+            type_of_iso(code)?
+        };
         Some(Head {
             order,
             wkb_type,
