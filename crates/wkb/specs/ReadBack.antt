@@ -1,17 +1,17 @@
 -- Lemmas: what is read of an encoding that was written.
-use Rattle.std.proofs.Common.{◌≡◌, ◌≤◌, ℕ, List, [], Option, Some, None, Result, Ok, Bool, true, false}
-use Rattle.std.proofs.Common.{if◌then◌else◌, refl, sym, ap, subst, ◌∙◌, ◌++◌}
+use Rattle.std.proofs.Common.{◌≡◌, ◌≤◌, ℕ, List, [], Option, Some, None, Result, Ok, Bool, sym, ap, subst, ◌∙◌, ◌++◌}
 use Rattle.std.specs.declared.io.Error.{Error}
-use Rattle.wkb.specs.Prelude.{Dimension, WkbError, all_nan}
-use Rattle.wkb.specs.Values.{Coordinate, Value, point, nest}
+use Rattle.wkb.specs.Prelude.{WkbError}
+use Rattle.wkb.specs.Values.{nest}
 use Rattle.wkb.specs.Spellings.{Front, max_nesting}
-use Rattle.wkb.specs.Geometries.{Geometry, IsGeometry, normal, normal_point}
+use Rattle.wkb.specs.Geometries.{Geometry, IsGeometry, normal}
 use Rattle.wkb.specs.Encodings.{IsForm, encoding_of, fault_of}
 use Rattle.wkb.specs.Writes.{WriteOptions, Writes}
-use Rattle.wkb.specs.Reads.{Item, IsOnlyFront, point_of}
+use Rattle.wkb.specs.Reads.{Item, IsOnlyFront}
 use Rattle.wkb.specs.Bridges.{read_again}
 use Rattle.wkb.specs.Known.{writable_is_read}
 pub use Rattle.wkb.specs.Terms.{IsReadBefore}
+pub use Rattle.wkb_view.proofs.ViewLaws.{empty_point_read, point_read}
 
 -- An encoding that other bytes follow is read before them.
 pub encoding_is_read : (rest : List ℕ) (options : WriteOptions) (g : Geometry) (encoding bytes : List ℕ)
@@ -30,21 +30,3 @@ pub value_is_read : {options : WriteOptions} {g : Geometry} {r : Result (Unit {0
 value_is_read {g = g} empty written is shallow same only =
     let read = read_again empty written is shallow in
     (only read.0 (normal g) [] (subst (λ b. Front b read.0 (normal g) []) (sym same) read.1)).2
-
-empty_by : (b : Bool) (words : Coordinate) → None ≡ (if b then None else Some words) → b ≡ true
-empty_by true words h = refl
-empty_by false words h = absurd (cc)
-
-words_by : (b : Bool) (words read : Coordinate) → Some read ≡ (if b then None else Some words) → read ≡ words
-words_by true words read h = absurd (cc)
-words_by false words read h = cc
-
--- A point that is read as the empty one was written with NaNs alone.
-pub empty_point_read : (d : Dimension) (words : Coordinate) (t : Value) → point d (normal_point (Some words)) ≡ t
-    → None ≡ point_of t → all_nan words ≡ true
-empty_point_read d words t same none = empty_by (all_nan words) words (none ∙ ap point_of (sym same))
-
--- A point that is read with words was written with these.
-pub point_read : (d : Dimension) (words read : Coordinate) (t : Value) → point d (normal_point (Some words)) ≡ t
-    → Some read ≡ point_of t → read ≡ words
-point_read d words read t same some = words_by (all_nan words) words read (some ∙ ap point_of (sym same))

@@ -7,8 +7,8 @@ pub use Rattle.wkb_geom.specs.Fronts.{HasNoFront}
 pub use Rattle.wkb_read.specs.Reads.{IsFront, IsOnlyFront, IsRefusal, TellsEach, IfRefused, IfMemory, CountsValue}
 pub use Rattle.wkb_read.specs.Reads.{CountsRefusal, CountsAtMost, CanBeWritten, AsksForNone, BeginsNone, KindTakesNone}
 pub use Rattle.wkb_read.specs.Reads.{TakesNoMemory, IsRead, Lends, Reads, Costs}
-pub use Rattle.wkb_read.specs.Meanings.{geometry_seen, members_seen}
-pub use Rattle.wkb_read.specs.Lawful.{geometry_lawful, members_lawful, one_dimension_seen, seen_as_it_is}
+pub use Rattle.wkb_view.specs.Lends.{geometry_seen, members_seen}
+pub use Rattle.wkb_view.proofs.ViewLaws.{geometry_lawful, members_lawful, one_dimension_seen, seen_as_it_is, point_value}
 pub use Rattle.wkb_read.specs.Views.{IsCollectionOf, IsViewOf}
 pub use Rattle.wkb_read.specs.Places.{collection_seen, joined_encodings, HoldsMembers, IsCollectionIn, AreMembers}
 pub use Rattle.wkb_read.specs.Places.{IsMemberAt}
@@ -31,7 +31,7 @@ pub use Rattle.wkb_geom.specs.Reading.{body_start, parts_start, point_item, line
 pub use Rattle.wkb_laws.specs.Fits.{fitted_line_string, fitted_line_strings, fitted_polygons, fitted_point}
 pub use Rattle.wkb_laws.specs.Fits.{fitted_geometry, fitted_geometries, fitted_parts, fitted_polygon, fitted_members}
 pub use Rattle.wkb_laws.specs.Fits.{fitted_rings_size}
-pub use Rattle.wkb_view.specs.Lawful.{point_value, fitted_geometry-same}
+pub use Rattle.wkb_laws.proofs.Fitted.{fitted_geometry-same}
 pub use Rattle.wkb_read.specs.declared.geometry.Wkb.{Wkb}
 pub use Rattle.wkb_view.specs.declared.{coord.Coord.Coord, counts.Counts.Counts, line_string.LineString.LineString}
 pub use Rattle.wkb_view.specs.declared.{linear_ring.LinearRing.LinearRing, multi_point.MultiPoint.MultiPoint}

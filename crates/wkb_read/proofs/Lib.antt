@@ -10,3 +10,5 @@ pub mod Places
 pub mod Results
 pub mod Stack
 mod Sums
+pub mod Handed
+pub mod OwnBytes

@@ -13,7 +13,8 @@ use Rattle.wkb_geom.specs.Geometries.{point}
 use Rattle.wkb_geom.specs.Parts.{CollectionMeans}
 use Rattle.wkb_laws.specs.Fits.{fitted_geometry, fitted_geometries}
 use Rattle.wkb_view.specs.Views.{point_seen, point_dimension, seen_coordinate}
-use Rattle.wkb_view.specs.Lawful.{fitted_geometry-same, point_value, point_item_lawful}
+use Rattle.wkb_view.specs.Lawful.{fitted_geometry-same, point_item_lawful}
+use Rattle.wkb_view.proofs.ViewLaws.{point_value}
 use Rattle.wkb_view.specs.declared.{point.Point.Point, line_string.LineString.LineString}
 use Rattle.wkb_view.specs.declared.multi_point.MultiPoint.{MultiPoint}
 use Rattle.wkb_read.specs.Views.{IsViewOf}

@@ -30,8 +30,8 @@ pub use Rattle.wkb_read.specs.Places.{IsMemberAt}
 pub use Rattle.wkb_geom.specs.Fronts.{HasNoFront}
 pub use Rattle.wkb_read.specs.Reads.{IsFront, IsOnlyFront, IsRefusal, TellsEach, IfRefused, IfMemory, CountsValue}
 pub use Rattle.wkb_read.specs.Reads.{CountsRefusal, CountsAtMost, AsksForNone, BeginsNone, KindTakesNone, TakesNoMemory}
-pub use Rattle.wkb_read.specs.Meanings.{geometry_seen, members_seen}
-pub use Rattle.wkb_read.specs.Lawful.{seen_as_it_is}
+pub use Rattle.wkb_view.specs.Lends.{geometry_seen, members_seen}
+pub use Rattle.wkb_view.proofs.ViewLaws.{seen_as_it_is}
 pub use Rattle.wkb_read.specs.Stack.{after_member, in_collection, outward, first_member, IsOpen, AreOpen, IsFinished}
 pub use Rattle.wkb_read.specs.Stack.{collection_inside, BeginsAs, ReadsAs}
 pub use Rattle.wkb_laws.proofs.Sums.{sum_more}

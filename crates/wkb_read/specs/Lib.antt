@@ -2,14 +2,10 @@ pub mod Prelude
 pub mod Items
 pub mod ItemsFall
 pub mod Memory
-pub mod Nodes
-pub mod MembersFall
 pub mod Places
 pub mod Views
 pub mod Reads
 pub mod NoSrids
 pub mod Stack
 pub mod Types
-pub mod Meanings
-pub mod Lawful
 pub mod Contents

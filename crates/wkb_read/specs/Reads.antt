@@ -1,10 +1,10 @@
 -- What the result of reading says of the input.
-use Rattle.std.specs.Prelude.{◌≡◌, ℕ, ◌+◌, ◌*◌, ◌≤◌, List, length, Bool, Result, Ok, Err, IfOk, IfErr}
+use Rattle.std.specs.Prelude.{◌≡◌, ℕ, ◌+◌, ◌*◌, ◌≤◌, List, length, Bool, Result, Ok, Err, IfOk, IfErr, drop}
 use Rattle.wkb_read.specs.Prelude.{Endianness, Dimension, WkbError, Value, member_count, listed_count, Spelling}
 use Rattle.wkb_read.specs.Prelude.{any, Front, HasNoFront, max_nesting, Cause, Refuses, Opens, Tells, geometry_of}
 use Rattle.wkb_read.specs.Prelude.{Item, Counts, IsGeometry, normal}
 use Rattle.wkb_read.specs.Memory.{IsNotMemory}
-use Rattle.wkb_read.specs.Meanings.{geometry_seen}
+use Rattle.wkb_view.specs.Lends.{geometry_seen}
 pub use Rattle.wkb_view.specs.Lends.{IsFront, CanBeWritten, IsRead, Lends}
 use Rattle.wkb_geom.specs.declared.error.WkbError.TheVariants as errors
 use Rattle.wkb_read.specs.declared.geometry.Wkb.{Wkb}
@@ -13,6 +13,11 @@ use Rattle.wkb_read.specs.declared.geometry.Wkb.{Wkb}
 abbrev pub IsOnlyFront : List ℕ → Item → Type 0
 IsOnlyFront buf w = (s : Spelling) (t : Value) (rest : List ℕ) → (f : Front buf s t rest)
     → (f.front ≡ w.encoding) × (s ≡ w.spelled) × (t ≡ w.value)
+
+-- The geometry at an offset in a blob: the bytes there spell it, and no other is there.
+pub record BeginsAt (blob : List ℕ) (offset : ℕ) (w : Item) : Type 0 where
+  pub front : IsFront (drop offset blob) w
+  pub only : IsOnlyFront (drop offset blob) w
 
 -- the input is rejected, and the error says why
 pub record IsRefusal (buf : List ℕ) (e : WkbError) : Type 0 where

@@ -1,8 +1,8 @@
 //! Collections, and geometries of any kind.
 
 ghost use Rattle.wkb_read.specs.Prelude.{as_dimensions};
-ghost use Rattle.wkb_read.specs.Meanings.{members_seen, geometry_seen};
-ghost use Rattle.wkb_read.specs.Lawful.{members_lawful, geometry_lawful, one_dimension_seen};
+ghost use Rattle.wkb_view.specs.Lends.{members_seen, geometry_seen};
+ghost use Rattle.wkb_view.proofs.ViewLaws.{members_lawful, geometry_lawful, one_dimension_seen};
 
 use crate::geometry_type::GeometryType as TypeName;
 use crate::read::read_wkb;
@@ -70,8 +70,8 @@ impl Drop for Wkb<'_> {
 
 impl<'a> Model for GeometryCollection<'a> {
     ghost use Rattle.wkb_read.specs.Prelude.{Values, Listed, listed_code, values_code, max_nesting, nest_each, values};
-    ghost use Rattle.wkb_read.specs.Nodes.{size_inside};
-    ghost use Rattle.wkb_read.specs.MembersFall.{members_fall};
+    ghost use Rattle.wkb_view.specs.Nodes.{size_inside};
+    ghost use Rattle.wkb_view.proofs.MembersFall.{members_fall};
     ghost use Rattle.std.specs.Prelude.{◌≡◌, ◌<◌};
     ghost use Rattle.wkb_read.specs.Places.{IsCollectionIn, parts_in};
     ghost use Rattle.wkb_read.specs.NoSrids.{HaveNoSrids};
@@ -93,7 +93,7 @@ impl<'a> Model for GeometryCollection<'a> {
 
 impl<'a> Model for Wkb<'a> {
     ghost use Rattle.wkb_read.specs.Prelude.{Item, item_code};
-    ghost use Rattle.wkb_read.specs.Nodes.{size_outside};
+    ghost use Rattle.wkb_view.specs.Nodes.{size_outside};
 
     ghost Value = { Item };
 

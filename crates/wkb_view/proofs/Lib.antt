@@ -14,3 +14,9 @@ mod CoordsAsWritten
 pub mod Encodings
 pub mod Sizes
 pub mod CoordCounts
+pub mod ViewLaws
+pub mod MembersFall
+pub mod Standing
+pub mod Listed
+pub mod Places
+pub mod Fronts

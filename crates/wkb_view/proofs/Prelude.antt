@@ -17,8 +17,9 @@ pub use Rattle.wkb_laws.proofs.Values.{spelled_good, lawful-geometry_of}
 pub use Rattle.wkb_view.specs.Coords.{ring_seen}
 pub use Rattle.wkb_view.specs.Entries.{entries_asked, HasNoList, entries, capacity}
 pub use Rattle.wkb_laws.specs.Fits.{fitted_line_strings, fitted_parts}
-pub use Rattle.wkb_view.specs.Lawful.{AreBytes-take, AreBytes-drop, fitted_geometry-same, point_value, member_dimension}
+pub use Rattle.wkb_view.specs.Lawful.{AreBytes-take, AreBytes-drop, fitted_geometry-same, member_dimension}
 pub use Rattle.wkb_view.specs.Lawful.{ring_lawful}
+pub use Rattle.wkb_view.proofs.ViewLaws.{point_value}
 pub use Rattle.wkb_view.specs.Members.{polygon_laid, polygon_seen, IsEncoding, IsMemberOfKind, member_item}
 pub use Rattle.wkb_view.specs.Members.{polygon_items, members_in, point_ends, points_in, multi_line_string_seen}
 pub use Rattle.wkb_view.specs.Members.{members_behind, multi_polygon_seen, AreOfDimension}

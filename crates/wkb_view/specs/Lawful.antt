@@ -1,16 +1,12 @@
--- Lemmas: each point of a multi point that was read is lawful, and what a point's value is. Those on all bytes and on
--- coordinates that are fitted are passed on. Laws of the traits cite them, and users.
+-- Lemmas: each point of a multi point that was read is lawful. Those on all bytes and on
+-- coordinates that are fitted are passed on. Laws of the traits cite them.
 use Rattle.std.proofs.Common.{◌≡◌, ℕ, ◌+◌, ◌-◌, List, [], ◌∷◌, drop, map, Result, Ok, Err, refl, false, subst}
 use Rattle.std.specs.List.{AllByRecursion}
 use Rattle.wkb_geom.specs.Geometries.{IsPoint}
-use Rattle.wkb_geom.specs.Values as values
 use Rattle.wkb_view.specs.Prelude.{BigEndian, Dimension, Layout, as_dimensions, Cause, AreBytes, laid, body_start}
 use Rattle.wkb_view.specs.Prelude.{point_of, point_item, points_of}
 use Rattle.wkb_view.specs.Members.{layout_said, member_item, point_ends, multi_point_item}
 use Rattle.wkb_view.specs.Pieces.{pieces}
-use Rattle.wkb_view.specs.declared.point.Point.{Point}
-use Rattle.wkb_view.specs.Views.{point_seen, point_dimension}
-use Rattle.wkb_laws.proofs.ReadIsLawful.{point_item_value}
 pub use Rattle.wkb_laws.proofs.ReadIsLawful.{number-lt, AreBytes-drop, AreBytes-take, named_size, coordinate_lawful}
 pub use Rattle.wkb_laws.proofs.ReadIsLawful.{ring_lawful, line_string_item_lawful, point_item_lawful, member_dimension}
 pub use Rattle.wkb_laws.proofs.Fitted.{line_string_fits, line_strings_fit, polygons_fit, IsGeometry-fitted}
@@ -38,7 +34,3 @@ pub multi_point_item_lawful : (l : Layout) (n : ℕ) (encoding : List ℕ) → A
     → AllByRecursion (IsPoint (as_dimensions l.dimension)) (points_of (multi_point_item l n encoding).value)
 multi_point_item_lawful l n encoding h =
     member_points_lawful l.dimension (body_start l.has_srid + 4) (point_ends l n) encoding h
-
--- a point's value is that of its coordinate, if it has one
-pub point_value : (p : Point) → (point_seen p).value ≡ values.point (point_dimension p) (point_of (point_seen p).value)
-point_value p = point_item_value p.layout p.buf.now

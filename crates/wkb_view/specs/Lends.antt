@@ -1,8 +1,13 @@
 -- What `buf` of every view says: the bytes that it lends, and all that reading found of their geometry.
-use Rattle.std.specs.Prelude.{◌≡◌, ℕ, ◌<◌, ◌^◌, List, length}
+use Rattle.std.specs.Prelude.{◌≡◌, ℕ, ◌<◌, ◌^◌, List, length, map, Some, slice_get}
 use Rattle.wkb_laws.specs.Prelude.{Iso, IsWritable, Front, Geometry, geometry_of, IsGeometry, normal, Value}
 use Rattle.wkb_laws.specs.Fits.{fitted_geometry}
-use Rattle.wkb_view.specs.Prelude.{AreBytes, BytesSpell, Endianness, Item}
+use Rattle.wkb_view.specs.Prelude.{AreBytes, BytesSpell, Endianness, Item, list_of_values, Coordinate, Listed, order_of}
+use Rattle.wkb_geom.specs.Values.{Values}
+use Rattle.wkb_geom.specs.Spellings.{SpellsCoordinates}
+use Rattle.wkb_view.specs.declared.linear_ring.LinearRing.{LinearRing}
+use Rattle.wkb_view.specs.Coords.{ring_seen, ring_encoding}
+use Rattle.wkb_laws.specs.Places.{StandsAt, ring_start}
 
 -- the bytes of a slice
 pub record AreSlice (lent : List ℕ) : Type 0 where
@@ -41,3 +46,14 @@ pub record Lends (w : Item) (lent : List ℕ) : Type 0 where
   pub spells : BytesSpell w
   pub front : IsFront lent w
   pub read : IsRead w
+
+-- what the members of a collection mean
+abbrev pub members_seen : Values → List Geometry
+members_seen vs = map (λ v. fitted_geometry (geometry_of v)) (list_of_values vs)
+
+-- A ring of a polygon, by what its view lends: the ring's bytes spell its coordinates in the polygon's order and
+-- dimension, and are the polygon's at the ring's place.
+pub record IsRingAt (p : Listed (List (List Coordinate))) (j : ℕ) (r : LinearRing) : Type 0 where
+  pub spelled : SpellsCoordinates (order_of p.spelled) p.dimension (ring_seen r) (ring_encoding r)
+  pub stands : StandsAt (ring_start j p.spelled p.dimension p.parts) (ring_encoding r) p.encoding
+  pub at : Some (ring_seen r) ≡ slice_get p.parts j

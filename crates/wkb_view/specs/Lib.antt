@@ -14,3 +14,4 @@ pub mod Reads
 pub mod Spells
 pub mod Views
 pub mod Prelude
+pub mod Nodes

@@ -1,8 +1,9 @@
--- Lemmas: each member is smaller than its collection, so that a recursion over members ends.
-use Rattle.wkb_read.specs.Prelude.{Item, values}
+-- Each member is smaller than its collection, so that a recursion over members ends.
+use Rattle.wkb_view.specs.Prelude.{Item}
+use Rattle.wkb_geom.specs.Reading.{values}
 use Rattle.std.proofs.Common.{arith, max, ◌+◌, ◌*◌, ◌≤◌, List, [], ◌∷◌}
 use denote.Param.Weighed.{most}
-use Rattle.wkb_read.specs.Nodes.{nodes_all, size_outside}
+use Rattle.wkb_view.specs.Nodes.{nodes_all, size_outside}
 
 -- the largest member is no larger than all of them together
 most-members : (members : List Item) → most (λ m. size_outside m + 1) members ≤ 2 * nodes_all (values members) + 2

@@ -1,6 +1,7 @@
 -- How large a value is, which falls from a collection to its members.
 use Rattle.std.specs.Prelude.{ℕ, ◌+◌, ◌*◌}
-use Rattle.wkb_read.specs.Prelude.{Value, Values, collection, no_members, member, Listed, Item}
+use Rattle.wkb_geom.specs.Values.{Value, Values, collection, no_members, member}
+use Rattle.wkb_view.specs.Prelude.{Listed, Item}
 
 -- the number of geometries in a value, itself among them
 abbrev mutual
