@@ -3,7 +3,7 @@ use Rattle.wkb_view.proofs.Prelude.{◌≡◌, ℕ, ◌+◌, ◌-◌, ◌*◌, �
 use Rattle.wkb_view.proofs.Prelude.{rings_size, Dimension, width, as_dimensions, Layout, Listed, Coordinate, AreBytes}
 use Rattle.wkb_view.proofs.Prelude.{BytesSpell, body_start, polygon_laid, polygon_seen}
 use Rattle.std.proofs.lemmas.List.Sums.{sum_by-cons}
-use Rattle.std.proofs.Math.Nat.{mul-div_cancel_left, mul-add}
+use Rattle.std.proofs.Math.Nat.{mul-div_cancel_left}
 use Rattle.wkb_geom.specs.Dimensions.{size}
 use Rattle.wkb_view.proofs.Sizes.{polygon_size, rings_same}
 use Rattle.wkb_view.specs.Lawful.{named_size}
@@ -20,8 +20,7 @@ module _ (w : ℕ) where
       let more = summed rs in
       let bytes : sum_by bytes_in (r ∷ rs) ≡ 4 + 8 * w * length r + sum_by bytes_in rs = sum_by-cons bytes_in r rs in
       let all : sum_by length (r ∷ rs) ≡ length r + sum_by length rs = sum_by-cons length r rs in
-      let split : 8 * w * (length r + sum_by length rs) ≡ 8 * w * length r + 8 * w * sum_by length rs =
-      mul-add (8 * w) (length r) (sum_by length rs) in
+      let split : 8 * w * (length r + sum_by length rs) ≡ 8 * w * length r + 8 * w * sum_by length rs = grind arith in
       bytes ∙ omega arith ∙ ap (λ n. 4 * length (r ∷ rs) + 8 * w * n) (sym all)
 
 pub rings_counted : (d : Dimension) (rs : List (List (List ℕ)))

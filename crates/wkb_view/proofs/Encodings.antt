@@ -81,12 +81,7 @@ one_more_written {order = order} {has_flags = has_flags} {kind = kind} {d = d} {
     let there : slice_get (map f parts) i ≡ Some m.spelled =
     slice_get-map f parts i ∙ ap (option_map f) (sym part-at) ∙ ap (λ (u : Spelling). Some u) (sym same) in
     let found = get_or_from_slice_get _ i m.spelled m.spelled (sym spelled-at) in
-    record {
-      same =
-          take_more_same _ _ i m.spelled (slice_get_within _ i _ (sym spelled-at)) (slice_get_within _ i _ there)
-          before.same
-          (found ∙ sym (get_or_from_slice_get _ i m.spelled m.spelled there));
-    }
+    grind (arith, take_more_same, slice_get_within, get_or_from_slice_get)
 
 -- spellings that are those of parts, one by one
 each_spelled : {A : Type 0} (f : A → Spelling) (part : Item → A) (ms : List Item)

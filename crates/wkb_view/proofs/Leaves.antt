@@ -2,7 +2,7 @@
 use Rattle.wkb_view.proofs.Prelude.{length-take, length-drop, number-take, member_layout, IsMemberOfKind, member_item}
 use Rattle.wkb_view.proofs.Prelude.{Endianness, Dimension, Outcome, Reading, consumed, member_at, then_body, IsEncoding}
 use Rattle.wkb_view.proofs.Prelude.{◌≡◌, zero, List, length, take, drop, Option, arith, Layout, number, head_at, Passed}
-use Rattle.wkb_view.proofs.Prelude.{ℕ, suc, ◌-◌, ◌+◌, ◌≤◌, [], ◌∷◌, Some, None, Ok, refl, sym, ap, ◌∙◌, Item}
+use Rattle.wkb_view.proofs.Prelude.{ℕ, suc, ◌+◌, ◌≤◌, [], ◌∷◌, Some, None, Ok, refl, sym, ap, ◌∙◌, Item}
 use Rattle.wkb_geom.specs.Reading.{order_of_byte, head_by_order}
 use Rattle.wkb_view.specs.Prelude.{ring_end, member_body}
 use Rattle.wkb_view.specs.Members.{item_of, layout_said}
@@ -12,9 +12,7 @@ use Rattle.wkb_view.proofs.Pieces.{drop-of-take}
 -- a number within the encoding that was taken
 pub number_within : (order : Endianness) (at end : ℕ) (bytes : List ℕ) → at + 4 ≤ end
     → number order 4 (drop at (take end bytes)) ≡ number order 4 (drop at bytes)
-number_within order at end bytes h =
-    ap (λ (t : List ℕ). number order 4 t) (drop-of-take at end bytes (omega arith))
-    ∙ number-take order 4 (end - at) (drop at bytes) (omega arith)
+number_within order at end bytes h = grind (arith, number, drop-of-take, number-take)
 
 by_order_same : (o : Option Endianness) (n : ℕ) (behind : List ℕ) → 4 ≤ n → n ≤ length behind
     → head_by_order o (take n behind) ≡ head_by_order o behind
@@ -43,10 +41,7 @@ pub ring_passed : (order : Endianness) (d : Dimension) (bytes rest : List ℕ) (
     → rest ≡ drop end bytes → Passed 4 (IsRingPart order d) bytes rest
 ring_passed order d bytes rest n end n-is end-is le rest-is =
     passed_by 4 bytes rest end (omega arith) le rest-is
-    (record {
-      counted = omega (arith, length-take end bytes);
-      whole = grind (arith, length-take, number-take);
-    })
+    (grind (arith, length-take, number-take))
 
 -- ---- members
 

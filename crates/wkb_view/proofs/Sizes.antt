@@ -1,9 +1,7 @@
 -- How many bytes of a view come after its header.
-use Rattle.wkb_view.proofs.Prelude.{◌≡◌, ℕ, ◌-◌, ap, List, length, None, arith, rings_size, fault, in_full_lem}
+use Rattle.wkb_view.proofs.Prelude.{◌≡◌, ℕ, ◌-◌, List, length, None, arith, rings_size, fault, in_full_lem}
 use Rattle.wkb_view.proofs.Prelude.{spelled_good, lawful-geometry_of, AreBytes, Layout, Coordinate, Listed, body_start}
 use Rattle.wkb_view.proofs.Prelude.{srid_in, as_dimensions, BytesSpell, fitted_parts, polygon_laid, polygon_seen}
-use Rattle.std.proofs.Common.{is_some}
-use Rattle.wkb_geom.specs.Refusals.{srid_size}
 use Rattle.wkb_laws.proofs.Heads.{has_srid_in}
 use Rattle.wkb_laws.proofs.Lengths.{srid_size_is}
 use Rattle.wkb_laws.proofs.Spelled.{size_of_spelled_lem}
@@ -31,8 +29,7 @@ module _ (l : Layout) (ends bytes : List ℕ) (p : Listed (List (List Coordinate
       let seen = polygon_seen (polygon_laid l ends bytes) in
       let long = size_of_spelled_lem seen.spelled seen.value bytes (in_full_lem seen.spelled seen.value bytes spells) in
       let srid = has_srid_in l.order l.has_srid bytes in
-      rw (← view, rings_same)
-      (omega (arith, srid_size_is (is_some (srid_in l.order l.has_srid bytes)), ap srid_size srid))
+      grind (arith, rings_same, srid_size_is, srid_in)
 
   -- it has no fault
   pub polygon_writable : fault (fitted_polygon p) ≡ None
