@@ -31,39 +31,27 @@ void *arrow_new(size_t size) { return calloc(1, size); }
 
 /* A struct of ours is released with its children, except those that a consumer has moved. What it points to, and the
  * structs of its children, are in its private data. */
-void arrow_release_schema(struct schema *it) {
-  for (int64_t i = 0; i < it->n_children; i++)
-    if (it->children[i]->release != NULL) it->children[i]->release(it->children[i]);
-  free(it->private_data);
-  it->release = NULL;
-}
-
-void arrow_release_array(struct array *it) {
-  for (int64_t i = 0; i < it->n_children; i++)
-    if (it->children[i]->release != NULL) it->children[i]->release(it->children[i]);
-  free(it->private_data);
-  it->release = NULL;
-}
+#define RELEASES(kind) \
+  void arrow_release_##kind(struct kind *it) { \
+    for (int64_t i = 0; i < it->n_children; i++) \
+      if (it->children[i]->release != NULL) it->children[i]->release(it->children[i]); \
+    free(it->private_data); \
+    it->release = NULL; \
+  }
+RELEASES(schema)
+RELEASES(array)
 
 /* Python's function that returns a capsule's context, which the package names when it is loaded. */
 static void *(*context_of)(void *capsule);
 void arrow_context_by(void *(*function)(void *)) { context_of = function; }
 
 /* A capsule ends with the struct that is its context, which is released unless it is so already. */
-void arrow_end_schema(void *capsule) {
-  struct schema *it = context_of(capsule);
-  if (it != NULL && it->release != NULL) it->release(it);
-  free(it);
-}
-
-void arrow_end_array(void *capsule) {
-  struct array *it = context_of(capsule);
-  if (it != NULL && it->release != NULL) it->release(it);
-  free(it);
-}
-
-void arrow_end_stream(void *capsule) {
-  struct stream *it = context_of(capsule);
-  if (it != NULL && it->release != NULL) it->release(it);
-  free(it);
-}
+#define ENDS(kind) \
+  void arrow_end_##kind(void *capsule) { \
+    struct kind *it = context_of(capsule); \
+    if (it != NULL && it->release != NULL) it->release(it); \
+    free(it); \
+  }
+ENDS(schema)
+ENDS(array)
+ENDS(stream)

@@ -53,26 +53,22 @@ def _inner(it: _Window, number: int, first: int, count: int) -> _Window:
     return _Window(it.schema.child(number), child, child.offset + first, count)
 
 
-def _less(offsets: memoryview, least: int) -> Buffer:
-    """Return offsets of 64 bits: these less the first of them."""
-    if least == 0 and offsets.itemsize == WORD_SIZE:
-        return offsets
-    return array.array("q", (it - least for it in offsets))
-
-
 def _opened(it: _Window, depth: int) -> Tuple[Buffer, _Window]:
-    """Return the offsets of a list, from 0 on, and the items in it."""
+    """Return the offsets of a list, of 64 bits from 0 on, and the items in it."""
     size = LIST_SIZES.get(it.schema.format or b"")
     if size is None:
         raise TypeError(f"an Arrow array of format {_format(it)} is not a list, where this kind has one")
     _check(it, 1, WITH_ONE, depth)
     if it.rows == 0:
-        return _less(memoryview(bytes(8)).cast("q"), 0), _inner(it, 0, 0, 0)
+        return array.array("q", [0]), _inner(it, 0, 0, 0)
     end = it.first + it.rows + 1
     offsets = it.array.buffer(1, end * size).cast("i" if size == 4 else "q")[it.first :]
     least, most = offsets[0], offsets[-1]
     expect(0 <= least <= most, f"array has lists from item {least} to {most}")
-    return _less(offsets, least), _inner(it, 0, least, most - least)
+    inner = _inner(it, 0, least, most - least)
+    if least == 0 and size == WORD_SIZE:
+        return offsets, inner
+    return array.array("q", (place - least for place in offsets)), inner
 
 
 def _format(it: _Window) -> str:

@@ -12,12 +12,7 @@ from ._rows import object_of
 
 VERSION = "1.1.0"
 WAY_OUT = "Column.from_arrow(column.write()) is a column of ISO WKB alone"
-# The names of kinds, and what a dimension adds to them; those with an m are left out.
-NAMES = {
-    Kind.POINT: "Point", Kind.LINE_STRING: "LineString", Kind.POLYGON: "Polygon", Kind.MULTI_POINT: "MultiPoint",
-    Kind.MULTI_LINE_STRING: "MultiLineString", Kind.MULTI_POLYGON: "MultiPolygon",
-    Kind.GEOMETRY_COLLECTION: "GeometryCollection",
-}
+# What a dimension adds to the name of a kind, as MultiPoint; those with an m are left out.
 SIGNS = {Dimension.XY: "", Dimension.XYZ: " Z"}
 # Kinds without edges.
 POINTS = Kind.POINT, Kind.MULTI_POINT
@@ -48,7 +43,7 @@ def geoparquet(column: Column, name: str = "geometry", covering: Optional[str] =
     _expect_rows(column, facts)
     about: Dict[str, Any] = {
         "encoding": "WKB",
-        "geometry_types": [NAMES[kind] + SIGNS[dimension] for kind, dimension in facts.types],
+        "geometry_types": [kind.name.title().replace("_", "") + SIGNS[dimension] for kind, dimension in facts.types],
         **_crs_of(column.metadata),
     }
     ranges = [facts.box.x, facts.box.y] + [facts.box.z] * bool(facts.box.z.count)

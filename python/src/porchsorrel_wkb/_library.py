@@ -118,9 +118,7 @@ TEXT_ROOM = 256
 
 def address_of_function(name: str) -> int:
     """Return where a function of the library is."""
-    found = ctypes.cast(getattr(_LOCKED, name), POINTER).value
-    assert found is not None
-    return found
+    return ctypes.cast(getattr(_LOCKED, name), POINTER).value or 0
 
 
 def version() -> Tuple[int, int, int]:

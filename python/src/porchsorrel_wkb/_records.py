@@ -213,20 +213,15 @@ class Table(Sequence[Record]):
     def __getitem__(self, index: slice) -> List[Record]: ...
 
     def __getitem__(self, index: Union[int, slice]) -> Union[Record, List[Record]]:
-        if isinstance(index, int) and index >= 0:
-            return self._at(index)
         place = range(len(self))[index]
-        return self._at(place) if isinstance(place, int) else [self._at(i) for i in place]
+        if isinstance(place, range):
+            return [self[i] for i in place]
+        record: Record = record_in(self._record, self._memory, place * STRUCTS[self._record].size)
+        return record
 
     def __iter__(self) -> Iterator[Record]:
         whole = memoryview(self._memory).cast("B")[: len(self) * STRUCTS[self._record].size]
         return map(_MADE[self._record], STRUCTS[self._record].iter_unpack(whole))
-
-    def _at(self, index: int) -> Record:
-        if index >= len(self):
-            raise IndexError("there is no such record")
-        record: Record = record_in(self._record, self._memory, index * STRUCTS[self._record].size)
-        return record
 
     def __array__(self, dtype: Any = None, copy: Optional[bool] = None) -> Any:
         import numpy

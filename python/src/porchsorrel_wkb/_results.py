@@ -6,9 +6,7 @@ import itertools
 import math
 import operator
 import struct
-from typing import (
-    Any, Iterable, Iterator, List, NamedTuple, Optional, Sequence, Set, Tuple, Type, TypeVar, Union, overload,
-)
+from typing import Any, Iterable, Iterator, List, NamedTuple, Optional, Sequence, Set, Tuple, Type, TypeVar
 
 from ._buffers import Numbers, flat, many, numbers_of, view_of
 from ._enums import Dimension, Form, Kind
@@ -51,9 +49,15 @@ class _Result:
     __hash__ = None  # type: ignore[assignment]
 
 
-class _Bounds(NamedTuple):
-    statuses: Numbers
-    boxes: Table[Box]
+# The arrays of each result.
+_Bounds = NamedTuple("_Bounds", [("statuses", Numbers), ("boxes", Table[Box])])
+_Found = NamedTuple("_Found", [("statuses", Numbers), ("found", Table[Found])])
+_Parts = NamedTuple("_Parts", [("statuses", Numbers), ("offsets", Numbers), ("parts", Table[Part])])
+_Encodings = NamedTuple("_Encodings", [("statuses", Numbers), ("offsets", Numbers), ("data", Numbers)])
+_Coordinates = NamedTuple("_Coordinates", [
+    ("statuses", Numbers), ("row_offsets", Numbers), ("single_offsets", Numbers), ("ring_offsets", Numbers),
+    ("coordinates", Numbers),
+])
 
 
 class ColumnBounds(_Result, _Bounds):  # type: ignore[misc]
@@ -74,11 +78,6 @@ class ColumnBounds(_Result, _Bounds):  # type: ignore[misc]
         ends = [leaf(axis + end, view_of(numbers_of("f8", every(self.boxes, axis, name))))
                 for end, name in (("min", "least"), ("max", "greatest")) for axis in axes]
         return exported(of_rows(self.statuses, b"+s", metadata, children=tuple(ends)))
-
-
-class _Found(NamedTuple):
-    statuses: Numbers
-    found: Table[Found]
 
 
 class ColumnFound(_Result, _Found):  # type: ignore[misc]
@@ -141,12 +140,6 @@ def _range_of_all(boxes: Table[Box], axis: str) -> Range:
     return Range(first, last, count)
 
 
-class _Parts(NamedTuple):
-    statuses: Numbers
-    offsets: Numbers
-    parts: Table[Part]
-
-
 class ColumnParts(_Result, _Parts):  # type: ignore[misc]
     """The parts of all rows, those of row i from offsets[i] up to offsets[i + 1].
 
@@ -165,13 +158,7 @@ class Rows(Sequence[Optional[bytes]]):
     def __len__(self) -> int:
         return len(self._of.statuses)
 
-    @overload
-    def __getitem__(self, index: int) -> Optional[bytes]: ...
-
-    @overload
-    def __getitem__(self, index: slice) -> List[Optional[bytes]]: ...
-
-    def __getitem__(self, index: Union[int, slice]) -> Union[None, bytes, List[Optional[bytes]]]:
+    def __getitem__(self, index: Any) -> Any:
         place = range(len(self))[index]
         if isinstance(place, int):
             return self._some(place, place + 1)[0]
@@ -193,12 +180,6 @@ class Rows(Sequence[Optional[bytes]]):
 
     def __repr__(self) -> str:
         return f"<{len(self)} encodings>"
-
-
-class _Encodings(NamedTuple):
-    statuses: Numbers
-    offsets: Numbers
-    data: Numbers
 
 
 class ColumnEncodings(_Result, _Encodings):  # type: ignore[misc]
@@ -226,14 +207,6 @@ class ColumnEncodings(_Result, _Encodings):  # type: ignore[misc]
         form, offsets = (b"z", narrow(self.offsets)) if is_narrow else (b"Z", view_of(self.offsets))
         metadata = metadata_of("geoarrow.wkb" if self._form == Form.ISO else None, self._metadata)
         return exported(of_rows(self.statuses, form, metadata, offsets, view_of(self.data)))
-
-
-class _Coordinates(NamedTuple):
-    statuses: Numbers
-    row_offsets: Numbers
-    single_offsets: Numbers
-    ring_offsets: Numbers
-    coordinates: Numbers
 
 
 class ColumnCoordinates(_Result, _Coordinates):  # type: ignore[misc]
