@@ -1,7 +1,6 @@
 """Columns of Arrow's arrays and streams: those of capsules.py, right, odd, and such as can't be right; and OGR's where
 its bindings are."""
 import contextlib
-import ctypes
 import gc
 import itertools
 import pickle
@@ -9,7 +8,7 @@ import struct
 import unittest
 
 from capsules import (
-    FILL, NOWHERE, SHORT, Again, Arrow, Lists, Records, Stream, Views, deep, memory_of, new_capsule, pointer, pointers,
+    FILL, NOWHERE, SHORT, Again, Arrow, Lists, Records, Stream, Views, deep, new_capsule, pointer, pointers,
 )
 from samples import BIG_POINT, ISO_POLYGON, POINT, POLYGON, ROWS, STATUSES, slices, statuses
 from porchsorrel_wkb import Column, Kind, Status, column_from_coordinates
@@ -163,21 +162,6 @@ def changed(make, depth, to, take, *changes):
     return take(to(it))
 
 
-def nested():
-    """Records with a column that is records inside records, 300 deep."""
-    inner = Arrow()
-    for _ in range(300):
-        inner = Records(inner)
-    return records(inner)
-
-
-def null_record(bits):
-    it, validity = records(Arrow()), memory_of(bytes([bits]))
-    it.array.null_count, it.array.buffers[0] = -1, ctypes.addressof(validity)
-    it.memory.append(validity)
-    return it
-
-
 def cases():
     """What each case is, what becomes of it, and a call that returns columns."""
     for number, (make, depth, rows, to, take) in enumerate(SOURCES):
@@ -195,9 +179,6 @@ def cases():
         (lambda: records(Arrow()), (("schema.n_children", 2**31), ("array.n_children", 2**31))),
     ):
         yield some, WRONG, lambda: changed(make, 0, lambda it: it, array, *some)
-    yield "a record is null", (ValueError, "null as a whole"), lambda: array(null_record(0b11011))
-    yield "no record is null", STATUSES, lambda: array(null_record(0b11111))
-    yield "records in records", OTHER, lambda: array(nested())
     for to, take, expected in ((lambda it: it, array, GONE), (records, array, GONE), (lambda it: it, stream, [])):
         yield "released already", expected, lambda: changed(Arrow, 0, to, take, ("array.release", None))
     words = [(1.0, 2.0, 3.0, 4.0)]
@@ -298,8 +279,6 @@ class FromArrow(unittest.TestCase):
         # What is pickled is the bytes, the offsets and the bits of its own rows.
         self.assertLess(len(pickle.dumps(Column.from_arrow(Arrow(b"Z", 500 * [POINT, None], 900, 10)))), 1000)
         source = Views(rows[:8], 3)
-        bits = memory_of(source.memory[0][:1])  # eight rows need no more
-        source.array.buffers[0] = ctypes.addressof(bits)
         self.assertEqual(statuses(Column.from_arrow(source)), statuses(whole[:8]))
         self.assertEqual(source.released, ["schema", "array"])
         self.assertEqual(statuses(Column.from_arrow(Views([b"\2", None], 0))), [STATUSES[4], Status.NULL_ROW])

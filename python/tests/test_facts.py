@@ -9,24 +9,13 @@ import struct
 import unittest
 
 import porchsorrel_wkb as wkb
-from porchsorrel_wkb import Column, Dimension, Kind, Range
+from porchsorrel_wkb import Column, Kind, Range
 from samples import BIG_POINT, EMPTY_POINT, LINE, POINT, POINTS, POLYGON, ROWS, geometry
 
 NONE = Range(math.inf, -math.inf, 0)
-Z_POINT = geometry(1, 1)
 
 
 class Together(unittest.TestCase):
-    def test_facts(self):
-        facts = Column.of([*ROWS, LINE, EMPTY_POINT, wkb.write(POINT, srid=7), geometry(1, 3)]).facts()
-        self.assertEqual((facts.rows, facts.accepted, facts.nulls, facts.refused), (9, 6, 1, 2))
-        self.assertEqual(facts.srids, {None, 4326, 7})
-        self.assertEqual(facts.types, [(Kind.POINT, Dimension.XY), (Kind.POLYGON, Dimension.XY),
-                                       (Kind.LINE_STRING, Dimension.XYZ), (Kind.POINT, Dimension.XYZM)])
-        # Points of (1, 2) three times, the polygon's, and (1, 2, 3), (5, NaN, -7) of the line.
-        box = wkb.Box(Range(1.0, 5.0, 6), Range(2.0, 2.0, 5), Range(-7.0, 3.0, 3), Range(4.0, 4.0, 1))
-        self.assertEqual(facts.box, box)
-
     def test_none(self):
         """Rows of which none is accepted; one with bad offsets is not refused."""
         for column, counts in ((Column.of([]), (0, 0, 0, 0)), (Column.of([None]), (1, 0, 1, 0)),
@@ -90,7 +79,7 @@ class GeoParquet(unittest.TestCase):
                 "crs": None, "bbox": [1.0, 2.0, 1.0, 2.0]}}})
 
     def test_covering(self):
-        column = Column.of([POINT, Z_POINT])
+        column = Column.of([POINT, geometry(1, 1)])
         column.metadata = json.dumps({"crs": CRS, "edges": "spherical"})
         metadata, bounds = wkb.geoparquet(column, "shape", "bbox")
         self.assertEqual(metadata["columns"], {"shape": {

@@ -108,6 +108,10 @@ class Lasting(unittest.TestCase):
         facts, count = self.column.facts(), len(self.rows)
         self.assertEqual((facts.rows, facts.accepted, facts.nulls), (2 * count, count - len(faults), count))
         self.assertEqual((facts.refused, facts.srids), (len(faults), {it.answer.srid for it in self.accepted}))
+        types = sorted({(it.answer.dimension, it.answer.kind) for it in self.accepted})
+        self.assertEqual(facts.types, [(kind, dimension) for dimension, kind in types])
+        ranges = [zip(*ranges) for ranges in zip(*(wkb.bounds(it.data) for it in self.accepted))]
+        self.assertEqual([*facts.box], [(min(least), max(greatest), sum(counts)) for least, greatest, counts in ranges])
         for options, sums in zip(OPTIONS, self.sums):
             self.assertEqual([data and summed(data) for data in self.column.write(*options).rows], [*sums])
         self.assertEqual([summed(packed(it)) for it in self.column.bounds().boxes], [*self.sums[8]])

