@@ -34,8 +34,6 @@ mod cases {
 
 #[path = "cases/clients.rs"]
 mod clients;
-#[path = "cases/cut_inputs.rs"]
-mod cut_inputs;
 #[path = "cases/writing.rs"]
 mod writing;
 

@@ -74,10 +74,9 @@ fn outcome(blob: &[u8]) -> u8 {
 }
 
 /// Headers and envelopes, a geometry behind them, and what is returned: an envelope from (1 2) to (1 2), none, and one
-/// whose z nothing is said of; NaNs around an empty point and an empty polygon; another letter, another version, a bit
-/// of a later use, an envelope of no kind, one that is cut; one from x 2 on, one of a NaN, one of zeros around an empty
-/// geometry; EWKB with an SRID; and a geometry without its last byte.
-const BLOBS: [(&str, &str, u8); 15] = [
+/// whose z nothing is said of; NaNs around an empty point and an empty polygon; another letter; an envelope from x 2
+/// on, one of a NaN, one of zeros around an empty geometry; EWKB with an SRID; and a geometry without its last byte.
+const BLOBS: [(&str, &str, u8); 11] = [
     ("47500003 e6100000 000000000000f03f 000000000000f03f 0000000000000040 0000000000000040", "01 01000000 P", 1),
     ("47500000 000010e6", "01 01000000 P", 10),
     (
@@ -89,10 +88,6 @@ const BLOBS: [(&str, &str, u8); 15] = [
     (OF_NANS, "01 01000000 000000000000f87f 000000000000f87f", 1),
     (OF_NANS, "01 03000000 00000000", 1),
     ("47510001 e6100000", "01 01000000 P", 20),
-    ("47500101 e6100000", "01 01000000 P", 20),
-    ("47500021 e6100000", "01 01000000 P", 20),
-    ("4750000b e6100000", "01 01000000 P", 20),
-    ("47500003 e6100000", "01 01000000 P", 20),
     ("47500003 e6100000 0000000000000040 0000000000000840 0000000000000040 0000000000000040", "01 01000000 P", 30),
     ("47500003 e6100000 000000000000f87f 000000000000f03f 0000000000000040 0000000000000040", "01 01000000 P", 30),
     (

@@ -1,11 +1,11 @@
 //! A caller's own geometries, as bytes, and what can't be written: then nothing is, and no sink has failed.
 
 use crate::rt::Fail;
-use crate::wkb::error::{General, Overflow, WkbError, WkbResult};
+use crate::wkb::error::{General, WkbError, WkbResult};
 use crate::wkb::geom::*;
 use crate::wkb::writer::*;
 use crate::wkb::Endianness;
-use crate::wkb_cases::reading::{answer_to, words, Outcome};
+use crate::wkb_cases::reading::{answer_to, Outcome};
 use crate::wkb_cases::spelled::{bytes, Spelled};
 use crate::wkb_cases::support::*;
 use crate::wkb_tests::kinds::{LITTLE, RECT};
@@ -83,18 +83,6 @@ fn line_and_rect() -> Result<(), Fail> {
     Ok(())
 }
 
-// The case line-plain.
-#[test]
-fn line_strings() -> Result<(), Fail> {
-    let line = line_string_of(Dimensions::Xyz, &[ONE, TWO, THREE, 4, 5, 6])?;
-    let coords: Vec<_> = (0..3).map(|i| line.coord(i).map(|it| words(&it))).collect();
-    assert_eq!(coords, [Some((Some(ONE), Some(TWO), Some(THREE))), Some((Some(4), Some(5), Some(6))), None]);
-    assert_eq!((line.num_coords(), line_string_of(Dimensions::Xyz, &[])?.num_coords()), (2, 0));
-    assert!(LineString::new(Dimensions::Xyz, &[0; 7]).is_none());
-    assert!(LineString::new(Dimensions::Unknown(0), &[]).is_none());
-    Ok(())
-}
-
 // The case plain-129: what is written is too deep to be read.
 #[test]
 fn nested() -> Result<(), Fail> {
@@ -140,39 +128,4 @@ fn unknown_dimensions() -> Result<(), Fail> {
     assert!(is_refused(write_geometry(&mut sink, &both, &LITTLE)));
     assert!(!sink.failed() && sink.into_vec().is_empty());
     Ok(())
-}
-
-/// A line string at the origin, of more coordinates than four bytes can count.
-struct LongLine;
-
-impl Dimensioned for LongLine {
-    fn dim(&self) -> Dimensions {
-        Dimensions::Xy
-    }
-}
-
-impl LineStringTrait for LongLine {
-    type CoordType = Coord<'static>;
-
-    fn num_coords(&self) -> usize {
-        usize::try_from(1_u64 << 32).unwrap()
-    }
-
-    fn coord(&self, _: usize) -> Option<Coord<'static>> {
-        Coord::new(Dimensions::Xy, &[0, 0])
-    }
-
-    fn coord_at(&self, i: usize) -> Coord<'static> {
-        self.coord(i).unwrap()
-    }
-}
-
-#[test]
-#[cfg(target_pointer_width = "64")]
-fn long_line() {
-    let mut sink = VecSink::new();
-    assert!(matches!(line_string_wkb_size(&LongLine), Err(WkbError::OverflowError(Overflow::Count))));
-    let written = write_line_string(&mut sink, &LongLine, &LITTLE);
-    assert!(matches!(written, Err(WkbError::OverflowError(Overflow::Count))));
-    assert!(!sink.failed() && sink.into_vec().is_empty());
 }

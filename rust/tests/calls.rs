@@ -8,7 +8,7 @@ use porchsorrel_wkb::geom::{CoordTrait, Dimensioned, Dimensions, GeometryTrait, 
 use porchsorrel_wkb::geopackage::{read_header, NoHeader};
 use porchsorrel_wkb::reader::{read_wkb, Dimension, Wkb};
 use porchsorrel_wkb::writer::{geometry_wkb_size, line_string_wkb_size, write_geometry, write_line_string};
-use porchsorrel_wkb::writer::{write_point, WriteOptions};
+use porchsorrel_wkb::writer::{write_point, Sink, VecSink, WriteOptions};
 use porchsorrel_wkb::{AllocError, Endianness};
 
 const TEXTS: &str = include_str!("../../c/test/texts.c");
@@ -214,16 +214,21 @@ impl LineStringTrait for Zeros {
     }
 }
 
-/// Whatever the width of `usize`: a size is what is written, or it is said that `usize` doesn't hold it.
+/// Whatever the width of `usize`: a size is what is written, or it is said that `usize` doesn't hold it, or that four
+/// bytes don't hold the count. Then nothing is written.
 #[test]
 fn sizes_that_usize_may_not_hold() {
-    for count in [0, (1 << 28) - 1, 1 << 28, (1 << 28) + 1, u32::MAX] {
-        let (line, meant) = (Zeros(count as usize), usize::try_from(9 + 16 * u64::from(count)));
-        match (line_string_wkb_size(&line), meant) {
+    let most = u64::from(u32::MAX);
+    let counts = [0, (1 << 28) - 1, 1 << 28, (1 << 28) + 1, most, most + 1];
+    for count in counts.into_iter().filter(|it| usize::try_from(*it).is_ok()) {
+        let (line, size) = (Zeros(count as usize), usize::try_from(9 + 16 * count).map_err(|_| Overflow::Size));
+        match (line_string_wkb_size(&line), if count > most { Err(Overflow::Count) } else { size }) {
             (Ok(size), Ok(meant)) => assert_eq!(size, meant),
-            (Err(WkbError::OverflowError(Overflow::Size)), Err(_)) => {
-                let written = write_line_string(&mut Vec::new(), &line, &WriteOptions::default());
-                assert!(matches!(written, Err(WkbError::OverflowError(Overflow::Size))));
+            (Err(WkbError::OverflowError(why)), Err(meant)) if why == meant => {
+                let mut out = VecSink::new();
+                let written = write_line_string(&mut out, &line, &WriteOptions::default());
+                assert!(matches!(written, Err(WkbError::OverflowError(why)) if why == meant));
+                assert!(!out.failed() && out.into_vec().is_empty());
             }
             (size, _) => panic!("{count} coordinates: {size:?}"),
         }
@@ -258,6 +263,9 @@ fn coordinates_of_views() {
     };
     let own = geom::LineString::new(Dimensions::Xyzm, &words).unwrap();
     assert_eq!((sum(line), sum(&ring), sum(&own)), (68.0, 68.0, 68.0));
+    let count = |dim, len| geom::LineString::new(dim, &words[..len]).map(|it| it.num_coords());
+    assert_eq!([0, 6, 7].map(|len| count(Dimensions::Xyz, len)), [Some(0), Some(2), None]);
+    assert_eq!(count(Dimensions::Unknown(0), 0), None);
 
     let mut coords = line.coords();
     assert_eq!((coords.len(), coords.next_back().map(|it| it.x_y())), (4, Some((13.0, 14.0))));

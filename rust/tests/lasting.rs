@@ -153,6 +153,17 @@ fn refused(it: &Row) {
     assert!(matches!(why, NotCollected::Refused(0, why) if it.has_refused(&why) || why.part > 126));
 }
 
+/// Of an input without its end bytes are missing: so many as the error says, and those of the last part.
+fn cut(input: &[u8]) {
+    let why = check(input).unwrap_err();
+    let is_cut = match why.ends() {
+        Some((end, len)) => why.offset + len == input.len() && end > len as u64,
+        None => why.status() == Status::SHORT_HEADER,
+    };
+    let text = canonical(input, &WriteOptions::default()).unwrap_err().to_string();
+    assert!(is_cut && text == read_wkb(input).unwrap_err().to_string(), "{text} in {input:x?}");
+}
+
 #[test]
 fn each_input() {
     let mut out = vec![];
@@ -187,8 +198,7 @@ fn each_input() {
             }
             assert!(all.iter().all(|it| summed(it) == *sum), "{:x?} as {options:?}", it.input);
         }
-        let short = check(&it.input[..found.bytes - 1]).unwrap_err();
-        assert!(short.status().is_short(), "{:x?} without its end", it.input);
+        (0..found.bytes).for_each(|len| cut(&it.input[..len]));
     }
 }
 

@@ -178,7 +178,7 @@ fn is_refused(alloc: Global, digits: &[u8], len: usize) -> Result<bool, Fail> {
     ends(alloc, "le", reader, 1, line.as_str())
 }
 
-// rust/cases/cut_inputs.rs reads the same prefixes as bytes.
+// rust/tests/lasting.rs reads the same prefixes as bytes.
 #[test]
 fn cut_nested(rt: HostRuntime) -> Result<(), Fail> {
     let digits = digits_of(nested_in(128)?.as_slice())?;

@@ -137,10 +137,6 @@ fn point(dimensions: Dimensions, numbers: &[f64]) -> Made {
     made(of!(Point), dimensions, vec![coord(dimensions, numbers)])
 }
 
-fn collection(members: Vec<Made>) -> Made {
-    made(of!(GeometryCollection), Dimensions::Xy, members)
-}
-
 /// A geometry of these corners.
 fn cornered(of: Of, corners: &[&[f64]]) -> Made {
     let dimensions = Dimensions::Unknown(corners[0].len());
@@ -249,7 +245,7 @@ fn words_without_a_dimension() {
 
 #[test]
 fn depth() {
-    let around = |it: Made| collection(vec![it]);
+    let around = |it| made(of!(GeometryCollection), Dimensions::Xy, vec![it]);
     let whole = (0..128).fold(point(Dimensions::Xy, &[1., 2.]), |it, _| around(it));
     let mut expected = bytes(7, &[1], &[]).repeat(128);
     expected.extend(bytes(1, &[], &[1., 2.]));
