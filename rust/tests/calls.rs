@@ -263,6 +263,7 @@ fn coordinates_of_views() {
     };
     let own = geom::LineString::new(Dimensions::Xyzm, &words).unwrap();
     assert_eq!((sum(line), sum(&ring), sum(&own)), (68.0, 68.0, 68.0));
+    // The case line-plain.
     let count = |dim, len| geom::LineString::new(dim, &words[..len]).map(|it| it.num_coords());
     assert_eq!([0, 6, 7].map(|len| count(Dimensions::Xyz, len)), [Some(0), Some(2), None]);
     assert_eq!(count(Dimensions::Unknown(0), 0), None);

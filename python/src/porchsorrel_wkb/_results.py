@@ -6,7 +6,9 @@ import itertools
 import math
 import operator
 import struct
-from typing import Any, Iterable, Iterator, List, NamedTuple, Optional, Sequence, Set, Tuple, Type, TypeVar
+from typing import (
+    Any, Iterable, Iterator, List, NamedTuple, Optional, Sequence, Set, Tuple, Type, TypeVar, Union, overload,
+)
 
 from ._buffers import Numbers, flat, many, numbers_of, view_of
 from ._enums import Dimension, Form, Kind
@@ -158,7 +160,13 @@ class Rows(Sequence[Optional[bytes]]):
     def __len__(self) -> int:
         return len(self._of.statuses)
 
-    def __getitem__(self, index: Any) -> Any:
+    @overload
+    def __getitem__(self, index: int) -> Optional[bytes]: ...
+
+    @overload
+    def __getitem__(self, index: slice) -> List[Optional[bytes]]: ...
+
+    def __getitem__(self, index: Union[int, slice]) -> Union[None, bytes, List[Optional[bytes]]]:
         place = range(len(self))[index]
         if isinstance(place, int):
             return self._some(place, place + 1)[0]
