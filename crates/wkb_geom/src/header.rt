@@ -96,8 +96,8 @@ impl Head {
         }
     }
 
-    /// Reads a header by the shortest way, if it has one of the most frequent codes: the number of a kind, with or
-    /// without the SRID flag.
+    /// Reads a header by the shortest way, if it has one of the most frequent codes: one without flags, or the number of
+    /// a kind with the SRID flag.
     #[inline(always)]
     fn read_bare(bytes: &[u8]) -> Option<Head>
         ensures { IfSome result (λ header. head_at bytes.now ≡ Ok header) }
