@@ -14,7 +14,7 @@ use wkb_geom::words::{u32_at, u64_at};
 
 /// A column of bytes as Arrow has it: binary, large binary, or a slice of one.
 #[repr(C)]
-#[derive(Drop)]
+#[derive(Clone, Copy, Debug)]
 pub struct Column<'a> {
     /// The bytes of the rows.
     pub bytes: &'a [u8],
