@@ -63,11 +63,15 @@ typedef struct input {
   const char *fault;       /* what is wrong with the blob before any WKB, or NULL */
 } input;
 
-static bool has_null(int n, sqlite3_value **values) {
-  for (int i = 0; i < n; i++)
-    if (sqlite3_value_type(values[i]) == SQLITE_NULL) return true;
-  return false;
-}
+/* A call of a function, with no argument that is null. */
+typedef struct call {
+  sqlite3_context *context;
+  sqlite3_value *first, *second;  /* the arguments; NULL without a second one */
+  input in;                       /* the geometry of the first */
+} call;
+
+/* A text that says what is wrong, with the words of wkb_dump_other. */
+enum { FAULT_ROOM = WKB_FAULT_TEXT_ROOM + 100 };
 
 /* The bytes of a blob without a GeoPackage's header. Where SQLite lacks the memory for them it has none and says so
  * itself. */
@@ -89,67 +93,53 @@ static bool has_geometry(const input *in, wkb_found *found) {
   return in->fault == NULL && wkb_check(in->data, in->size, found, NULL) == WKB_STATUS_OK;
 }
 
-/* Whether a code in the geometry of a GeoPackage has one of EWKB's flags; the first part that has one is WHERE. */
-static bool has_ewkb(const input *in, const wkb_found *found, wkb_fault *where) {
+/* Returns whether it has bounds. */
+static bool has_bounds(const input *in, wkb_box *box) {
+  return in->fault == NULL && wkb_bounds(in->data, in->size, box, NULL) == WKB_STATUS_OK;
+}
+
+/* Whether a code in the geometry of a GeoPackage has one of EWKB's flags. The text says which part is the first. */
+static bool has_ewkb(const input *in, const wkb_found *found, char text[FAULT_ROOM]) {
   wkb_part part = {0};
   if (in->header.size == 0) return false;
-  for (where->part = 0; where->part < found->parts; where->part++) {
+  for (sqlite3_uint64 number = 0; number < found->parts; number++) {
     wkb_next_part(in->data, in->size, &part);
-    where->offset = part.begin;
     if (part.kind == WKB_KIND_RING) continue;
     uint8_t highest = in->data[part.begin + (part.order == WKB_ORDER_LITTLE ? 4 : 1)];
-    if (highest & 0xe0) return true;
+    sqlite3_uint64 offset = in->header.size + part.begin;
+    if ((highest & 0xe0) == 0) continue;
+    sqlite3_snprintf(FAULT_ROOM, text, "EWKB in a GeoPackage, at byte %llu (part %llu)", offset, number);
+    return true;
   }
   return false;
 }
 
-static void well_formed(sqlite3_context *context, int n, sqlite3_value **values) {
+static void well_formed(const call *it) {
+  wkb_found found;
+  char text[FAULT_ROOM];
+  bool is_whole = has_geometry(&it->in, &found) && found.size == it->in.size;
+  sqlite3_result_int(it->context, is_whole && !has_ewkb(&it->in, &found, text));
+}
+
+/* Offsets are counted from the start of the blob. */
+static void fault(const call *it) {
+  const input *in = &it->in;
   wkb_found found;
   wkb_fault where;
-  if (has_null(n, values)) return;
-  input in = input_of(values[0]);
-  bool is_whole = has_geometry(&in, &found) && found.size == in.size;
-  sqlite3_result_int(context, is_whole && !has_ewkb(&in, &found, &where));
-}
-
-/* Returns why the input has no geometry, as a text to be freed. Its offset is counted from the start of the blob. */
-static char *refusal_of(const input *in, const wkb_fault *fault) {
-  char text[WKB_FAULT_TEXT_ROOM];
-  if (in->fault != NULL) return sqlite3_mprintf("%s", in->fault);
-  wkb_fault of_blob = *fault;
-  of_blob.offset += in->header.size;
-  wkb_fault_text(&of_blob, text, sizeof text);
-  return sqlite3_mprintf("%s%s", text, wkb_dump_other(fault, in->data, in->size));
-}
-
-/* Says where the input has EWKB behind a header of a GeoPackage. */
-static void tell_ewkb(const input *in, const wkb_fault *where, char text[WKB_FAULT_TEXT_ROOM]) {
-  sqlite3_uint64 part = where->part, offset = in->header.size + where->offset;
-  sqlite3_snprintf(WKB_FAULT_TEXT_ROOM, text, "EWKB in a GeoPackage, at byte %llu (part %llu)", offset, part);
-}
-
-static void fault(sqlite3_context *context, int n, sqlite3_value **values) {
-  wkb_found found;
-  wkb_fault where;
-  char *text;
-  if (has_null(n, values)) return;
-  input in = input_of(values[0]);
-  if (in.fault != NULL || wkb_check(in.data, in.size, &found, &where) != WKB_STATUS_OK) {
-    text = refusal_of(&in, &where);
-  } else if (has_ewkb(&in, &found, &where)) {
-    char ewkb[WKB_FAULT_TEXT_ROOM];
-    tell_ewkb(&in, &where, ewkb);
-    text = sqlite3_mprintf("%s", ewkb);
-  } else if (found.size < in.size) {
-    sqlite3_uint64 end = in.header.size + found.size;
-    text = sqlite3_mprintf("bytes after the geometry, from %llu on", end);
-  } else {
-    return;
+  char text[FAULT_ROOM];
+  if (in->fault != NULL) {
+    sqlite3_snprintf(FAULT_ROOM, text, "%s", in->fault);
+  } else if (wkb_check(in->data, in->size, &found, &where) != WKB_STATUS_OK) {
+    const char *other = wkb_dump_other(&where, in->data, in->size);
+    where.offset += in->header.size;
+    int length = (int)wkb_fault_text(&where, text, sizeof text);
+    sqlite3_snprintf(FAULT_ROOM - length, text + length, "%s", other);
+  } else if (!has_ewkb(in, &found, text)) {
+    sqlite3_uint64 end = in->header.size + found.size;
+    if (found.size == in->size) return;
+    sqlite3_snprintf(FAULT_ROOM, text, "bytes after the geometry, from %llu on", end);
   }
-  if (text != NULL)
-    sqlite3_result_text(context, text, -1, sqlite3_free);
-  else
-    sqlite3_result_error_nomem(context);
+  sqlite3_result_text(it->context, text, -1, SQLITE_TRANSIENT);
 }
 
 static int append(void *text, const char *line, size_t length) {
@@ -157,59 +147,46 @@ static int append(void *text, const char *line, size_t length) {
   return sqlite3_str_errcode(text);
 }
 
-/* Ends the text of a dump with why the blob is rejected, if the dump doesn't say it. */
-static void append_refusal(sqlite3_str *text, const input *in) {
+/* The dump of the whole blob doesn't say that EWKB is rejected in a GeoPackage. */
+static void dump(const call *it) {
+  const input *in = &it->in;
   wkb_found found;
-  wkb_fault where;
-  char ewkb[WKB_FAULT_TEXT_ROOM];
-  if (!has_geometry(in, &found) || !has_ewkb(in, &found, &where)) return;
-  tell_ewkb(in, &where, ewkb);
-  sqlite3_str_appendf(text, "%10srefused: %s\n", "", ewkb);
-}
-
-static void dump(sqlite3_context *context, int n, sqlite3_value **values) {
-  if (has_null(n, values)) return;
-  input in = input_of(values[0]);
-  if (sqlite3_value_type(values[0]) != SQLITE_BLOB) {
-    sqlite3_result_text(context, in.fault, -1, SQLITE_STATIC);
+  char refusal[FAULT_ROOM];
+  if (sqlite3_value_type(it->first) != SQLITE_BLOB) {
+    sqlite3_result_text(it->context, in->fault, -1, SQLITE_STATIC);
     return;
   }
-  sqlite3_str *text = sqlite3_str_new(sqlite3_context_db_handle(context));
-  wkb_dump(sqlite3_value_blob(values[0]), (size_t)sqlite3_value_bytes(values[0]), NULL, append, text, NULL);
-  append_refusal(text, &in);
+  sqlite3_str *text = sqlite3_str_new(sqlite3_context_db_handle(it->context));
+  wkb_dump(sqlite3_value_blob(it->first), (size_t)sqlite3_value_bytes(it->first), NULL, append, text, NULL);
+  if (has_geometry(in, &found) && has_ewkb(in, &found, refusal))
+    sqlite3_str_appendf(text, "%10srefused: %s\n", "", refusal);
   int status = sqlite3_str_errcode(text), length = sqlite3_str_length(text);
   char *whole = sqlite3_str_finish(text);
   if (status == SQLITE_OK)
-    sqlite3_result_text(context, whole, length - 1, sqlite3_free);
+    sqlite3_result_text(it->context, whole, length - 1, sqlite3_free);
   else
-    sqlite3_result_error_code(context, status);
+    sqlite3_result_error_code(it->context, status);
 }
 
-static void kind(sqlite3_context *context, int n, sqlite3_value **values) {
+static void kind(const call *it) {
   wkb_found found;
-  if (has_null(n, values)) return;
-  input in = input_of(values[0]);
-  if (has_geometry(&in, &found)) sqlite3_result_text(context, wkb_kind_text(found.kind), -1, SQLITE_STATIC);
+  if (has_geometry(&it->in, &found)) sqlite3_result_text(it->context, wkb_kind_text(found.kind), -1, SQLITE_STATIC);
 }
 
-static void srid(sqlite3_context *context, int n, sqlite3_value **values) {
+static void srid(const call *it) {
   wkb_found found;
-  if (has_null(n, values)) return;
-  input in = input_of(values[0]);
-  if (!has_geometry(&in, &found)) return;
-  if (in.header.size > 0)
-    sqlite3_result_int(context, in.header.srs_id);
+  if (!has_geometry(&it->in, &found)) return;
+  if (it->in.header.size > 0)
+    sqlite3_result_int(it->context, it->in.header.srs_id);
   else if (found.has_srid)
-    sqlite3_result_int64(context, found.srid);
+    sqlite3_result_int64(it->context, found.srid);
 }
 
 /* The function of a number that is found. PostGIS's flags for z and m are those of ISO's dimensions, exchanged. */
-#define NUMBER(name, number)                                                     \
-  static void name(sqlite3_context *context, int n, sqlite3_value **values) {    \
-    wkb_found found;                                                             \
-    if (has_null(n, values)) return;                                             \
-    input in = input_of(values[0]);                                              \
-    if (has_geometry(&in, &found)) sqlite3_result_int64(context, number);        \
+#define NUMBER(name, number)                                                         \
+  static void name(const call *it) {                                                 \
+    wkb_found found;                                                                 \
+    if (has_geometry(&it->in, &found)) sqlite3_result_int64(it->context, number);    \
   }
 
 NUMBER(ndims, found.width)
@@ -218,56 +195,40 @@ NUMBER(num_coordinates, (sqlite3_int64)found.coordinates)
 NUMBER(num_members, found.kind >= WKB_KIND_MULTI_POINT ? (sqlite3_int64)found.count : 0)
 NUMBER(num_parts, (sqlite3_int64)found.parts)
 
-/* Returns the input's encoding under the options, behind a header. */
-static void written_behind(sqlite3_context *context, const input *in, const wkb_options *options,
-                           const uint8_t *header, size_t length) {
-  size_t size = 0;
-  uint8_t *out = sqlite3_malloc64(length + in->size + 4);
+/* Returns the input's encoding in this form, behind a header. */
+static void written_behind(const call *it, wkb_form form, uint32_t srid, const uint8_t *header, size_t length) {
+  const wkb_options options = {WKB_ORDER_LITTLE, form, srid};
+  size_t size = 0, room = it->in.size + 4;
+  uint8_t *out = sqlite3_malloc64(length + room);
   if (out == NULL) {
-    sqlite3_result_error_nomem(context);
+    sqlite3_result_error_nomem(it->context);
     return;
   }
   if (length > 0) memcpy(out, header, length);
-  if (wkb_write(in->data, in->size, options, out + length, in->size + 4, &size, NULL) == WKB_STATUS_OK)
-    sqlite3_result_blob64(context, out, length + size, sqlite3_free);
+  if (wkb_write(it->in.data, it->in.size, &options, out + length, room, &size, NULL) == WKB_STATUS_OK)
+    sqlite3_result_blob64(it->context, out, length + size, sqlite3_free);
   else
     sqlite3_free(out);
 }
 
-static void rewritten(sqlite3_context *context, const input *in, const wkb_options *options) {
-  written_behind(context, in, options, NULL, 0);
+static void canonical(const call *it) { written_behind(it, WKB_FORM_ISO, 0, NULL, 0); }
+
+static void ewkb(const call *it) {
+  const int32_t srs_id = it->in.header.srs_id;
+  if (it->in.header.size == 0)
+    written_behind(it, WKB_FORM_EWKB_OWN_SRID, 0, NULL, 0);
+  else if (srs_id > 0)
+    written_behind(it, WKB_FORM_EWKB_WITH_SRID, (uint32_t)srs_id, NULL, 0);
+  else
+    written_behind(it, WKB_FORM_EWKB_WITHOUT_SRID, 0, NULL, 0);
 }
 
-static const wkb_options KEY = {WKB_ORDER_LITTLE, WKB_FORM_ISO, 0};
-
-static void canonical(sqlite3_context *context, int n, sqlite3_value **values) {
-  if (has_null(n, values)) return;
-  input in = input_of(values[0]);
-  rewritten(context, &in, &KEY);
-}
-
-static void ewkb(sqlite3_context *context, int n, sqlite3_value **values) {
-  wkb_options options = {WKB_ORDER_LITTLE, WKB_FORM_EWKB_OWN_SRID, 0};
-  if (has_null(n, values)) return;
-  input in = input_of(values[0]);
-  if (in.header.size > 0) {
-    options.form = in.header.srs_id > 0 ? WKB_FORM_EWKB_WITH_SRID : WKB_FORM_EWKB_WITHOUT_SRID;
-    options.srid = in.header.srs_id > 0 ? (uint32_t)in.header.srs_id : 0;
-  }
-  rewritten(context, &in, &options);
-}
-
-static void ewkb_with_srid(sqlite3_context *context, int n, sqlite3_value **values) {
-  wkb_options options = {WKB_ORDER_LITTLE, WKB_FORM_EWKB_WITH_SRID, 0};
-  if (has_null(n, values)) return;
-  sqlite3_int64 number = sqlite3_value_int64(values[1]);
-  if (sqlite3_value_type(values[1]) != SQLITE_INTEGER || number < 0 || number > UINT32_MAX) {
-    sqlite3_result_error(context, "an SRID is an integer from 0 to 4294967295", -1);
-    return;
-  }
-  options.srid = (uint32_t)number;
-  input in = input_of(values[0]);
-  rewritten(context, &in, &options);
+static void ewkb_with_srid(const call *it) {
+  sqlite3_int64 number = sqlite3_value_int64(it->second);
+  if (sqlite3_value_type(it->second) != SQLITE_INTEGER || number < 0 || number > UINT32_MAX)
+    sqlite3_result_error(it->context, "an SRID is an integer from 0 to 4294967295", -1);
+  else
+    written_behind(it, WKB_FORM_EWKB_WITH_SRID, (uint32_t)number, NULL, 0);
 }
 
 /* An empty geometry has no entry in an R-tree. Neither has one that has an x alone, or a y. */
@@ -302,46 +263,36 @@ static sqlite3_int64 own_srs_id(const input *in, const wkb_found *found) {
   return found->has_srid ? (sqlite3_int64)found->srid : 0;
 }
 
-static void gpkg(sqlite3_context *context, int n, sqlite3_value **values) {
+static void gpkg(const call *it) {
   wkb_found found;
   wkb_box box;
   uint8_t header[HEADER_ROOM];
-  if (has_null(n, values)) return;
-  input in = input_of(values[0]);
-  bool is_geometry = has_geometry(&in, &found), is_integer = n == 1 || sqlite3_value_type(values[1]) == SQLITE_INTEGER;
-  sqlite3_int64 srs_id = n > 1 ? sqlite3_value_int64(values[1]) : is_geometry ? own_srs_id(&in, &found) : 0;
+  bool is_geometry = has_geometry(&it->in, &found);
+  bool is_integer = it->second == NULL || sqlite3_value_type(it->second) == SQLITE_INTEGER;
+  sqlite3_int64 srs_id = it->second ? sqlite3_value_int64(it->second) : is_geometry ? own_srs_id(&it->in, &found) : 0;
   if (!is_integer || srs_id != (int32_t)srs_id) {
-    sqlite3_result_error(context, "a srs_id is an integer from -2147483648 to 2147483647", -1);
+    sqlite3_result_error(it->context, "a srs_id is an integer from -2147483648 to 2147483647", -1);
     return;
   }
-  if (!is_geometry || wkb_bounds(in.data, in.size, &box, NULL) != WKB_STATUS_OK) return;
+  if (!is_geometry || !has_bounds(&it->in, &box)) return;
   bool has_envelope = found.kind != WKB_KIND_POINT && !is_empty(&box);
   size_t length = write_header(header, (int32_t)srs_id, has_envelope, &box);
-  written_behind(context, &in, &KEY, header, length);
+  written_behind(it, WKB_FORM_ISO, 0, header, length);
 }
 
-static void same(sqlite3_context *context, int n, sqlite3_value **values) {
+static void same(const call *it) {
   uint32_t equal = 0;
-  if (has_null(n, values)) return;
-  input a = input_of(values[0]), b = input_of(values[1]);
-  if (wkb_same(a.data, a.size, b.data, b.size, &equal, NULL, NULL) == WKB_STATUS_OK)
-    sqlite3_result_int(context, (int)equal);
-}
-
-/* Returns whether the argument has a geometry, and so bounds. */
-static bool has_bounds(sqlite3_context *context, int n, sqlite3_value **values, wkb_box *box) {
-  if (n != 1) sqlite3_result_error(context, "wrong number of arguments: it takes one", -1);
-  if (n != 1 || has_null(n, values)) return false;
-  input in = input_of(values[0]);
-  return in.fault == NULL && wkb_bounds(in.data, in.size, box, NULL) == WKB_STATUS_OK;
+  input b = input_of(it->second);
+  if (wkb_same(it->in.data, it->in.size, b.data, b.size, &equal, NULL, NULL) == WKB_STATUS_OK)
+    sqlite3_result_int(it->context, (int)equal);
 }
 
 /* The function of a side of the box. */
-#define SIDE(name, ordinate, end)                                                              \
-  static void name(sqlite3_context *context, int n, sqlite3_value **values) {                  \
-    wkb_box box;                                                                               \
-    if (has_bounds(context, n, values, &box) && box.ordinate.count > 0)                        \
-      sqlite3_result_double(context, box.ordinate.end);                                        \
+#define SIDE(name, ordinate, end)                                        \
+  static void name(const call *it) {                                     \
+    wkb_box box;                                                         \
+    if (has_bounds(&it->in, &box) && box.ordinate.count > 0)             \
+      sqlite3_result_double(it->context, box.ordinate.end);              \
   }
 
 SIDE(xmin, x, least)
@@ -353,62 +304,79 @@ SIDE(ymax, y, greatest)
 SIDE(zmax, z, greatest)
 SIDE(mmax, m, greatest)
 
-static void st_is_empty(sqlite3_context *context, int n, sqlite3_value **values) {
+static void st_is_empty(const call *it) {
   wkb_box box;
-  if (has_bounds(context, n, values, &box)) sqlite3_result_int(context, is_empty(&box));
+  if (has_bounds(&it->in, &box)) sqlite3_result_int(it->context, is_empty(&box));
 }
 
-typedef struct call {
+typedef struct function {
   const char *name;
   int n;
-  void (*function)(sqlite3_context *, int, sqlite3_value **);
-} call;
+  void (*answer)(const call *);
+} function;
 
-static const call CALLS[] = {{"wkb_well_formed", 1, well_formed},
-                             {"wkb_fault", 1, fault},
-                             {"wkb_dump", 1, dump},
-                             {"wkb_kind", 1, kind},
-                             {"wkb_srid", 1, srid},
-                             {"wkb_ndims", 1, ndims},
-                             {"wkb_zmflag", 1, zmflag},
-                             {"wkb_num_coordinates", 1, num_coordinates},
-                             {"wkb_num_members", 1, num_members},
-                             {"wkb_num_parts", 1, num_parts},
-                             {"wkb_canonical", 1, canonical},
-                             {"wkb_ewkb", 1, ewkb},
-                             {"wkb_ewkb", 2, ewkb_with_srid},
-                             {"wkb_gpkg", 1, gpkg},
-                             {"wkb_gpkg", 2, gpkg},
-                             {"wkb_same", 2, same},
-                             {"wkb_xmin", 1, xmin},
-                             {"wkb_ymin", 1, ymin},
-                             {"wkb_zmin", 1, zmin},
-                             {"wkb_mmin", 1, mmin},
-                             {"wkb_xmax", 1, xmax},
-                             {"wkb_ymax", 1, ymax},
-                             {"wkb_zmax", 1, zmax},
-                             {"wkb_mmax", 1, mmax}};
+static const function FUNCTIONS[] = {
+    {"wkb_well_formed", 1, well_formed},
+    {"wkb_fault", 1, fault},
+    {"wkb_dump", 1, dump},
+    {"wkb_kind", 1, kind},
+    {"wkb_srid", 1, srid},
+    {"wkb_ndims", 1, ndims},
+    {"wkb_zmflag", 1, zmflag},
+    {"wkb_num_coordinates", 1, num_coordinates},
+    {"wkb_num_members", 1, num_members},
+    {"wkb_num_parts", 1, num_parts},
+    {"wkb_canonical", 1, canonical},
+    {"wkb_ewkb", 1, ewkb},
+    {"wkb_ewkb", 2, ewkb_with_srid},
+    {"wkb_gpkg", 1, gpkg},
+    {"wkb_gpkg", 2, gpkg},
+    {"wkb_same", 2, same},
+    {"wkb_xmin", 1, xmin},
+    {"wkb_ymin", 1, ymin},
+    {"wkb_zmin", 1, zmin},
+    {"wkb_mmin", 1, mmin},
+    {"wkb_xmax", 1, xmax},
+    {"wkb_ymax", 1, ymax},
+    {"wkb_zmax", 1, zmax},
+    {"wkb_mmax", 1, mmax},
+};
 
 /* To SQLite these take any number of arguments: a function that is defined for one argument comes before them, and
  * replaces none, which SQLite doesn't do while a statement runs, as a load in a query does. */
-static const call TRIGGER_CALLS[] = {{"ST_IsEmpty", -1, st_is_empty},
-                                     {"ST_MinX", -1, xmin},
-                                     {"ST_MaxX", -1, xmax},
-                                     {"ST_MinY", -1, ymin},
-                                     {"ST_MaxY", -1, ymax}};
+static const function TRIGGER_FUNCTIONS[] = {
+    {"ST_IsEmpty", -1, st_is_empty},
+    {"ST_MinX", -1, xmin},
+    {"ST_MaxX", -1, xmax},
+    {"ST_MinY", -1, ymin},
+    {"ST_MaxY", -1, ymax},
+};
 
-static int define_all(sqlite3 *db, char **error, const call *calls, size_t count) {
+/* What SQLite calls: null in any argument is the answer of each function. */
+static void answer(sqlite3_context *context, int n, sqlite3_value **values) {
+  const function *asked = sqlite3_user_data(context);
+  if (asked->n < 0 && n != 1) {
+    sqlite3_result_error(context, "wrong number of arguments: it takes one", -1);
+    return;
+  }
+  for (int i = 0; i < n; i++)
+    if (sqlite3_value_type(values[i]) == SQLITE_NULL) return;
+  const call it = {context, values[0], n > 1 ? values[1] : NULL, input_of(values[0])};
+  asked->answer(&it);
+}
+
+static int define_all(sqlite3 *db, char **error, const function *all, size_t count) {
   int flags = SQLITE_UTF8 | SQLITE_DETERMINISTIC | SQLITE_INNOCUOUS, status = SQLITE_OK;
   for (size_t i = 0; i < count && status == SQLITE_OK; i++) {
-    status = sqlite3_create_function(db, calls[i].name, calls[i].n, flags, NULL, calls[i].function, NULL, NULL);
+    status = sqlite3_create_function(db, all[i].name, all[i].n, flags, (void *)&all[i], answer, NULL, NULL);
     /* While a statement runs, a name that an earlier load has made for any number of arguments stays. */
-    if (status == SQLITE_BUSY && calls[i].n < 0) status = SQLITE_OK;
-    if (status != SQLITE_OK && error != NULL) *error = sqlite3_mprintf("%s: %s", calls[i].name, sqlite3_errmsg(db));
+    if (status == SQLITE_BUSY && all[i].n < 0) status = SQLITE_OK;
+    if (status != SQLITE_OK && error != NULL) *error = sqlite3_mprintf("%s: %s", all[i].name, sqlite3_errmsg(db));
   }
   return status;
 }
 
-#define COUNT(calls) (sizeof calls / sizeof calls[0])
+#define COUNT(all) (sizeof all / sizeof all[0])
 #ifdef _WIN32
 #define ENTRY_POINT __declspec(dllexport)
 #else
@@ -420,10 +388,10 @@ static int define_all(sqlite3 *db, char **error, const call *calls, size_t count
  * again. */
 ENTRY_POINT int sqlite3_wkb_init(sqlite3 *db, char **error, const sqlite3_api_routines *api) {
   SQLITE_EXTENSION_INIT2(api);
-  return define_all(db, error, CALLS, COUNT(CALLS));
+  return define_all(db, error, FUNCTIONS, COUNT(FUNCTIONS));
 }
 
 ENTRY_POINT int sqlite3_wkbst_init(sqlite3 *db, char **error, const sqlite3_api_routines *api) {
   SQLITE_EXTENSION_INIT2(api);
-  return define_all(db, error, TRIGGER_CALLS, COUNT(TRIGGER_CALLS));
+  return define_all(db, error, TRIGGER_FUNCTIONS, COUNT(TRIGGER_FUNCTIONS));
 }
