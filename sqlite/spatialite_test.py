@@ -21,8 +21,8 @@ THEIRS = "select " + ", ".join(
 TRIGGERS = "select " + ", ".join(f"{name}({POINT})" for name in TRIGGER_NAMES)
 
 
-def connected(libraries, ways):
-    """A connection that loads these libraries, each in its way. Python has a way for entry points from 3.12 on."""
+def asked(libraries, ways, queries):
+    """The answers after these libraries were loaded, each in its way. Python has one for entry points from 3.12 on."""
     connection = sqlite3.connect(":memory:")
     connection.enable_load_extension(True)
     for library, way in zip(libraries, ways):
@@ -30,11 +30,6 @@ def connected(libraries, ways):
             connection.load_extension(*library)
         else:
             connection.execute(f"select load_extension({', '.join('?' * len(library))})", library).fetchall()
-    return connection
-
-
-def asked(libraries, ways, queries):
-    connection = connected(libraries, ways)
     return [connection.execute(query).fetchone() for query in queries]
 
 
