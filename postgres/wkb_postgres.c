@@ -127,39 +127,33 @@ NUMBER(wkb_num_members_sql, found.kind >= WKB_KIND_MULTI_POINT ? found.count : 0
 NUMBER(wkb_num_parts_sql, found.parts)
 
 /* The encoding of the first argument, in so much room as it can need, or as a bytea can have. */
-static Datum rewritten(FunctionCallInfo fcinfo, const wkb_options *options) {
+static Datum rewritten(FunctionCallInfo fcinfo, wkb_form form, uint32_t srid) {
+  const wkb_options options = {WKB_ORDER_LITTLE, form, srid};
   bytea *v = argument(fcinfo, 0);
   size_t room = Min(VARSIZE_ANY_EXHDR(v) + 4, MaxAllocSize - VARHDRSZ);
   bytea *out = palloc(VARHDRSZ + room);
   size_t size = 0;
   wkb_fault fault;
-  accept(wkb_write(BYTES(v), options, VARDATA(out), room, &size, &fault), "", &fault, v);
+  accept(wkb_write(BYTES(v), &options, VARDATA(out), room, &size, &fault), "", &fault, v);
   PG_FREE_IF_COPY(v, 0);
   SET_VARSIZE(out, VARHDRSZ + size);
   PG_RETURN_BYTEA_P(out);
 }
 
 PG_FUNCTION_INFO_V1(wkb_canonical_sql);
-Datum wkb_canonical_sql(PG_FUNCTION_ARGS) {
-  static const wkb_options options = {WKB_ORDER_LITTLE, WKB_FORM_ISO, 0};
-  return rewritten(fcinfo, &options);
-}
+Datum wkb_canonical_sql(PG_FUNCTION_ARGS) { return rewritten(fcinfo, WKB_FORM_ISO, 0); }
 
 PG_FUNCTION_INFO_V1(wkb_ewkb_sql);
-Datum wkb_ewkb_sql(PG_FUNCTION_ARGS) {
-  static const wkb_options options = {WKB_ORDER_LITTLE, WKB_FORM_EWKB_OWN_SRID, 0};
-  return rewritten(fcinfo, &options);
-}
+Datum wkb_ewkb_sql(PG_FUNCTION_ARGS) { return rewritten(fcinfo, WKB_FORM_EWKB_OWN_SRID, 0); }
 
 PG_FUNCTION_INFO_V1(wkb_ewkb_with_srid_sql);
 Datum wkb_ewkb_with_srid_sql(PG_FUNCTION_ARGS) {
   int64 srid = PG_GETARG_INT64(1);
-  wkb_options options = {WKB_ORDER_LITTLE, WKB_FORM_EWKB_WITH_SRID, (uint32_t)srid};
   if (srid < 0 || srid > UINT32_MAX)
     ereport(ERROR, (errcode(ERRCODE_NUMERIC_VALUE_OUT_OF_RANGE),
                     errmsg("an SRID is an integer from 0 to 4294967295"),
                     errhint("wkb_canonical writes no SRID, and wkb_ewkb without this argument that of the value.")));
-  return rewritten(fcinfo, &options);
+  return rewritten(fcinfo, WKB_FORM_EWKB_WITH_SRID, (uint32_t)srid);
 }
 
 PG_FUNCTION_INFO_V1(wkb_same_sql);
