@@ -2,7 +2,6 @@
  * and each byte that it writes, one by one and as a column. Neither changes within version 1. A status inside its
  * class changes only with the file. */
 #include "lasting.h"
-#include <math.h>
 
 static lasting table[LASTING_MOST];
 static uint8_t bytes[BYTES_MOST];
@@ -125,54 +124,22 @@ static void is_written(const lasting *r, uint32_t number) {
   is(status == WKB_STATUS_NO_ROOM && needed == size && is_kept(out, size), "room for all bytes but one is enough");
 }
 
-/* The words of a row under each dimension, and the ends of its rings and singles. */
-typedef struct levels {
-  double words[4][INPUT_MOST / 4];
-  uint64_t ring_ends[ROW_PARTS_MOST], single_ends[ROW_PARTS_MOST];
-  size_t used[4], rings, singles;
-} levels;
-
-static void put_words(levels *to, const wkb_part *p, const double *words) {
-  for (size_t at = 0; at < p->count * p->width; at += p->width)
-    for (unsigned under = WKB_DIM_XY; under <= WKB_DIM_XYZM; under++) {
-      double *next = to->words[under] + to->used[under];
-      *next++ = words[at], *next++ = words[at + 1];
-      if (under & 1) *next++ = p->dimension & 1 ? words[at + 2] : NAN;
-      if (under & 2) *next++ = p->dimension & 2 ? words[at + p->width - 1] : NAN;
-      to->used[under] = (size_t)(next - to->words[under]);
-    }
-}
-
-/* Puts the words of a ring, a point or a line string, by both calls for words alike, all of them and each coordinate. */
-static void put_part(levels *to, const uint8_t *input, const wkb_part *p) {
+/* The words of a ring, a point or a line string are those of its bytes: all of them, and each coordinate's. */
+static void has_words(const uint8_t *input, const wkb_part *p) {
   double words[INPUT_MOST / 8 + 1], own[5];
   memset(words, UNTOUCHED, sizeof words), memset(own, UNTOUCHED, sizeof own);
   wkb_words(input, p, 0, p->count, words);
   is(is_kept(words + p->width * p->count, sizeof words[0]), "a word after the last is written");
-  for (uint64_t i = 0; i < p->count; i++) {
-    wkb_words(input, p, i, 1, own);
-    is(memcmp(own, words + p->width * i, p->width * sizeof own[0]) == 0, "a word of wkb_words");
+  for (uint64_t i = 0; i < p->count * p->width; i++) {
+    const uint8_t *bytes = input + p->offset + 8 * i;
+    const double word = wkb_word(input, p, i / p->width, i % p->width);
+    uint64_t wanted = 0;
+    for (int k = 0; k < 8; k++) wanted = wanted << 8 | bytes[p->order == WKB_ORDER_BIG ? k : 7 - k];
+    wkb_words(input, p, i / p->width, 1, own);
+    is(memcmp(&wanted, &own[i % p->width], 8) == 0 && memcmp(&wanted, &words[i], 8) == 0, "a word of wkb_words");
+    is(memcmp(&wanted, &word, 8) == 0, "a word of wkb_word");
     is(is_kept(own + p->width, sizeof own[0]), "a word after a coordinate is written");
-    for (unsigned n = 0; n < p->width; n++) {
-      const double word = wkb_word(input, p, i, n);
-      is(memcmp(&word, &own[n], sizeof word) == 0, "a word of wkb_word");
-    }
   }
-  put_words(to, p, words);
-  to->ring_ends[to->rings++] = to->used[WKB_DIM_XY] / 2;
-  if (p->kind != WKB_KIND_RING) to->single_ends[to->singles++] = to->rings;
-}
-
-static void has_words(const lasting *r, const wkb_part *parts) {
-  levels all = {.rings = 0};
-  uint32_t sum = NO_SUM;
-  for (uint64_t i = 0; i < r->fields[1]; i++) {
-    if (parts[i].kind <= WKB_KIND_LINE_STRING) put_part(&all, r->bytes, &parts[i]);
-    if (parts[i].kind == WKB_KIND_POLYGON) all.single_ends[all.singles++] = all.rings + parts[i].count;
-  }
-  for (int under = 0; under < 4; under++) sum = summed(sum, all.words[under], 8 * all.used[under], 8);
-  sum = summed(summed(sum, all.ring_ends, 8 * all.rings, 8), all.single_ends, 8 * all.singles, 8);
-  is(sum == r->sums[OF_LEVELS], "a word changes");
 }
 
 /* Its parts one after another: those of its table but for what is inside them, or those before the rejected one. */
@@ -202,7 +169,8 @@ static void is_listed(const lasting *r) {
   has_next_parts(r, parts);
   if (!is_good) return;
   is(summed(NO_SUM, parts, count * sizeof parts[0], sizeof parts[0]) == r->sums[OF_PARTS], "a part changes");
-  has_words(r, parts);
+  for (size_t i = 0; i < count; i++)
+    if (parts[i].kind <= WKB_KIND_LINE_STRING) has_words(r->bytes, &parts[i]);
   memset(parts, UNTOUCHED, sizeof parts);
   status = wkb_parts(r->bytes, r->len, parts, wanted - 1, &needed, NULL);
   is(status == WKB_STATUS_NO_ROOM && needed == wanted, "room for all parts but one is enough");

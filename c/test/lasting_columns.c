@@ -120,18 +120,6 @@ static void are_put(const wkb_column *column, const wkb_options *options, int su
   }
 }
 
-/* What a row has, up to its end: coordinates, rings and singles. */
-typedef struct level_ends {
-  uint64_t coordinates, rings, singles;
-} level_ends;
-
-static level_ends ends_of(size_t row) {
-  level_ends it = {0, 0, ends[row]};
-  if (it.singles > 0) it.rings = single_ends[it.singles - 1];
-  if (it.rings > 0) it.coordinates = ring_ends[it.rings - 1];
-  return it;
-}
-
 /* Ends as they are counted from the end of the row before. */
 static uint32_t summed_from(uint32_t sum, const uint64_t *all, uint64_t begin, uint64_t end, uint64_t first) {
   for (uint64_t i = begin; i < end; i++) {
@@ -155,28 +143,29 @@ static void are_split(const wkb_column *column) {
     clear(words, sizeof words);
     wkb_column_coordinates(column, dimension, &it, statuses);
     statuses_are("wkb_column_coordinates");
-    level_ends start = {0, 0, 0}, end = start;
-    for (size_t i = 0; i < rows; i++, start = end) {
-      end = ends_of(i);
-      const uint64_t width = WIDTHS[dimension], count = end.coordinates - start.coordinates;
-      sums[i] = summed(sums[i], words + width * start.coordinates, (size_t)(8 * width * count), 8);
+    uint64_t single = 0, ring = 0, coordinate = 0;
+    for (size_t i = 0; i < rows; i++) {
+      const uint64_t first_single = single, first_ring = ring, first = coordinate, width = WIDTHS[dimension];
+      single = ends[i];
+      ring = single > 0 ? single_ends[single - 1] : 0;
+      coordinate = ring > 0 ? ring_ends[ring - 1] : 0;
+      sums[i] = summed(sums[i], words + width * first, (size_t)(8 * width * (coordinate - first)), 8);
       if (dimension < WKB_DIM_XYZM) continue;
-      sums[i] = summed_from(sums[i], ring_ends, start.rings, end.rings, start.coordinates);
-      sums[i] = summed_from(sums[i], single_ends, start.singles, end.singles, start.rings);
-      const bool is_right = is_good(i) ? sums[i] == of[i - 1].sums[OF_LEVELS] : end.singles == start.singles;
+      sums[i] = summed_from(sums[i], ring_ends, first_ring, ring, first);
+      sums[i] = summed_from(sums[i], single_ends, first_single, single, first_ring);
+      const bool is_right = is_good(i) ? sums[i] == of[i - 1].sums[OF_LEVELS] : single == first_single;
       expect(is_right, "the levels of a row", "");
     }
-    expect(end.coordinates == it.coordinates && end.rings == it.rings && end.singles == it.singles, "the totals", "");
+    expect(coordinate == it.coordinates && ring == it.rings && single == it.singles, "the totals", "");
     expect(is_kept(words + it.words_room, sizeof words[0]), "words more", "");
   }
 }
 
 /* The members of a geometry as rows are collected into what is written of it, and not in less room. */
-enum { MEMBERS_MOST = ROW_PARTS_MOST };
 static void members_are_collected(const lasting *r, uint32_t number) {
   const wkb_options options = {number / 4, number % 4, CALLER_SRID};
   static wkb_part table[ROW_PARTS_MOST];
-  static int64_t begins[MEMBERS_MOST + 1];
+  static int64_t begins[ROW_PARTS_MOST + 1];
   const uint32_t kind = (uint32_t)r->fields[7], dimension = (uint32_t)r->fields[8];
   wkb_column column = {r->bytes, r->len, begins, sizeof begins[0], NULL, 0, 0};
   size_t size = 0, needed = 0;
@@ -198,27 +187,9 @@ static void are_collected(void) {
       members_are_collected(&of[i - 1], NUMBERS[k]);
 }
 
-/* Each row as a slice of the column, and each of the last ones with those behind it, of which the last is null. */
-static void are_sliced(const wkb_column *column) {
-  enum { LAST = 20 };
-  for (size_t i = 0; i < rows; i++) {
-    wkb_column slice = *column;
-    slice.offsets = (const uint8_t *)column->offsets + i * column->offset_size;
-    slice.rows = i + LAST < rows ? 1 : rows - i, slice.validity_offset += i;
-    memset(statuses, UNTOUCHED, 3 * LAST);
-    wkb_column_check(&slice, statuses);
-    wkb_column_found(&slice, found, statuses + LAST);
-    wkb_column_bounds(&slice, boxes, statuses + 2 * LAST);
-    for (size_t k = 0; k < 3 * slice.rows; k++) {
-      const size_t at = k % slice.rows;
-      expect(statuses[k / slice.rows * LAST + at] == status_in(i + at, 0, 0), "the status of a slice", "");
-    }
-  }
-}
-
 void what_lasts_is_as_it_was_in_columns(void) {
   fill_data();
-  const size_t first_bits[] = {0, 8 - (rows - 1) % 8, 75}; /* by the second one the last row's bit begins a byte */
+  const size_t first_bits[] = {0, 8 - (rows - 1) % 8, 79}; /* by the second one the last row's bit begins a byte */
   for (int i = 0; i < 6; i++) {
     const wkb_column column = column_from(first_bits[i / 2], i % 2);
     are_checked(&column);
@@ -226,7 +197,6 @@ void what_lasts_is_as_it_was_in_columns(void) {
     for (uint32_t number = 0; number < OPTION_COUNT; number++)
       are_put(&column, &(wkb_options){number / 4, number % 4, CALLER_SRID}, (int)number);
     are_split(&column);
-    are_sliced(&column);
   }
   are_collected();
 }
