@@ -3,30 +3,29 @@
 #include "../../wkb_dump.h"
 #include "../lasting.h"
 
-enum { LINE_ROOM = 2048 };
+enum { LINE_ROOM = 2048, LONGEST_LINE = 511 };
 
-/* What was put. */
+/* What was put, and a line that has to be. */
 typedef struct output {
   uint64_t lines, most;
-  char last[512];
+  char wanted[WKB_FAULT_TEXT_ROOM + 64];
+  bool is_put;
 } output;
 
 /* Counts a line, which has one end and no other control characters. */
 static int count_line(void *to, const char *line, size_t length) {
   output *out = to;
-  if (length < 2 || length >= sizeof out->last || line[length - 1] != '\n') exit(2);
+  if (length < 2 || length > LONGEST_LINE || line[length - 1] != '\n') exit(2);
   for (size_t i = 0; i + 1 < length; i++)
     if (line[i] < ' ' || line[i] > '~') exit(2);
-  memcpy(out->last, line, length - 1), out->last[length - 1] = 0;
+  out->is_put |= strlen(out->wanted) == length && memcmp(out->wanted, line, length) == 0;
   out->lines++;
   return out->most > 0 && out->lines == out->most;
 }
 
-/* The dump ends at the line that is no longer taken, whichever it is. */
-static bool stops(const uint8_t *bytes, size_t len) {
-  output whole = {0};
-  wkb_dump(bytes, len, NULL, count_line, &whole, NULL);
-  for (uint64_t left = whole.lines; left > 0; left -= 1 + left / 8) {
+/* A dump of so many lines ends at the line that is no longer taken, whichever it is. */
+static bool stops(const uint8_t *bytes, size_t len, uint64_t lines) {
+  for (uint64_t left = lines; left > 0; left -= 1 + left / 8) {
     output out = {.most = left};
     if (wkb_dump(bytes, len, NULL, count_line, &out, NULL) != WKB_DUMP_STOPPED || out.lines != left) return false;
   }
@@ -42,13 +41,6 @@ static bool walks_behind_a_header(const uint8_t *bytes, size_t len) {
   int status = wkb_dump(bytes, len, NULL, count_line, &out, &alone);
   return wkb_dump(behind, len + 8, NULL, count_line, &out, &walk) == status && walk.parts == alone.parts &&
          walk.begin == alone.begin && walk.end == alone.end;
-}
-
-/* A copy in a block of its own, so that a sanitizer sees what is read after it. */
-static void *alone(const void *from, size_t len) {
-  void *block = malloc(len > 0 ? len : 1);
-  expect(block != NULL, "no memory", "");
-  return memcpy(block, from, len);
 }
 
 /* The next line of the worked cases, without comments. */
@@ -102,38 +94,25 @@ static void try_hex(void) {
   for (size_t i = 0; i < sizeof TEXTS / sizeof TEXTS[0]; i++) {
     char bytes[64] = "";
     size_t length = strlen(TEXTS[i].text), wrong = 0;
-    char *text = alone(TEXTS[i].text, length);
+    char *text = at_the_end(0, TEXTS[i].text, length);
     size_t count = wkb_dump_from_hex(text, length, &wrong);
     bool is_hex = count != WKB_DUMP_NOT_HEX, is_left = memcmp(text, TEXTS[i].text, length) == 0;
     for (size_t k = 0; is_hex && k < count; k++) snprintf(bytes + 2 * k, 3, "%02x", (unsigned char)text[k]);
     expect(is_hex == (TEXTS[i].bytes != NULL), "hex, or none", TEXTS[i].text);
     expect(is_hex ? strcmp(bytes, TEXTS[i].bytes) == 0 : is_left && wrong == TEXTS[i].wrong, "hex", TEXTS[i].text);
-    free(text);
   }
 }
 
-/* A line that a dump has to have. */
-typedef struct sought {
-  char line[WKB_FAULT_TEXT_ROOM + 64];
-  bool is_put;
-} sought;
-
-static int seek(void *to, const char *line, size_t length) {
-  sought *it = to;
-  it->is_put |= strlen(it->line) == length && memcmp(it->line, line, length) == 0;
-  return 0;
-}
-
-/* The line that says where an accepted row ends, or why another is refused. */
-static void seek_end(const lasting *r, sought *it) {
+/* Its dump has the line that says where an accepted row ends, or why another is refused. */
+static void seek_end(const lasting *r, output *it) {
   const uint64_t *f = r->fields;
   const wkb_fault fault = {f[0], f[1], f[2], f[3], (uint32_t)f[4], r->status};
   const unsigned long long size = f[0], more = r->len - f[0];
   char text[WKB_FAULT_TEXT_ROOM];
   wkb_fault_text(&fault, text, sizeof text);
-  if (r->status != WKB_STATUS_OK) snprintf(it->line, sizeof it->line, "%10srefused: %s\n", "", text);
-  else if (more == 0) snprintf(it->line, sizeof it->line, "%8llu  the end\n", size);
-  else snprintf(it->line, sizeof it->line, "%8llu  the end of the geometry, and %llu more byte%s\n", size, more,
+  if (r->status != WKB_STATUS_OK) snprintf(it->wanted, sizeof it->wanted, "%10srefused: %s\n", "", text);
+  else if (more == 0) snprintf(it->wanted, sizeof it->wanted, "%8llu  the end\n", size);
+  else snprintf(it->wanted, sizeof it->wanted, "%8llu  the end of the geometry, and %llu more byte%s\n", size, more,
                 more == 1 ? "" : "s");
 }
 
@@ -141,16 +120,15 @@ static size_t try_lasting(void) {
   const lasting *r;
   const size_t rows = lasting_rows(&r);
   for (size_t i = 0; i < rows; i++, r++) {
-    sought it = {.is_put = false};
+    output it = {0};
     char row[24];
-    uint8_t *bytes = alone(r->bytes, r->len);
+    const uint8_t *bytes = at_the_end(0, r->bytes, r->len);
     snprintf(row, sizeof row, "row %u", (unsigned)i);
     seek_end(r, &it);
-    wkb_dump(bytes, r->len, NULL, seek, &it, NULL);
+    wkb_dump(bytes, r->len, NULL, count_line, &it, NULL);
     expect(it.is_put, "a dump has another end", row);
-    expect(stops(bytes, r->len), "a dump goes on", row);
+    expect(stops(bytes, r->len, it.lines), "a dump goes on", row);
     expect(walks_behind_a_header(bytes, r->len), "a dump walks another way behind a header", row);
-    free(bytes);
   }
   return rows;
 }
