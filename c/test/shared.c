@@ -1,45 +1,44 @@
 /* What the tests share of texts, pages and addresses. */
 #define _GNU_SOURCE
 #include "shared.h"
+
+/* The size of a page, new pages, and what may be done with them. */
 #ifdef _WIN32
 #include <windows.h>
+enum { NOTHING = PAGE_NOACCESS, READING = PAGE_READONLY, WRITING = PAGE_READWRITE };
+
+static size_t page_size(void) {
+  SYSTEM_INFO info;
+  GetSystemInfo(&info);
+  return info.dwPageSize;
+}
+
+static void *new_pages(size_t size) { return VirtualAlloc(NULL, size, MEM_RESERVE | MEM_COMMIT, WRITING); }
+
+static bool allows(void *pages, size_t size, int what) {
+  DWORD before;
+  return VirtualProtect(pages, size, (DWORD)what, &before);
+}
 #else
 #include <sys/mman.h>
 #include <unistd.h>
+enum { NOTHING = PROT_NONE, READING = PROT_READ, WRITING = PROT_READ | PROT_WRITE };
+
+static size_t page_size(void) { return (size_t)sysconf(_SC_PAGESIZE); }
+static void *new_pages(size_t size) { return mmap(NULL, size, WRITING, MAP_PRIVATE | MAP_ANON, -1, 0); }
+static bool allows(void *pages, size_t size, int what) { return mprotect(pages, size, what) == 0; }
 #endif
 
-#ifdef _WIN32
 uint8_t *end_of_pages(size_t size) {
-  SYSTEM_INFO info;
-  DWORD before;
-  GetSystemInfo(&info);
-  const size_t page = info.dwPageSize, whole = (size + page - 1) / page * page;
-  uint8_t *pages = VirtualAlloc(NULL, whole + page, MEM_RESERVE | MEM_COMMIT, PAGE_READWRITE);
-  expect(pages && VirtualProtect(pages + whole, page, PAGE_NOACCESS, &before), "pages", "");
+  const size_t page = page_size(), whole = (size + page - 1) / page * page;
+  uint8_t *pages = new_pages(whole + page);
+  expect(pages && allows(pages + whole, page, NOTHING), "pages", "");
   return pages + whole;
 }
 
 void can_be_written(uint8_t *end, bool can) {
-  SYSTEM_INFO info;
-  DWORD before;
-  GetSystemInfo(&info);
-  uint8_t *page = end - info.dwPageSize;
-  expect(VirtualProtect(page, info.dwPageSize, can ? PAGE_READWRITE : PAGE_READONLY, &before), "a page", "");
+  expect(allows(end - page_size(), page_size(), can ? WRITING : READING), "a page", "");
 }
-
-#else
-uint8_t *end_of_pages(size_t size) {
-  const size_t page = (size_t)sysconf(_SC_PAGESIZE), whole = (size + page - 1) / page * page;
-  uint8_t *pages = mmap(NULL, whole + page, PROT_READ | PROT_WRITE, MAP_PRIVATE | MAP_ANON, -1, 0);
-  expect(pages != MAP_FAILED && mprotect(pages + whole, page, PROT_NONE) == 0, "pages", "");
-  return pages + whole;
-}
-
-void can_be_written(uint8_t *end, bool can) {
-  size_t page = (size_t)sysconf(_SC_PAGESIZE);
-  expect(mprotect(end - page, page, can ? PROT_READ | PROT_WRITE : PROT_READ) == 0, "a page", "");
-}
-#endif
 
 void *at_the_end(int place, const void *from, size_t len) {
   static uint8_t *ends[PLACES];

@@ -2,24 +2,22 @@
  * unwound by the tables of the library's code to the function that has called, which goes on with the registers that it
  * had, as the tables say. Each call faults. */
 #include "../every.h"
-#include <stdio.h>
-#include <stdlib.h>
+#include "../shared.h"
 #include <windows.h>
 
 static int faults[EVERY_LEVELS + 1], deepest, calling;
 
 /* One of the calls up to that of levels. For that the words of a multi point are the input. */
-static __attribute__((noinline)) unsigned call(int which, const uint8_t *bytes, size_t len) {
+static __attribute__((noinline)) void call(int which, const uint8_t *bytes, size_t len) {
   static every written;
   const uint64_t points = len / 16;
   const wkb_levels levels = {(const double *)(const void *)bytes, 2 * points, NULL, points, NULL, points,
                              &points, 1, NULL, 0};
-  volatile unsigned status = 0;
-  if (which < EVERY_LEVELS) status = every_call(which, bytes, len, &written);
+  if (which < EVERY_LEVELS) every_call(which, bytes, len, &written);
   else
-    status = (unsigned)wkb_column_from_coordinates(&levels, WKB_KIND_MULTI_POINT, WKB_DIM_XY, &written.options,
-                                                   written.out, EVERY_BYTES, &written.level_end, &written.row);
-  return status;
+    wkb_column_from_coordinates(&levels, WKB_KIND_MULTI_POINT, WKB_DIM_XY, &written.options, written.out, EVERY_BYTES,
+                                &written.level_end, &written.row);
+  calling = which; /* so that it is called from here, and not jumped to */
 }
 
 static LONG CALLBACK unwind(EXCEPTION_POINTERS *fault) {
@@ -52,9 +50,7 @@ int main(void) {
   static const uint8_t OPEN[] = {1, WKB_KIND_GEOMETRY_COLLECTION, 0, 0, 0, 1, 0, 0, 0};
   static const uint8_t POLYGONS[64] = {1, WKB_KIND_MULTI_POLYGON, 0, 0, 0, 1, 0, 0, 0,
                                        1, WKB_KIND_POLYGON,       0, 0, 0, 1, 0, 0, 0, 2};
-  DWORD before;
-  uint8_t *pages = VirtualAlloc(NULL, 8192, MEM_RESERVE | MEM_COMMIT, PAGE_READWRITE), *end = pages + 4096;
-  if (!pages || !VirtualProtect(end, 4096, PAGE_NOACCESS, &before)) return 1;
+  uint8_t *end = end_of_pages(4096);
   if (!AddVectoredExceptionHandler(1, unwind)) return 1;
   for (calling = 0; calling <= EVERY_LEVELS; calling++) {
     for (size_t depth = 0; depth <= 120; depth += 8) {
