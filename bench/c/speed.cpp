@@ -20,6 +20,9 @@ namespace {
 
 using namespace speed;
 
+// Whose calls: the library's, or those of plain C.
+enum calls { OURS, PLAIN };
+
 // What all calls compute goes here, so that none is left out by the compiler.
 double sum = 0;
 
@@ -39,15 +42,11 @@ void call_check(const row &input) {
   sum += static_cast<double>(found.coordinates);
 }
 
+template <calls WHOSE = OURS>
 void call_bounds(const row &input) {
   wkb_box box;
-  wkb_bounds(input.data(), input.size(), &box, nullptr);
-  sum += box.x.least;
-}
-
-void plain_call_bounds(const row &input) {
-  wkb_box box;
-  plain_bounds(input.data(), input.size(), &box);
+  if (WHOSE == OURS) wkb_bounds(input.data(), input.size(), &box, nullptr);
+  else plain_bounds(input.data(), input.size(), &box);
   sum += box.x.least;
 }
 
@@ -62,17 +61,11 @@ void call_parts_and_words(const row &input) {
   }
 }
 
-template <const wkb_options &OPTIONS>
+template <const wkb_options &OPTIONS, calls WHOSE = OURS>
 void call_write(const row &input) {
   std::size_t size = 0;
-  wkb_write(input.data(), input.size(), &OPTIONS, encoding.data(), encoding.size(), &size, nullptr);
-  sum += static_cast<double>(size);
-}
-
-template <const wkb_options &OPTIONS>
-void plain_call_write(const row &input) {
-  std::size_t size = 0;
-  plain_write(input.data(), input.size(), OPTIONS.order, encoding.data(), encoding.size(), &size);
+  if (WHOSE == OURS) wkb_write(input.data(), input.size(), &OPTIONS, encoding.data(), encoding.size(), &size, nullptr);
+  else plain_write(input.data(), input.size(), OPTIONS.order, encoding.data(), encoding.size(), &size);
   sum += static_cast<double>(size);
 }
 
@@ -93,14 +86,11 @@ void column_write(whole_column &it) {
   wkb_column_write(&it.raw, &OPTIONS, it.out.data(), it.out.size(), it.ends.data(), it.statuses.data());
 }
 
+template <calls WHOSE = OURS>
 void column_coordinates(whole_column &it) {
   wkb_coordinates out = rooms_of(it.levels);
-  wkb_column_coordinates(&it.raw, it.dimension, &out, it.statuses.data());
-}
-
-void plain_coordinates(whole_column &it) {
-  wkb_coordinates out = rooms_of(it.levels);
-  if (plain_column_coordinates(&it.raw, it.dimension, &out) == 0) std::exit(1);
+  if (WHOSE == OURS) wkb_column_coordinates(&it.raw, it.dimension, &out, it.statuses.data());
+  else if (plain_column_coordinates(&it.raw, it.dimension, &out) == 0) std::exit(1);
 }
 
 void column_from_coordinates(whole_column &it) {
@@ -150,17 +140,17 @@ const call COUNTED[] = {
     {"check", call_check, column_check},
     {"found", nullptr, wkb_column_found ? column_found : nullptr},
     {"bounds", call_bounds, column_bounds},
-    {"bounds in plain C", plain_call_bounds},
+    {"bounds in plain C", call_bounds<PLAIN>},
     {"big endian bounds", call_bounds, column_bounds, true},
-    {"big endian bounds in plain C", plain_call_bounds, nullptr, true},
+    {"big endian bounds in plain C", call_bounds<PLAIN>, nullptr, true},
     {"parts", call_parts, column_parts},
     {"parts, words", call_parts_and_words},
     {"write", call_write<BIG>, column_write<BIG>},
-    {"write in plain C", plain_call_write<BIG>},
+    {"write in plain C", call_write<BIG, PLAIN>},
     {"write as it is", call_write<LITTLE>, column_write<LITTLE>},
-    {"write as it is in plain C", plain_call_write<LITTLE>},
+    {"write as it is in plain C", call_write<LITTLE, PLAIN>},
     {"coordinates", nullptr, column_coordinates},
-    {"coordinates in plain C", nullptr, plain_coordinates},
+    {"coordinates in plain C", nullptr, column_coordinates<PLAIN>},
     {"from coordinates", nullptr, column_from_coordinates},
 };
 const call TIMED[] = {
@@ -188,33 +178,25 @@ double time_of(int passes, const Pass &pass) {
   return (now() - start) / (passes * static_cast<double>(ROWS));
 }
 
-// What is called for: geometries one by one, and as a column.
-struct inputs {
-  std::vector<row> rows;
-  whole_column column;
-
-  explicit inputs(std::vector<row> of) : rows(std::move(of)), column(rows) {}
-};
-
 void call_each(const std::vector<row> &rows, const call &it) {
   for (const row &input : rows) it.one(input);
 }
 
-void count(const shape &of, const call &it, inputs &from) {
+void count(const shape &of, const call &it, whole_column &from) {
   if (it.one) {
     time_of(1, [&] { call_each(from.rows, it); });
     std::printf("%s\t%s\t%zu\n", of.name, it.name, ROWS);
   }
   if (!it.column) return;
-  time_of(1, [&] { it.column(from.column); });
+  time_of(1, [&] { it.column(from); });
   std::printf("%s\t%s, column\t%zu\n", of.name, it.name, ROWS);
-  if (from.column.statuses != wkb::statuses(ROWS)) std::exit(1);
+  if (from.statuses != wkb::statuses(ROWS)) std::exit(1);
 }
 
 void count_shape(const shape &of, const std::vector<row> &rows) {
   std::vector<row> turned;
   for (const row &it : rows) turned.push_back(written(it, BIG));
-  inputs little(rows), big(std::move(turned));
+  whole_column little(rows), big(turned);
   for (const call &it : COUNTED)
     if (of.has_levels || std::strstr(it.name, "coordinates") == nullptr) count(of, it, it.is_big ? big : little);
 }

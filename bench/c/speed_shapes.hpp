@@ -134,8 +134,9 @@ inline std::vector<row> rows_of(const shape &of) {
   return rows;
 }
 
-// All rows of a shape as a column, with rooms for what the calls write.
+// All rows of a shape, one by one and as a column, with rooms for what the calls write.
 struct whole_column {
+  std::vector<row> rows;
   std::vector<std::byte> data;
   std::vector<std::int64_t> offsets{0};
   std::vector<std::uint8_t> statuses;
@@ -149,8 +150,8 @@ struct whole_column {
   wkb_dim dimension;
   wkb_column raw;
 
-  explicit whole_column(const std::vector<row> &rows)
-      : statuses(rows.size()), ends(rows.size()), boxes(rows.size()), found(rows.size()) {
+  explicit whole_column(const std::vector<row> &of)
+      : rows(of), statuses(of.size()), ends(of.size()), boxes(of.size()), found(of.size()) {
     const wkb_found first = *wkb::check(rows[0]);
     kind = static_cast<wkb_kind>(first.kind);
     dimension = static_cast<wkb_dim>(first.dimension);
