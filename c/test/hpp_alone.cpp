@@ -174,29 +174,23 @@ static_assert(std::ranges::forward_range<wkb::part> && std::forward_iterator<wkb
 // written, whichever levels have ends.
 void levels_without_ends() {
   const std::vector<std::uint64_t> one{1}, none{0};
-  const std::vector<double> words{1, 2, 1, 2, 1, 2, 1, 2, 1, 2, 1, 2};
+  const std::vector<double> one_two{1, 2};
+  const wkb::statuses bad{WKB_STATUS_BAD_LEVELS};
   const std::uint8_t validity = 0xfe;
-  const auto write = [&](wkb::levels levels, std::size_t count, wkb_kind kind, wkb_dim dimension = WKB_DIM_XY) {
-    levels.words = std::span(words).first(count);
+  const auto write = [](const wkb::levels &levels, wkb_kind kind, wkb_dim dimension) {
     return wkb::rows_from_coordinates(levels, kind, dimension, {WKB_ORDER_LITTLE, WKB_FORM_ISO, 0});
   };
-  const auto points = write({.words = {}, .validity = &validity}, 6, WKB_KIND_POINT);
-  expect(points.data == spelled(POINT_TEXT + POINT_TEXT), "points");
-  expect(points.ends == std::vector<std::uint64_t>{0, 21, 42} && points.statuses[0] == WKB_STATUS_NULL_ROW, "ends");
-  const auto multi = write({.words = {}, .row_ends = one}, 2, WKB_KIND_MULTI_POINT);
+  const auto multi = write({.words = one_two, .row_ends = one}, WKB_KIND_MULTI_POINT, WKB_DIM_XY);
   expect(multi.data == spelled("010400000001000000" + POINT_TEXT), "a multi point");
-  for (wkb_dim dimension = WKB_DIM_XY; dimension <= WKB_DIM_XYZM; dimension++)
-    for (std::size_t count = 1, width = wkb::width_of(dimension); count < words.size(); count++) {
-      if (count % width == 0) continue;
-      wkb::statuses bad(count / width + 1, WKB_STATUS_BAD_LEVELS);
-      bad[0] = WKB_STATUS_NULL_ROW;
-      const auto all = write({.words = {}, .validity = &validity}, count, WKB_KIND_POINT, dimension);
-      const auto lines = write({.words = {}, .ring_ends = one}, count, WKB_KIND_LINE_STRING, dimension);
-      const auto rows = write({.words = {}, .row_ends = none}, count, WKB_KIND_MULTI_POINT, dimension);
-      expect(all.statuses == bad && all.data.empty() && lines.data.empty() && rows.data.empty(), "words left over");
-      expect(lines.statuses == wkb::statuses{WKB_STATUS_BAD_LEVELS} && rows.statuses == lines.statuses, "statuses");
-    }
-  expect(write({}, 0, WKB_KIND_POINT).ends.empty(), "no rows of one's own");
+  for (wkb_dim dimension = WKB_DIM_XY; dimension <= WKB_DIM_XYZM; dimension++) {
+    const std::vector<double> words(dimension == WKB_DIM_XY ? 5 : 10);
+    wkb::statuses points(words.size() / wkb::width_of(dimension) + 1, WKB_STATUS_BAD_LEVELS);
+    points[0] = WKB_STATUS_NULL_ROW;
+    expect(write({.words = words, .validity = &validity}, WKB_KIND_POINT, dimension).statuses == points, "points");
+    expect(write({.words = words, .ring_ends = one}, WKB_KIND_LINE_STRING, dimension).statuses == bad, "a line");
+    expect(write({.words = words, .row_ends = none}, WKB_KIND_MULTI_POINT, dimension).statuses == bad, "no points");
+  }
+  expect(write({}, WKB_KIND_POINT, WKB_DIM_XY).ends.empty(), "no rows of one's own");
   expect(wkb::check_rows(wkb::column({}, std::span<const std::int32_t>())).empty(), "no rows");
 }
 
