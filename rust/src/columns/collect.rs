@@ -85,11 +85,10 @@ impl Column<'_> {
             })?;
             let found = check_member(bytes).map_err(|why| NotCollected::Refused(row, why))?;
             let (kind, member) = (whole.kind(), found.wkb_type);
-            if kind == GEOMETRY_COLLECTION || member.kind() + 3 == kind && member.dimension() == whole.dimension() {
-                Ok((bytes, found))
-            } else {
-                Err(NotCollected::Refused(row, Refused { cause: Cause::IncorrectType, part: 0, offset: 0 }))
-            }
+            let is_part = member.kind() + 3 == kind && member.dimension() == whole.dimension();
+            let why = Refused { cause: Cause::IncorrectType, part: 0, offset: 0 };
+            let taken = (kind == GEOMETRY_COLLECTION || is_part).then_some((bytes, found));
+            taken.ok_or(NotCollected::Refused(row, why))
         })
     }
 }

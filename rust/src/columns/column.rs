@@ -19,38 +19,32 @@ use core::ops::Range;
 /// be anything: a row with bad offsets is [`Status::BAD_OFFSETS`].
 #[derive(Clone, Copy, Debug)]
 #[must_use]
-pub struct Column<'a> {
-    data: &'a [u8],
-    offsets: &'a [u8],
-    offset_size: usize,
-    /// The bitmap, and the first row's bit. A row without a bit isn't null.
-    validity: (&'a [u8], usize),
-}
+pub struct Column<'a>(Raw<'a>);
 
 impl<'a> Column<'a> {
     /// A column with offsets of 32 bits in the machine's order, as the bytes of Arrow's buffer, which aren't copied.
     /// There is one offset more than there are rows. Numbers become such bytes by `to_ne_bytes`.
     pub fn binary(data: &'a [u8], offsets: &'a [u8]) -> Self {
-        Column { data, offsets, offset_size: 4, validity: (&[], 0) }
+        Column(Raw { bytes: data, offsets, offset_size: 4, validity: &[], validity_offset: 0 })
     }
 
     /// A column with offsets of 64 bits.
     pub fn large_binary(data: &'a [u8], offsets: &'a [u8]) -> Self {
-        Column { offset_size: 8, ..Column::binary(data, offsets) }
+        Column(Raw { offset_size: 8, ..Column::binary(data, offsets).0 })
     }
 
     /// The same column with a validity bitmap, least significant bit first, 0 for a null row. The first row's bit is
     /// `first`. None if there are fewer bits than rows.
     #[must_use]
     pub fn with_validity(self, bits: &'a [u8], first: usize) -> Option<Self> {
-        let needed = first.checked_add(self.len())?;
-        (needed <= bits.len().saturating_mul(8)).then_some(Column { validity: (bits, first), ..self })
+        let has_all = first.checked_add(self.len())? <= bits.len().saturating_mul(8);
+        has_all.then_some(Column(Raw { validity: bits, validity_offset: first, ..self.0 }))
     }
 
     /// How many rows there are.
     #[must_use]
     pub fn len(&self) -> usize {
-        (self.offsets.len() / self.offset_size).saturating_sub(1)
+        (self.0.offsets.len() / self.0.offset_size).saturating_sub(1)
     }
 
     /// Whether there is no row.
@@ -67,14 +61,13 @@ impl<'a> Column<'a> {
     /// If there are fewer rows.
     pub fn slice(&self, rows: Range<usize>) -> Column<'a> {
         assert!(rows.start <= rows.end && rows.end <= self.len(), "rows {rows:?} of {}", self.len());
-        let validity = (self.validity.0, self.validity.1 + rows.start);
+        let Raw { offsets, offset_size, validity_offset, .. } = self.0;
         // There may be no offset at all, where there is no row.
-        let offsets = self.offsets.get(self.offset_size * rows.start..self.offset_size * (rows.end + 1));
-        Column { offsets: offsets.unwrap_or_default(), validity, ..*self }
+        let offsets = offsets.get(offset_size * rows.start..offset_size * (rows.end + 1)).unwrap_or_default();
+        Column(Raw { offsets, validity_offset: validity_offset + rows.start, ..self.0 })
     }
 
-    /// The column as so many columns of about as many rows, one after another: threads can share them. A row that
-    /// overlaps one of another column isn't bad here, as with [`slice`](Column::slice).
+    /// The column as so many [slices](Column::slice) of about as many rows, one after another: threads can share them.
     ///
     /// ```
     /// use porchsorrel_wkb::columns::{Facts, Rows};
@@ -99,15 +92,9 @@ impl<'a> Column<'a> {
         (0..columns).map(move |column| whole.slice(begin(column)..begin(column + 1)))
     }
 
-    /// The column as the proved calls take it.
-    fn raw(&self) -> Raw<'a> {
-        let Column { data: bytes, offsets, offset_size, validity: (validity, validity_offset) } = *self;
-        Raw { bytes, offsets, offset_size, validity, validity_offset }
-    }
-
     /// The bytes of each row, or the status of a row without bytes: it is null, or has bad offsets.
     pub fn rows(&self) -> impl ExactSizeIterator<Item = Result<&'a [u8], Status>> {
-        let (column, mut reach) = (self.raw(), 0);
+        let (column, mut reach) = (self.0, 0);
         (0..self.len()).map(move |i| column.row(i, &mut reach).map_err(Status::of))
     }
 
@@ -119,14 +106,14 @@ impl<'a> Column<'a> {
     /// The status of each row: whether it is a geometry, as [`check`](crate::check::check) finds it.
     pub fn check(&self) -> Result<Vec<Status>, AllocError> {
         let mut statuses = try_filled(0, self.len())?;
-        wkb_raw_column_check(&self.raw(), &mut statuses);
+        wkb_raw_column_check(&self.0, &mut statuses);
         Ok(Status::all(statuses))
     }
 
     /// What [`bounds`](crate::check::bounds) finds of each row: the bounds of no coordinate where it has none.
     pub fn bounds(&self) -> Result<(Vec<Bounds>, Vec<Status>), AllocError> {
         let (mut boxes, mut statuses) = (try_filled(Bounds::empty(), self.len())?, try_filled(0, self.len())?);
-        wkb_raw_column_bounds(&self.raw(), &mut boxes, &mut statuses);
+        wkb_raw_column_bounds(&self.0, &mut boxes, &mut statuses);
         Ok((boxes, Status::all(statuses)))
     }
 
@@ -146,7 +133,7 @@ impl<'a> Column<'a> {
         let (mut data, mut at, mut reach) = (try_filled(0, room)?, 0, 0);
         let (mut ends, mut statuses) = (try_filled(0, self.len())?, try_filled(Status::OK, self.len())?);
         for (i, (end, status)) in ends.iter_mut().zip(&mut statuses).enumerate() {
-            match self.raw().row(i, &mut reach).map_err(Status::of).and_then(geometry) {
+            match self.0.row(i, &mut reach).map_err(Status::of).and_then(geometry) {
                 Ok((bytes, found)) => at += lay(bytes, &found, options(&found), &mut data[at..]),
                 Err(why) => *status = why,
             }
@@ -160,10 +147,10 @@ impl<'a> Column<'a> {
     /// doesn't have is a NaN.
     pub fn coordinates(&self, dimension: Dimension) -> Result<Coordinates, AllocError> {
         let (mut row_ends, mut statuses) = (try_filled(0, self.len())?, try_filled(0, self.len())?);
-        let (column, asked) = (self.raw(), dimension.thousands());
+        let asked = dimension.thousands();
         let mut lay = |mut out: LevelSlices<'_>| {
             let mut totals = Totals { coordinates: 0, rings: 0, singles: 0 };
-            wkb_raw_column_coordinates(&column, asked, &mut out, &mut row_ends, &mut totals, &mut statuses);
+            wkb_raw_column_coordinates(&self.0, asked, &mut out, &mut row_ends, &mut totals, &mut statuses);
             totals
         };
         // Without room the totals are counted alone.
@@ -209,7 +196,7 @@ impl Rows {
 
     /// The rows as a column.
     pub fn column(&self) -> Column<'_> {
-        Column { validity: (&self.validity, 0), ..Column::large_binary(&self.data, &self.offsets) }
+        Column(Raw { validity: &self.validity, ..Column::large_binary(&self.data, &self.offsets).0 })
     }
 }
 

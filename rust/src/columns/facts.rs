@@ -1,8 +1,7 @@
 // SPDX-License-Identifier: MIT OR Apache-2.0
 //! What occurs in the rows of a column.
-use super::column::{geometry, Column};
-use super::Status;
-use crate::check::{bounds, Bounds, Summary, WkbType};
+use super::{column::geometry, Column, Status};
+use crate::check::{bounds, Bounds, WkbType};
 use crate::rt::TryVec;
 use crate::AllocError;
 use alloc::vec::Vec;
@@ -29,8 +28,8 @@ pub struct Facts {
 }
 
 impl Facts {
-    /// Adds the facts of other rows, as of another part of a column that threads have shared. Where offsets decrease,
-    /// parts may accept rows that the whole column doesn't. After an error the facts are to be thrown away.
+    /// Adds the facts of other rows, as of another part of a column that threads have shared. After an error the facts
+    /// are to be thrown away.
     pub fn add(&mut self, other: &Facts) -> Result<(), AllocError> {
         self.rows += other.rows;
         self.accepted += other.accepted;
@@ -71,18 +70,6 @@ impl Facts {
         self.srids.sort_unstable();
         self.srids.dedup();
     }
-
-    fn add_row(&mut self, bytes: &[u8], found: &Summary) -> Result<(), AllocError> {
-        self.accepted += 1;
-        if let Ok(bounds) = bounds(bytes) {
-            self.bounds = self.bounds.union(bounds);
-        }
-        match found.srid {
-            Some(srid) => self.add_srid(srid)?,
-            None => self.without_srid += 1,
-        }
-        self.add_type(found.wkb_type, 1)
-    }
 }
 
 impl Column<'_> {
@@ -91,7 +78,15 @@ impl Column<'_> {
         let mut facts = Facts { rows: self.len(), ..Facts::default() };
         for row in self.rows() {
             match row.and_then(geometry) {
-                Ok((bytes, found)) => facts.add_row(bytes, &found)?,
+                Ok((bytes, found)) => {
+                    facts.accepted += 1;
+                    facts.bounds = facts.bounds.union(bounds(bytes).unwrap_or_default());
+                    facts.add_type(found.wkb_type, 1)?;
+                    match found.srid {
+                        Some(srid) => facts.add_srid(srid)?,
+                        None => facts.without_srid += 1,
+                    }
+                }
                 Err(Status::NULL_ROW) => facts.null_rows += 1,
                 Err(status) => facts.refused += usize::from(status.is_refusal()),
             }

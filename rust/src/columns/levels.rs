@@ -109,8 +109,16 @@ impl Levels<'_> {
         // Not by `extend`, for which rustc 1.63 takes a number through the x87 of i686, where it has no SSE.
         let mut words = try_filled(0, self.words.len())?;
         words.iter_mut().zip(self.words).for_each(|(word, it)| *word = it.to_bits());
-        let levels = self.proved(&words, width);
-        let rows = levels.row_ends.len();
+        // Without ends, what is left of a coordinate is an item.
+        let ends_of = |ends, items: usize| match ends {
+            Some(ends) => Ends::At { start: 0, ends },
+            None => Ends::Each { from: 0, to: items as u64 },
+        };
+        let ring_ends = ends_of(self.ring_ends, (words.len() + width - 1) / width);
+        let single_ends = ends_of(self.single_ends, ring_ends.len());
+        let row_ends = ends_of(self.row_ends, single_ends.len());
+        let rows = row_ends.len();
+        let levels = proved::Levels { words: &words, ring_ends, single_ends, row_ends };
         let (mut ends, mut statuses) = (try_filled(0, rows)?, try_filled(Status::BAD_LEVELS, rows)?);
         if words.len() % width != 0 {
             return Ok(Encodings { data: Vec::new(), ends, statuses });
@@ -129,17 +137,5 @@ impl Levels<'_> {
             at = *end as usize;
         }
         Ok(Encodings { data, ends, statuses })
-    }
-
-    /// The levels of these words as the proved calls take them. Without ends, what is left of a coordinate is an item.
-    fn proved<'l>(&'l self, words: &'l [u64], width: usize) -> proved::Levels<'l> {
-        let ends = |ends: Option<&'l [u64]>, to: usize| match ends {
-            Some(ends) => Ends::At { start: 0, ends },
-            None => Ends::Each { from: 0, to: to as u64 },
-        };
-        let ring_ends = ends(self.ring_ends, (words.len() + width - 1) / width);
-        let single_ends = ends(self.single_ends, ring_ends.len());
-        let row_ends = ends(self.row_ends, single_ends.len());
-        proved::Levels { words, ring_ends, single_ends, row_ends }
     }
 }
