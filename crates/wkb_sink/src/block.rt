@@ -28,6 +28,7 @@ pub const MAX_COORDINATE_SIZE: usize = 4 * WORD_SIZE;
 pub const MIN_BLOCK: usize = MAX_HEADER_SIZE + 2 * COUNT_SIZE + 4 * MAX_COORDINATE_SIZE;
 
 /// The dimension that is written; Xy where there is none.
+#[inline]
 pub fn dimension_to_write(dim: Dimensions) -> Dimension
     ensures { result ≡ written_dimension dim }
 {
@@ -135,6 +136,7 @@ pub fn lay_coordinates<L: LineStringTrait>(
 }
 
 /// Lays a count, or an SRID.
+#[inline]
 pub fn lay_count(bytes: &mut [u8], at: usize, order: Endianness, n: u32) -> usize
     requires { at + COUNT_SIZE ≤ length bytes.old }
     ensures end { result ≡ at + COUNT_SIZE }
