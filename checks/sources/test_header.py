@@ -4,17 +4,15 @@ import subprocess
 import tempfile
 
 from checks import judge
-from pages import text_of
+from pages import ROOT
 
-HEADER = "c/wkb.h"
 SETTINGS = """\
-INPUT = {folder}/wkb.h
+INPUT = c/wkb.h
 OUTPUT_DIRECTORY = {folder}
 EXTRACT_STATIC = YES
 GENERATE_LATEX = NO
 HAVE_DOT = NO
 JAVADOC_AUTOBRIEF = YES
-OPTIMIZE_OUTPUT_FOR_C = YES
 QUIET = YES
 WARN_NO_PARAMDOC = YES
 """
@@ -29,10 +27,6 @@ class Header(judge.Judge):
 
     def wrong(self):
         with tempfile.TemporaryDirectory() as folder:
-            with open(f"{folder}/wkb.h", "w", encoding="utf-8") as file:
-                file.write(text_of(HEADER))
-            settings = SETTINGS.format(folder=folder)
-            said = subprocess.run(["doxygen", "-"], input=settings, capture_output=True, text=True, check=True).stderr
-        for warning in re.split(r"\n(?=/)", said.strip()):
-            if warning and "Member WKB_VERSION" not in warning:
-                yield re.sub(r"^\S*/wkb\.h:\d+: ", f"{HEADER}: ", warning)
+            how = {"input": SETTINGS.format(folder=folder), "capture_output": True, "text": True, "check": True}
+            said = subprocess.run(["doxygen", "-"], cwd=ROOT, **how).stderr
+        yield from (it for it in re.split(r"\n(?=/)", said.strip()) if it and "Member WKB_VERSION" not in it)
