@@ -44,8 +44,6 @@ SKETCHED = ["crates/wkb/src/check.rt", "crates/wkb/src/lib.rt"]
 RUNS = re.compile(r"\(cd crates/wkb_hex && rt try -- (\S+) < \.\./\.\./(\S+)\)|\./wkb_hex (\S+) < (\S+)$")
 # With the kit these commands build and test everything, and README names them.
 KIT = "./wkb_hex be < examples/point.hex", "rt ci"
-# What runs the line that a page has for another processor.
-CROSS = "checks/systems/cross_test"
 
 
 def make_files(cls):
@@ -144,13 +142,6 @@ def flat(text):
     return re.sub(r"(?m)^ +", "", text)
 
 
-def lost_cross(page):
-    """The commands for another processor that its test doesn't have."""
-    for number, command, _ in commands(page):
-        if re.match("make -C c check CC=aarch64", command) and command not in text_of(CROSS):
-            yield f"{page}:{number}: {CROSS} runs another command"
-
-
 def lost_runs(page):
     """The commands without `$ ` that run the program, and print what the page doesn't have."""
     for number, command, expected in commands(page):
@@ -208,7 +199,7 @@ class Shown(judge.Judge):
     def wrong(self):
         yield from differing_commands(self.folder, lambda it: "wkb_hex" not in it and "wkb_dump" not in it)
         for page in PAGES:
-            yield from (*lost_pieces(page), *lost_cross(page), *lost_words(page))
+            yield from (*lost_pieces(page), *lost_words(page))
         yield from (f"README.md: no {it}" for it in {*KIT} - {it for _, it, _ in commands("README.md")})
         yield from lost_examples()
 
