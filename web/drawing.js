@@ -13,13 +13,8 @@ function svg(name, attributes, ...children) {
   return it;
 }
 
-/** A scale from numbers to places, with its ends. Halves can't overflow. */
-function scaleOf({ middle, half }, [from, to]) {
-  const at = (value) => (from + to) / 2 + (to - from) / 2 * ((value - middle) / half);
-  return { at, least: Math.max(middle - half, -1.7e308), most: Math.min(middle + half, 1.7e308) };
-}
-
-/** The scales of x and y: the same number of units to a pixel on both, unless one is far longer. */
+/** The scales of x and y, from numbers to places, with their ends: the same number of units to a pixel on both, unless
+ * one is far longer. Halves can't overflow. */
 function scalesOf(places, size) {
   const ends = [[LEFT + INSET, size.width - EDGE - INSET], [size.height - BOTTOM - INSET, EDGE + INSET]];
   const ranges = ends.map(([from, to], axis) => {
@@ -31,7 +26,9 @@ function scalesOf(places, size) {
   return ranges.map(({ middle, unit, length }, axis) => {
     const own = unit * length || Math.max(1, Math.abs(middle) * 1e-6);
     const half = most < 50 * unit ? Math.min(most * length, Number.MAX_VALUE) : own;
-    return scaleOf({ middle, half }, ends[axis]);
+    const [from, to] = ends[axis];
+    const at = (value) => (from + to) / 2 + (to - from) / 2 * ((value - middle) / half);
+    return { at, least: Math.max(middle - half, -1.7e308), most: Math.min(middle + half, 1.7e308) };
   });
 }
 

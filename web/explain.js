@@ -16,8 +16,9 @@ export const counted = (count, noun) => `${said(count)} ${noun}${count === 1 ? '
 /** A number in the fewest digits, as JavaScript has it, but with the sign of zero. */
 export const spelled = (it) => Object.is(it, -0) ? '-0' : String(it).replace('Infinity', 'infinity');
 /** Bytes from a place on, in spans, and what they mean; or how many of what are left out. */
-const row = (at, spans, text, isBad = false) => ({ at, spans, text, isBad });
+const row = (at, spans, text, isBad) => ({ at, spans, text, isBad });
 export const gap = (count, noun) => ({ spans: [], text: `.. ${counted(count, noun)}`, isGap: true });
+const wordOf = (axis, it) => `${axis}\u00a0${spelled(it)}`;
 const wordsOf = (axes) => [...axes].map((name) => ({ length: 8, name }));
 /** Whether a part has coordinates of its own. */
 export const isSimple = (kind) => nounOf(kind) === 'coordinate';
@@ -82,7 +83,7 @@ class Fields {
     [this.at, this.part, this.isLittle] = [at, part, part.byteOrder === 'little'];
   }
 
-  /** Goes past a field of an unsigned number, which it returns, and says what it means, and whether it is bad. */
+  /** Goes past the field of a number, which it returns, and says what it means, and whether it is bad. */
   take(length, name, say) {
     const there = Math.min(length, this.view.byteLength - this.at);
     this.goesOn = there === length;
@@ -90,7 +91,7 @@ class Fields {
       const text = there === 0 ? 'the input ends here' : `cut off: ${there} of ${length} bytes`;
       return this.add([{ length: there, name }], text, true);
     }
-    const value = length === 1 ? this.view.getUint8(this.at) : this.view.getUint32(this.at, this.isLittle);
+    const value = this.view[{ 1: 'getUint8', 4: 'getUint32', 8: 'getFloat64' }[length]](this.at, this.isLittle);
     this.add([{ length, name }], ...say(value));
     return value;
   }
@@ -110,14 +111,14 @@ class Fields {
 
   header() {
     const order = this.take(1, 'order', (it) =>
-      it > 1 ? [`no byte order: ${it}, which is neither 0 nor 1`, true] : [`${ORDERS[it]} endian`, false]);
+      it > 1 ? [`no byte order: ${it}, which is neither 0 nor 1`, true] : [`${ORDERS[it]} endian`]);
     [this.isLittle, this.goesOn] = [order === 1, order < 2];
     if (!this.goesOn) return {};
     const isCulprit = this.part.error && !this.part.error.reason.startsWith('SHORT');
     const code = this.take(4, 'code', (it) => [meaningOf(it).text, isCulprit || !meaningOf(it).kind]);
     const { kind, dimension, hasSrid } = meaningOf(code);
     this.goesOn = kind !== undefined;
-    if (this.goesOn && hasSrid) this.take(4, 'srid', (it) => [`SRID ${it}`, false]);
+    if (this.goesOn && hasSrid) this.take(4, 'srid', (it) => [`SRID ${it}`]);
     return { kind, dimension, byteOrder: ORDERS[order] };
   }
 
@@ -128,12 +129,12 @@ class Fields {
     return this.take(4, 'count', (it) => [counted(it, nounOf(kind)) + claim, Boolean(needed)]);
   }
 
-  /** Coordinates: so many from the first one on, and the last; or as many as there are. */
+  /** Coordinates: so many from the first one on, and the last; or as many as there are, and the words of one cut off. */
   coordinates({ count, dimension }, most) {
     const size = 8 * dimension.length;
     const whole = Math.min(count, Math.floor((this.view.byteLength - this.at) / size));
     const left = Math.max(0, whole - most);
-    const word = (axis, i) => `${axis}\u00a0${spelled(this.view.getFloat64(this.at + 8 * i, this.isLittle))}`;
+    const word = (axis, i) => wordOf(axis, this.view.getFloat64(this.at + 8 * i, this.isLittle));
     for (let i = 0; i < whole - left; i++) {
       if (left > 0 && i === most - 1) {
         this.rows.push(gap(left, 'more coordinate'));
@@ -141,15 +142,8 @@ class Fields {
       }
       this.add(wordsOf(dimension), [...dimension].map(word).join('  '));
     }
-    if (whole < count) this.cutCoordinate(dimension, word);
-  }
-
-  cutCoordinate(axes, word) {
-    for (const name of axes) {
-      const left = this.view.byteLength - this.at;
-      if (left < 8) return this.take(8, name);
-      this.add([{ length: 8, name }], word(name, 0));
-    }
+    const isCut = whole < count;
+    for (const axis of isCut ? dimension : '') if (this.goesOn) this.take(8, axis, (it) => [wordOf(axis, it)]);
   }
 }
 

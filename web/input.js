@@ -29,7 +29,7 @@ export function columnsOf(text) {
   const lines = text.split('\n').filter((it) => it.trim() !== '');
   const mark = /[,;\t]/.exec(lines[0] ?? '')?.[0];
   if (!mark || lines.length < 2) return [];
-  const cell = new RegExp(`(?:"((?:[^"]|"")*)"|([^${mark}]*))(?:${mark}|\r?$)`, 'gy');
+  const cell = new RegExp(`(?:"([^"]*(?:""[^"]*)*)"|([^${mark}]*))(?:${mark}|\r?$)`, 'gy');
   const cellsOf = (line) => Array.from(line.matchAll(cell), (it) => it[1]?.replaceAll('""', '"') ?? it[2]).slice(0, -1);
   const rows = lines.map(cellsOf);
   const hasHead = !rows[0].some(isGeometry);

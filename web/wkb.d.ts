@@ -1,7 +1,6 @@
 // SPDX-License-Identifier: MIT OR Apache-2.0
 export type Bytes = ArrayBufferView | ArrayBufferLike;
-export type Kind = 'Point' | 'LineString' | 'Polygon' | 'MultiPoint' | 'MultiLineString' | 'MultiPolygon'
-  | 'GeometryCollection';
+export type Kind = Geometry['type'];
 export type Dimension = 'xy' | 'xyz' | 'xym' | 'xyzm';
 export type ByteOrder = 'big' | 'little';
 export type Reason = 'SHORT_HEADER' | 'INVALID_BYTE_ORDER' | 'CODE_OUT_OF_RANGE' | 'INCORRECT_TYPE'

@@ -56,6 +56,7 @@ test('texts', () => {
   const table = `id;name;geom\n1;"a; ""b""";${POINT}\r\n2;;"${POINT}"\n`;
   assert.deepEqual(columnsOf(table), [{ name: 'id', cells: ['1', '2'] }, { name: 'name', cells: ['a; "b"', ''] },
     { name: 'geom', cells: [`${POINT}\r`, POINT] }]);
+  assert.equal(columnsOf(`a,b\n1,"${'0'.repeat(1.2e7)}"`)[1].cells[0].length, 1.2e7);
   assert.deepEqual(columnsOf(`${POINT},1\n${POINT}`).map((it) => it.name), ['column 1', 'column 2']);
   assert.deepEqual([columnsOf(POINT), columnsOf(`${POINT}\n${POINT}`), columnsOf('')], [[], [], []]);
   const [utf8, utf16] = ['utf8', 'utf16le'].map((it) => Uint8Array.from(Buffer.from(`\ufeff${POINT}`, it)));
