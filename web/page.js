@@ -27,6 +27,12 @@ function say(text, isBad) {
   $('verdict').classList.toggle('bad', isBad);
 }
 
+/** Says why there is nothing to show. */
+function fail(error) {
+  $('found').hidden = $('link').hidden = true;
+  say(problemOf(error), true);
+}
+
 /** Takes inputs, of which it shows the first, and says how many of them are rejected. */
 function take(inputs, source = '') {
   const checked = inputs.length > 1 ? inputs.slice(0, MOST.checked) : [];
@@ -43,12 +49,14 @@ function take(inputs, source = '') {
 }
 
 /** Takes the inputs in a text; of CSV those in the column whose first cells have most geometries. */
-function takeText(text, source) {
-  $('example').value = '';
+function takeText(text, source, field = text) {
+  if ($('text').value !== field) $('text').value = field;
+  $('example').value = text;
+  if ($('example').selectedIndex < 0) $('example').value = '';
   state.columns = columnsOf(text);
   $('columns').hidden = state.columns.length === 0;
   if (state.columns.length === 0) return take(inputsOf(text), source);
-  const counts = state.columns.map((it) => it.cells.slice(0, 20).filter(isGeometry).length);
+  const counts = state.columns.map(({ cells }) => cells.slice(0, 20).filter(isGeometry).length);
   $('column').replaceChildren(...state.columns.map(({ name }, i) => new Option(name, i)));
   $('column').value = counts.indexOf(Math.max(...counts));
   return takeColumn(source);
@@ -56,42 +64,31 @@ function takeText(text, source) {
 
 const takeColumn = (source) => take(state.columns[$('column').value].cells, source);
 
-function takeExample() {
-  const { value } = $('example');
-  $('text').value = value;
-  takeText(value);
-  $('example').value = value;
-}
-
 /** Takes a long text that is pasted, which would be slow in the field. */
 function takePasted(event) {
   const text = event.clipboardData.getData('text');
   if (text.length <= MOST.typed) return;
   event.preventDefault();
-  $('text').value = '';
-  takeText(text, `pasted: ${counted(text.length, 'character')}`);
+  takeText(text, `pasted: ${counted(text.length, 'character')}`, '');
 }
 
 async function takeFile(file) {
-  $('text').value = $('example').value = '';
+  takeText('', file.name);
   try {
     const bytes = new Uint8Array(await file.arrayBuffer());
-    const text = textOf(bytes);
-    const source = `${file.name}, ${counted(bytes.length, 'byte')}`;
+    const [text, source] = [textOf(bytes), `${file.name}, ${counted(bytes.length, 'byte')}`];
     if (text === null) take([bytes], source);
-    else takeText(text, source);
+    else takeText(text, source, '');
   } catch (error) {
-    take([], file.name);
-    say(problemOf(error), true);
+    fail(error);
   }
 }
 
-/** Takes the bytes that a link carries behind its mark, which no server gets. */
+/** Takes the bytes that a link carries behind its mark, which no server gets. What is no escape is taken as it stands. */
 function takeLink() {
   const hex = /^#hex=(.*)/.exec(location.hash)?.[1];
   if (hex === undefined) return false;
-  $('text').value = decodeURIComponent(hex);
-  takeText($('text').value, 'from the link');
+  takeText(hex.replace(/%[0-9a-f]{2}/gi, (it) => String.fromCharCode(parseInt(it.slice(1), 16))), 'from the link');
   return true;
 }
 
@@ -100,7 +97,8 @@ function onDrag(event) {
   document.body.classList.toggle('is-over', event.type === 'dragover');
   if (!event.dataTransfer.types.includes('Files')) return;
   event.preventDefault();
-  if (event.type === 'drop') takeFile(event.dataTransfer.files[0]);
+  const [file] = event.dataTransfer.files;
+  if (event.type === 'drop' && file) takeFile(file);
 }
 
 /** Shows one of the inputs. */
@@ -118,7 +116,7 @@ function show(index) {
     state.front = readFront(state.bytes);
     showBytes();
   } catch (error) {
-    say(problemOf(error), true);
+    fail(error);
   }
 }
 
@@ -260,13 +258,9 @@ function compare() {
 
 function showForms(own, isLong) {
   const hexIn = (options) => () => hexOf(write(own, options));
-  $('encodings').replaceChildren(
-    formOf('Canonical key', isLong, hexIn({})),
-    formOf('Big endian', isLong, hexIn({ byteOrder: 'big' })),
-    formOf('EWKB', isLong, hexIn({ form: 'ewkb' })),
-    formOf('EWKB, big endian', isLong, hexIn({ form: 'ewkb', byteOrder: 'big' })),
-    formOf('GeoJSON', isLong, () => JSON.stringify(toGeoJSON(own))),
-  );
+  const forms = { 'Canonical key': hexIn({}), 'Big endian': hexIn({ byteOrder: 'big' }), EWKB: hexIn({ form: 'ewkb' }),
+    'EWKB, big endian': hexIn({ form: 'ewkb', byteOrder: 'big' }), GeoJSON: () => JSON.stringify(toGeoJSON(own)) };
+  $('encodings').replaceChildren(...Object.entries(forms).map(([name, textOf]) => formOf(name, isLong, textOf)));
 }
 
 /** A form of the geometry, which is made when it is copied if it is long. */
@@ -275,19 +269,18 @@ function formOf(name, isLong, textOf) {
   const code = make('code', '', text.length > MOST.hex ? `${text.slice(0, MOST.hex)} ..` : text);
   const button = Object.assign(make('button', '', 'Copy'), { ariaLabel: `Copy: ${name}` });
   button.onclick = async () => {
-    const isCopied = await navigator.clipboard.writeText(textOf()).then(() => true, () => false);
+    const isCopied = await navigator.clipboard?.writeText(textOf()).then(() => true, () => false);
     button.textContent = isCopied ? 'Copied' : 'Not allowed';
   };
   return make('div', 'form', make('span', '', name), code, button);
 }
 
-$('example').onchange = takeExample;
-$('text').oninput = () => takeText($('text').value);
+$('text').oninput = $('example').onchange = ({ target }) => takeText(target.value);
 $('text').onpaste = takePasted;
 $('file').onchange = ({ target }) => target.files[0] && takeFile(target.files[0]);
 $('column').onchange = () => takeColumn($('source').textContent);
 $('other').oninput = compare;
-$('row').onchange = ({ target }) => show(target.value - 1);
+$('row').onchange = ({ target }) => show(Math.floor(target.value) - 1);
 $('next-bad').onclick = () => show(state.bad.find((i) => i >= $('row').value) ?? state.bad[0]);
 $('more').onclick = () => {
   state.rows *= 4;
@@ -298,7 +291,10 @@ $('bytes').onclick = $('drawing').onclick = ({ currentTarget, target }) => {
   const index = target.closest('[data-part]')?.dataset.part;
   if (index) choose(index, currentTarget.id === 'drawing');
 };
+// An input that fails elsewhere isn't passed over in silence.
+window.onerror = (text, file, line, column, error) => fail(error);
+window.onunhandledrejection = ({ reason }) => fail(reason);
 document.ondragover = document.ondragleave = document.ondrop = onDrag;
 // The page's own link is to what it shows, maybe one of many inputs.
 window.onhashchange = () => location.hash !== $('link').hash && takeLink();
-if (!takeLink()) takeExample();
+if (!takeLink()) takeText($('example').value);

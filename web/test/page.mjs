@@ -59,6 +59,13 @@ async function shown(text) {
   return { ...await read(), time };
 }
 
+/** Gives a field a value, as a user does. */
+const fill = (id, value, event) => run((id, value, event) => {
+  const field = document.getElementById(id);
+  field.value = value;
+  field.dispatchEvent(new Event(event));
+}, id, value, event);
+
 /** Compares what is shown: by expressions, or as it is. */
 function expect(found, expected) {
   for (const [name, it] of Object.entries(expected)) {
@@ -147,8 +154,12 @@ test('a part that is chosen is marked where it is shown', async () => {
 });
 
 test('a column of CSV', async () => {
-  expect(await shown(`id,geom\n1,${POINT}\n2,${POINT.slice(2)}`), { verdict: /^Point/, count: '2' });
+  expect(await shown(`id,geom\n1,${POINT}\n2,g`), { verdict: /^Point/, count: '2' });
   assert.equal(await run(() => document.getElementById('column').selectedOptions[0].text), 'geom');
+  await fill('row', '2.5', 'change');
+  expect(await read(), { verdict: /^No bytes: neither/, row: '2' });
+  await fill('column', '0', 'change');
+  expect(await read(), { verdict: 'No bytes: an odd number of digits of hex: 1' });
 });
 
 test('another input', async () => {
@@ -161,11 +172,7 @@ test('another input', async () => {
     [POINT.slice(0, 40), 'One is rejected. 1 byte of 21 and 20 differs, the first at 20.', 1],
     ['xy', 'No bytes: neither hex nor base64: hex has no "x", the digit 1', 0], ['', '', 0]];
   for (const [text, compared, differing] of others) {
-    await run((text) => {
-      const other = document.getElementById('other');
-      other.value = text;
-      other.dispatchEvent(new Event('input'));
-    }, text);
+    await fill('other', text, 'input');
     expect(await read(), { compared, differing });
   }
 });
@@ -180,10 +187,13 @@ test('a link', async () => {
   await go('');
   assert.equal(await run(() => location.hash), `#hex=${POINT}`);
   expect(await read(), { count: '2' });
-  await go(`#hex=${POINT.slice(0, 20)}`);
-  expect(await read(), { verdict: /^Rejected: the input ends inside a point/ });
-  await call('POST', '/refresh', {});
-  expect(await read(), { verdict: /^Rejected: the input ends inside a point/, example: '' });
+  for (const [hex, verdict] of [[`%30${POINT.slice(1, 20)}`, /^Rejected: the input ends inside a point/],
+    [`${POINT}%zz`, 'No bytes: neither hex nor base64: hex has no "%", the digit 43']]) {
+    await go(`#hex=${hex}`);
+    expect(await read(), { verdict });
+    await call('POST', '/refresh', {});
+    expect(await read(), { verdict, example: '' });
+  }
 });
 
 const LONG = {
@@ -219,7 +229,7 @@ test('a file of 5 MB', async () => {
     dataTransfer.items.add(new File([bytes], '<i>name</i>.wkb'));
     document.dispatchEvent(new DragEvent('drop', { dataTransfer }));
     const source = document.getElementById('source');
-    while (!source.textContent.includes('name')) await new Promise((resolve) => { setTimeout(resolve, 50); });
+    while (!source.textContent.includes('byte')) await new Promise((resolve) => { setTimeout(resolve, 50); });
   });
   expect(await read(), { verdict: /5,242,889 bytes/, drawn: /^A sample: .* of 327,680 coordinates/,
     source: '<i>name</i>.wkb, 5,242,889 bytes' });
@@ -229,4 +239,12 @@ test('nothing is loaded, logged or made HTML', async () => {
   assert.deepEqual(await call('POST', '/se/log', { type: 'browser' }), []);
   assert.deepEqual(await run(() => performance.getEntriesByType('resource')), []);
   assert.deepEqual(await run(() => [...document.querySelectorAll('img, i')]), []);
+});
+
+test('a file that cannot be read', async () => {
+  await run(() => {
+    const file = { name: 'a.wkb', arrayBuffer: () => Promise.reject(new Error('it is gone')) };
+    document.getElementById('file').onchange({ target: { files: [file] } });
+  });
+  expect(await read(), { verdict: 'No bytes: it is gone', source: 'a.wkb', isHidden: true });
 });
