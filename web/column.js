@@ -1,6 +1,6 @@
 // SPDX-License-Identifier: MIT OR Apache-2.0
 // Columns of geometries, as Arrow has them: each call answers for all rows, and no row stops the others.
-import { DIMENSIONS, KINDS, asBytes, copyOf, numbered, put, rangesOf, result, run } from './desk.js';
+import { DIMENSIONS, KINDS, asBytes, copyOf, factsThere, numbered, put, rangesOf, result, run } from './desk.js';
 
 /** The bits of rows, least significant first: 1 for those that a function says. */
 function bitsOf(rows, isSet) {
@@ -78,14 +78,14 @@ export class Column {
 
   facts() {
     this.#run('wkb_column_facts');
+    const [rows, accepted, nullRows, refused, withoutSrid, count] = factsThere;
     const it = result('numbers');
-    const [rows, accepted, nullRows, refused, withoutSrid, count] = it;
     const types = Array.from({ length: count }, (_, i) => {
-      const [kind, dimension, of] = it.subarray(18 + 3 * i);
+      const [kind, dimension, of] = it.subarray(3 * i);
       return { kind: KINDS[kind], dimension: DIMENSIONS[dimension], rows: of };
     });
-    const srids = Array.from(it.subarray(18 + 3 * count));
-    return { rows, accepted, nullRows, refused, types, bounds: rangesOf(it, 6), srids, withoutSrid };
+    const srids = Array.from(it.subarray(3 * count));
+    return { rows, accepted, nullRows, refused, types, bounds: rangesOf(factsThere, 6), srids, withoutSrid };
   }
 
   coordinates(dimension = 'xy') {

@@ -3,8 +3,8 @@
 import code from './code.js';
 
 let module, calls, desk, bytesThere;
-/** A view of WebAssembly's memory. */
-export let viewThere;
+/** A view of WebAssembly's memory, and what the last call found of one input, in that memory. */
+export let viewThere, factsThere;
 
 /** The kinds by their numbers, and the ordinates by those of dimensions. */
 export const KINDS = ['Ring', 'Point', 'LineString', 'Polygon', 'MultiPoint', 'MultiLineString', 'MultiPolygon',
@@ -21,8 +21,8 @@ export const STATUSES = { 0: 'OK', 16: 'NULL_ROW', 17: 'BAD_OFFSETS', 32: 'SHORT
 const NO_MEMORY = 'out of memory';
 const REFUSALS = { 1: NO_MEMORY, 3: 'there are fewer validity bits than rows' };
 /** The results by their numbers in wasm.rs, and the arrays that they are. */
-const RESULTS = { numbers: [0, Float64Array], bytes: [1, Uint8Array], statuses: [2, Uint8Array], why: [3, Float64Array],
-  rows: [4, Int32Array], singles: [5, Int32Array], rings: [6, Int32Array] };
+const RESULTS = { facts: [0, Float64Array], numbers: [1, Float64Array], bytes: [2, Uint8Array],
+  statuses: [3, Uint8Array], rows: [4, Int32Array], singles: [5, Int32Array], rings: [6, Int32Array] };
 
 const codeBytes = () => Uint8Array.from(atob(code), (it) => it.charCodeAt(0));
 
@@ -43,8 +43,8 @@ function ask(name, ...values) {
     if (!calls) settle(new WebAssembly.Instance(module ??= new WebAssembly.Module(codeBytes())));
     const answer = calls[name](desk, ...values);
     if (!bytesThere?.length) {
-      bytesThere = new Uint8Array(calls.memory.buffer);
-      viewThere = new DataView(calls.memory.buffer);
+      [bytesThere, viewThere] = [new Uint8Array(calls.memory.buffer), new DataView(calls.memory.buffer)];
+      factsThere = result('facts');
     }
     return answer;
   } catch (error) {
@@ -87,13 +87,13 @@ export const copyOf = (name) => result(name).slice();
 
 /** A copy of its bytes: without a view of them, a point is written in three quarters of the time. */
 export function copyOfBytes() {
-  const at = calls.wkb_place(desk, 1) >>> 0;
-  return bytesThere.slice(at, at + (calls.wkb_size(desk, 1) >>> 0));
+  const at = calls.wkb_place(desk, 2) >>> 0;
+  return bytesThere.slice(at, at + (calls.wkb_size(desk, 2) >>> 0));
 }
 
 function failure(status) {
   if (status in REFUSALS) return new RangeError(REFUSALS[status]);
-  const [part, offset, ...more] = result('why');
+  const [part, offset, ...more] = factsThere;
   const [needed, has, code] = more.map((it) => it < 0 ? null : it);
   const reason = STATUSES[status] ?? 'NO_HEADER';
   return new WkbError(new TextDecoder().decode(result('bytes')), { reason, part, offset, code, needed, has });
@@ -111,11 +111,11 @@ export function run(name, ...values) {
   if (error) throw error;
 }
 
-/** Makes a call over an input, and returns its numbers. */
+/** Makes a call over an input, and returns what it found. */
 export function over(input, name, ...values) {
   put(input);
   run(name, ...values);
-  return result('numbers');
+  return factsThere;
 }
 
 /** The numbers of the options, as wasm.rs takes them. */

@@ -12,7 +12,7 @@ use porchsorrel_wkb::check::{bounds, check, Bounds, Cause, Refused, WkbType};
 use porchsorrel_wkb::columns::{Column, Status};
 use porchsorrel_wkb::error::General;
 use porchsorrel_wkb::geopackage::read_header;
-use porchsorrel_wkb::parts::{parts, parts_before, Part};
+use porchsorrel_wkb::parts::{parts, parts_before};
 use porchsorrel_wkb::reader::Dimension;
 use porchsorrel_wkb::writer::{Form, WriteOptions};
 use porchsorrel_wkb::{AllocError, Endianness};
@@ -45,26 +45,38 @@ fn header(of: Option<WkbType>, dimension: Dimension, order: Endianness, srid: Op
     [kind.into(), (dimension as u32).into(), order.byte().into(), srid.map_or(NONE, f64::from)]
 }
 
-/// What the last call found.
+/// The least and the greatest number of each axis, and how many there are.
+fn ranges(it: &Bounds) -> impl Iterator<Item = f64> {
+    [it.x, it.y, it.z, it.m].into_iter().flat_map(|it| [it.min(), it.max(), it.count as f64])
+}
+
+/// What the last call found: facts, which are few numbers and stay where they are, and what grows.
 #[derive(Default)]
 struct Results {
+    facts: [f64; 18],
     numbers: Vec<f64>,
     bytes: Vec<u8>,
     statuses: Vec<Status>,
-    fields: [f64; 5],
     offsets: [Vec<i32>; 3],
 }
 
 impl Results {
-    /// The place and the number of items: of the numbers, the bytes, the statuses, a failure's, or a level's offsets.
+    /// The place and the number of items: of the facts, the numbers, the bytes, the statuses, or a level's offsets.
     fn at(&self, which: usize) -> (*const u8, usize) {
-        match which {
-            0 => (self.numbers.as_ptr().cast(), self.numbers.len()),
-            1 => (self.bytes.as_ptr(), self.bytes.len()),
-            2 => (self.statuses.as_ptr().cast(), self.statuses.len()),
-            3 => (self.fields.as_ptr().cast(), self.fields.len()),
-            _ => (self.offsets[which - 4].as_ptr().cast(), self.offsets[which - 4].len()),
+        fn place<T>(items: &[T]) -> (*const u8, usize) {
+            (items.as_ptr().cast(), items.len())
         }
+        match which {
+            0 => place(&self.facts),
+            1 => place(&self.numbers),
+            2 => place(&self.bytes),
+            3 => place(&self.statuses),
+            _ => place(&self.offsets[which - 4]),
+        }
+    }
+
+    fn tell(&mut self, facts: impl IntoIterator<Item = f64>) {
+        self.facts.iter_mut().zip(facts).for_each(|(to, it)| *to = it);
     }
 
     fn lay(&mut self, numbers: &[f64]) -> Result<(), Failure> {
@@ -73,28 +85,15 @@ impl Results {
         Ok(())
     }
 
-    fn lay_part(&mut self, it: &Part) -> Result<(), Failure> {
-        self.lay(&header(it.wkb_type, it.dimension, it.order, it.srid))?;
-        self.lay(&[it.begin, it.end, it.offset, it.count, it.next].map(|it| it as f64))
-    }
-
-    fn lay_bounds(&mut self, it: &Bounds) -> Result<(), Failure> {
-        [it.x, it.y, it.z, it.m].iter().try_for_each(|it| self.lay(&[it.min(), it.max(), it.count as f64]))
-    }
-
-    /// Keeps the ends of a level as offsets: a 0 comes first.
+    /// Keeps the ends of a level, which don't decrease, as offsets: a 0 comes first.
     fn keep_offsets(&mut self, level: usize, ends: &[u64]) -> Result<(), Failure> {
         let offsets = &mut self.offsets[level];
+        i32::try_from(ends.last().copied().unwrap_or(0)).map_err(|_| NO_MEMORY)?;
         offsets.clear();
         offsets.try_reserve(ends.len() + 1).map_err(|_| NO_MEMORY)?;
         offsets.push(0);
-        ends.iter().try_for_each(|end| Ok(offsets.push(i32::try_from(*end).map_err(|_| NO_MEMORY)?)))
-    }
-
-    /// The number of a failure, whose text and numbers are kept.
-    fn told(&mut self, Failure(number, text, fields): Failure) -> u32 {
-        (self.bytes, self.fields) = (text.into_bytes(), fields);
-        number
+        offsets.extend(ends.iter().map(|end| *end as i32));
+        Ok(())
     }
 }
 
@@ -131,7 +130,12 @@ macro_rules! calls {
         pub extern "C" fn $name(desk: &mut Desk $(, $argument: $type)*) -> u32 {
             fn call($inputs: &[Vec<u8>; 3], $out: &mut Results $(, $argument: $type)*) -> Result<(), Failure> $code
             desk.results.numbers.clear();
-            call(&desk.inputs, &mut desk.results $(, $argument)*).map_or_else(|why| desk.results.told(why), |()| 0)
+            let found = call(&desk.inputs, &mut desk.results $(, $argument)*);
+            found.map_or_else(|Failure(number, text, facts)| {
+                desk.results.bytes = text.into_bytes();
+                desk.results.tell(facts);
+                number
+            }, |()| 0)
         }
     )*};
 }
@@ -168,12 +172,12 @@ pub extern "C" fn wkb_size(desk: &Desk, which: usize) -> usize {
 calls! {
     wkb_check(inputs, out) {
         let it = check(&inputs[0])?;
-        out.lay(&header(Some(it.wkb_type), it.wkb_type.dimension(), it.order, it.srid))?;
-        out.lay(&[it.bytes, it.parts, it.coordinates].map(|it| it as f64))
+        let header = header(Some(it.wkb_type), it.wkb_type.dimension(), it.order, it.srid);
+        Ok(out.tell(header.into_iter().chain([it.bytes, it.parts, it.coordinates].map(|it| it as f64))))
     }
 
     wkb_bounds(inputs, out) {
-        out.lay_bounds(&bounds(&inputs[0])?)
+        Ok(out.tell(ranges(&bounds(&inputs[0])?)))
     }
 
     /// Lists the parts; of rejected bytes those before the rejected one.
@@ -185,7 +189,10 @@ calls! {
                 (parts_before(&inputs[0], &why)?, Some(why))
             }
         };
-        table.iter().try_for_each(|it| out.lay_part(it))?;
+        for it in &table {
+            out.lay(&header(it.wkb_type, it.dimension, it.order, it.srid))?;
+            out.lay(&[it.begin, it.end, it.offset, it.count, it.next].map(|it| it as f64))?;
+        }
         why.map_or(Ok(()), |why| Err(why.into()))
     }
 
@@ -200,14 +207,15 @@ calls! {
         check(&inputs[0])?;
         check(&inputs[1])?;
         let is_same = same(&inputs[0], &inputs[1]).map_err(|_| NO_MEMORY)?;
-        out.lay(&[u8::from(is_same).into()])
+        Ok(out.tell([u8::from(is_same).into()]))
     }
 
     wkb_geopackage(inputs, out) {
         let it = read_header(&inputs[0]).map_err(|why| Failure(2, why.to_string(), [0.0, 0.0, NONE, NONE, NONE]))?;
         let axes = ["", "xy", "xyz", "xym"].iter().position(|axes| *axes == it.axes).unwrap_or(4) as u32;
-        out.lay(&[it.size as f64, it.srs_id.into(), u8::from(it.is_empty).into(), axes.into()])?;
-        it.envelope.iter().try_for_each(|(least, greatest)| out.lay(&[*least, *greatest]))
+        let facts = [it.size as f64, it.srs_id.into(), u8::from(it.is_empty).into(), axes.into()];
+        let ends = it.envelope.into_iter().flat_map(|(least, greatest)| [least, greatest]);
+        Ok(out.tell(facts.into_iter().chain(ends)))
     }
 
     wkb_column_check(inputs, out, size: u32, first: f64) {
@@ -216,10 +224,14 @@ calls! {
     }
 
     wkb_column_bounds(inputs, out, size: u32, first: f64) {
-        let (all, statuses) = column(inputs, size, first)?.bounds()?;
-        out.statuses = statuses;
-        out.numbers.try_reserve(8 * all.len()).map_err(|_| NO_MEMORY)?;
-        for Bounds { x, y, z, m } in &all {
+        let column = column(inputs, size, first)?;
+        out.numbers.try_reserve(8 * column.len()).map_err(|_| NO_MEMORY)?;
+        out.statuses.clear();
+        out.statuses.try_reserve(column.len()).map_err(|_| NO_MEMORY)?;
+        for row in column.rows() {
+            let found = row.and_then(|bytes| bounds(bytes).map_err(|why| why.status()));
+            out.statuses.push(found.map_or_else(|status| status, |_| Status::OK));
+            let Bounds { x, y, z, m } = found.unwrap_or_default();
             out.numbers.extend([x.min(), x.max(), y.min(), y.max(), z.min(), z.max(), m.min(), m.max()]);
         }
         Ok(())
@@ -228,8 +240,7 @@ calls! {
     wkb_column_facts(inputs, out, size: u32, first: f64) {
         let it = column(inputs, size, first)?.facts()?;
         let counts = [it.rows, it.accepted, it.null_rows, it.refused, it.without_srid, it.types.len()];
-        out.lay(&counts.map(|it| it as f64))?;
-        out.lay_bounds(&it.bounds)?;
+        out.tell(counts.map(|it| it as f64).into_iter().chain(ranges(&it.bounds)));
         for (of, rows) in &it.types {
             out.lay(&[of.kind().into(), (of.dimension() as u32).into(), *rows as f64])?;
         }
