@@ -1,6 +1,6 @@
 // SPDX-License-Identifier: MIT OR Apache-2.0
 // A geometry as SVG, with axes. Of many coordinates it draws a sample.
-import { words } from './wkb.js';
+import { words } from './out/package/wkb.js';
 import { counted, isSimple, said } from './explain.js';
 
 const LIMITS = { parts: 4000, coordinates: 20000, vertices: 150 };

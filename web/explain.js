@@ -1,7 +1,7 @@
 // SPDX-License-Identifier: MIT OR Apache-2.0
 // What the bytes of an input mean, field by field, also of rejected ones, as far as they go.
-import { DIMENSIONS, KINDS, ORDERS } from './desk.js';
-import { equal, geopackageHeader, inspect } from './wkb.js';
+import { DIMENSIONS, KINDS, ORDERS } from './out/package/desk.js';
+import { equal, geopackageHeader, inspect } from './out/package/wkb.js';
 
 const NOUNS = { Point: 'coordinate', LineString: 'coordinate', Ring: 'coordinate', Polygon: 'ring' };
 export const nounOf = (kind) => NOUNS[kind] ?? 'member';

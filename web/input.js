@@ -1,6 +1,6 @@
 // SPDX-License-Identifier: MIT OR Apache-2.0
 // The inputs in a text or a file: hex, base64 or raw bytes.
-import { bytesOf, check } from './wkb.js';
+import { bytesOf, check } from './out/package/wkb.js';
 import { readFront } from './explain.js';
 
 /** How many bytes are behind the geometry that a text begins with; NaN if it begins with none. */

@@ -1,6 +1,6 @@
 // SPDX-License-Identifier: MIT OR Apache-2.0
 // The inspector: what is put into the page is put as text, never as HTML.
-import { bounds, bytesOf, check, toGeoJSON, write } from './wkb.js';
+import { bounds, bytesOf, check, toGeoJSON, write } from './out/package/wkb.js';
 import { columnsOf, inputsOf, isGeometry, textOf } from './input.js';
 import { compared, counted, differing, endOf, gap, nameOf, nounOf, readFront, readParts, rowsOf, said, spelled
 } from './explain.js';

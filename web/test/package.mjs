@@ -1,5 +1,5 @@
 // SPDX-License-Identifier: MIT OR Apache-2.0
-// The package over c/test/lasting.rows, and what the types say besides.
+// The package over c/test/lasting.rows, what its types say besides, and what the inspector says of bytes.
 import assert from 'node:assert/strict';
 import { execFileSync, spawnSync } from 'node:child_process';
 import { readFileSync, writeFileSync } from 'node:fs';
@@ -8,12 +8,15 @@ import { test } from 'node:test';
 import { fileURLToPath } from 'node:url';
 import { inspect } from 'node:util';
 import { runInNewContext } from 'node:vm';
+import { readFront, readParts, rowsOf } from '../explain.js';
+import { columnsOf, inputsOf, textOf } from '../input.js';
 import * as wkb from '../out/package/wkb.js';
 
-const DIMENSIONS = ['xy', 'xyz', 'xym', 'xyzm'];
+const { DIMENSIONS, bytesOf } = wkb;
 const ORDERS = ['big', 'little'];
-const { bytesOf } = wkb;
-const POINT = bytesOf('0101000000000000000000f03f0000000000000040');
+const HEX = '0101000000000000000000f03f0000000000000040';
+const BIG_HEX = '00000000013ff00000000000004000000000000000';
+const POINT = bytesOf(HEX);
 const [PACKAGE, DESK] = ['wkb', 'desk'].map((it) => new URL(`../out/package/${it}.js`, import.meta.url).href);
 const file = readFileSync(new URL('../../c/test/lasting.rows', import.meta.url), 'utf8');
 const ROWS = file.split('\n').filter((it) => it && !it.startsWith('#')).map((line) => {
@@ -293,4 +296,88 @@ test('inputs of many kinds, and those that are long or claim much', () => {
   const long = Buffer.concat([bytesOf('010400000040420f00'), ...Array(1e6).fill(POINT)]);
   assert.equal(wkb.check(long).parts, 1e6 + 1);
   assert.equal(wkb.toGeoJSON(long).coordinates.length, 1e6);
+});
+
+test('each byte of each row', () => {
+  assert.equal(ROWS.length, 1387);
+  for (const { input, status, fields: [size] } of ROWS) {
+    const { parts, error } = readParts(input, 0);
+    for (const it of status === 0 ? parts : []) {
+      const around = parts.filter((other) => other.index < it.index && it.index < other.next);
+      assert.deepEqual([it.depth, it.inside], [around.length, around.at(-1) ?? null]);
+    }
+    let [at, bad] = [0, []];
+    for (const part of parts) {
+      const rows = rowsOf(input, 0, part, Infinity);
+      assert.deepEqual(rowsOf(input, 0, part, 2).at(-1), rows.at(-1));
+      for (const row of rows) {
+        assert.equal(row.at, at);
+        for (const span of row.spans) at += span.length;
+        if (row.isBad) bad.push(part);
+      }
+    }
+    if (status === 0) assert.deepEqual([at, bad.length, error], [size, 0, null]);
+    else assert.ok(bad.length > 0 && bad.every((it) => it.error === error || it.claims === error));
+    if (error?.reason.startsWith('SHORT') && error.reason !== 'SHORT_MULTI_POINT') assert.equal(at, input.length);
+    for (const it of parts.slice(0, -1).filter(({ kind }) => kind !== 'Ring')) {
+      const { text } = rowsOf(input, 0, it, 0)[1];
+      assert.deepEqual(/: (\w+), (\w+)/.exec(text).slice(1), [it.kind, it.dimension]);
+    }
+  }
+});
+
+test('texts', () => {
+  for (const it of [HEX, `\\x${HEX}`, `\\\\x${HEX}`, `0x${HEX}`, `x'${HEX}'`, ` "${HEX.toUpperCase()}"\r\n`,
+    'AQEAAAAAAAAAAADwPwAAAAAAAPC_', 'AQEAAAAA\nAAAAAADwPwAAAAAAAABA']) assert.equal(bytesOf(it).length, 21);
+  const blob = `4750000100000000${HEX}`;
+  assert.deepEqual(bytesOf(Buffer.from(blob, 'hex').toString('base64')), bytesOf(blob));
+  for (const it of ['g', '0', 'Ag==', 'POINT (1 2)', '<b>']) assert.throws(() => bytesOf(it));
+  assert.deepEqual(inputsOf(`${HEX}\n\n${HEX}\n`), [HEX, HEX]);
+  for (const it of [HEX, `47500000ffffffff${HEX}`]) {
+    assert.deepEqual(inputsOf(`${it.slice(0, 20)}\n${it.slice(20)}`), [it]);
+  }
+  assert.deepEqual(inputsOf('01\n02'), ['01', '02']);
+  const table = `id;name;geom\n1;"a; ""b""";${HEX}\r\n2;;"${HEX}"\n`;
+  assert.deepEqual(columnsOf(table), [{ name: 'id', cells: ['1', '2'] }, { name: 'name', cells: ['a; "b"', ''] },
+    { name: 'geom', cells: [`${HEX}\r`, HEX] }]);
+  assert.equal(columnsOf(`a,b\n1,"${'0'.repeat(1.2e7)}"`)[1].cells[0].length, 1.2e7);
+  assert.deepEqual(columnsOf(`${HEX},1\n${HEX}`).map((it) => it.name), ['column 1', 'column 2']);
+  assert.deepEqual([columnsOf(HEX), columnsOf(`${HEX}\n${HEX}`), columnsOf('')], [[], [], []]);
+  const [utf8, utf16] = ['utf8', 'utf16le'].map((it) => Uint8Array.from(Buffer.from(`\ufeff${HEX}`, it)));
+  const files = [POINT, new TextEncoder().encode(HEX), utf8, utf16];
+  assert.deepEqual(files.map(textOf), [null, HEX, HEX, HEX]);
+});
+
+const ONE = '000000000000f03f';
+// Rejected bytes, and of each part there is: kind, depth, where it begins, order, and how many whole coordinates it
+// has, or members or rings it claims.
+const REJECTED = {
+  [`010400000003000000${HEX}${BIG_HEX}01010000000000`]: [['MultiPoint', 0, 0, 'little', 3],
+    ['Point', 1, 9, 'little', 1], ['Point', 1, 30, 'big', 1], ['Point', 1, 51, 'little', 0]],
+  [`000000000400000003${HEX}00`]: [['MultiPoint', 0, 0, 'big', 3], ['Point', 1, 9, 'little', 1],
+    [undefined, 1, 30, undefined, 0]],
+  [`000000000200000003${'3ff0000000000000'.repeat(3)}`]: [['LineString', 0, 0, 'big', 1]],
+  [`01030000000200000001000000${ONE.repeat(2)}010000`]: [['Polygon', 0, 0, 'little', 2], ['Ring', 1, 9, 'little', 1],
+    ['Ring', 1, 29, 'little', 0]],
+  '0100000000': [[undefined, 0, 0, undefined, 0]],
+  '01e8030000': [[undefined, 0, 0, undefined, 0]],
+};
+test('what there is of rejected parts', () => {
+  for (const [hex, all] of Object.entries(REJECTED)) {
+    const { parts, error } = readParts(bytesOf(hex), 0);
+    assert.deepEqual(parts.map((it) => [it.kind, it.depth, it.begin, it.byteOrder, it.count]), all);
+    assert.deepEqual([parts.at(-1).error, parts[0].claims], [error, /^0[01]0+4/.test(hex) ? error : undefined]);
+    if (all[0][0] === undefined) assert.match(rowsOf(bytesOf(hex), 0, parts[0], 1)[1].text, /^code 1?0+, which no/);
+  }
+});
+
+test('the header of a blob of a GeoPackage', () => {
+  const { size, rows, header } = readFront(bytesOf(`47500003e6100000${`${ONE}0000000000000040`.repeat(2)}`));
+  assert.equal(size, 40);
+  assert.deepEqual(header, { size, srsId: 4326, isEmpty: false, axes: 'xy', envelope: [[1, 2], [1, 2]] });
+  const { srsId, isEmpty } = readFront(bytesOf('47500010ffffffff')).header;
+  assert.deepEqual([srsId, isEmpty], [-1, true]);
+  assert.deepEqual(rows.map((it) => [it.at, it.spans.reduce((sum, { length }) => sum + length, 0), it.text]), [
+    [0, 2, 'the header of a GeoPackage'], [2, 1, 'version 1'], [3, 1, 'flags: little endian, xy envelope'],
+    [4, 4, 'SRID 4326'], [8, 16, 'x from 1 to 2'], [24, 16, 'y from 1 to 2']]);
 });
