@@ -6,7 +6,7 @@ use Rattle.std.specs.Iterator.{MakesProgress, Yields, at_most}
 use Rattle.wkb_laws.specs.Prelude.{Endianness, Dimension, number, any}
 use Rattle.wkb_check.specs.Prelude.{HasGeometry, decoded_rings, subjects, subjects_of_rings, subjects_of_each, Piece}
 use Rattle.wkb_check.specs.Pieces.{Ahead, own_end, ring_piece, last_end, subject_pieces, pieces_of, first_rings}
-use Rattle.wkb_check.specs.Pieces.{IsPieceAt, IsInside, IsAhead, HasAhead, Takes, Steps, bytes_left, AreRings, IsRing}
+use Rattle.wkb_check.specs.Pieces.{IsPieceAt, IsInside, IsAhead, HasAhead, Takes, Steps, bytes_left}
 use Rattle.wkb_check.specs.Pieces.{piece_of, OnlyMember}
 use Rattle.wkb_check.specs.declared.pieces.Pieces.{Pieces}
 use Rattle.wkb_check.proofs.Placing.{First, alone, first_one, Inside, leaf_inside, rings_inside, members_inside, inner}
@@ -183,15 +183,6 @@ goes w now p h t =
 -- fewer bytes are left after a piece
 pub fewer_left : {old new : Pieces} {p : Piece} → Steps old (Some p) new → bytes_left new < bytes_left old
 fewer_left s = omega (arith, s.further, s.inside.ends, s.inside.inside, ap length s.same)
-
--- a ring that was taken, and those after it
-pub ring_of : {order : Endianness} {d : Dimension} {w : Pieces} {p : Piece} → AreRings order d w
-    → IsRing w.order w.dimension p → IsRing order d p
-ring_of are is = grind arith
-
-pub rings_after : {order : Endianness} {d : Dimension} {w now : Pieces} → AreRings order d w
-    → AreRings w.order w.dimension now → AreRings order d now
-rings_after before after = grind arith
 
 -- what calls of `next` gave, and what is to come after them, are the pieces that were to come
 pub given : (w now : Pieces) (ps xs : List Piece) → IsAhead w ps → Yields Steps w xs now
