@@ -71,16 +71,16 @@ class Specs:
         return module, name
 
     def words(self, crate):
-        """(module, its words) of each module that a crate's specs hand to other crates. A word is its name there, and
-        the module and the name where it stands; the last is None of a whole module. A comment names what users import
-        from where it stands, since it can't be passed on."""
-        folder = CRATES / crate / "specs"
-        for name in re.findall(r"pub mod (\w+)", (folder / "Lib.antt").read_text(encoding="utf-8")):
-            module, text = f"Rattle.{crate}.specs.{name}", (folder / f"{name}.antt").read_text(encoding="utf-8")
-            found = self.passed[module]
+        """(module, its words) of each module that a crate's specs and proofs hand to other crates. A word is its name
+        there, and the module and the name where it stands; the last is None of a whole module. A comment names what
+        users import from where it stands, since it can't be passed on."""
+        libs = {part: text_of(f"crates/{crate}/{part}/Lib.antt") for part in ("specs", "proofs")}
+        for part, name in ((part, it) for part, lib in libs.items() for it in re.findall(r"(?m)^pub mod (\w+)", lib)):
+            module, text = f"Rattle.{crate}.{part}.{name}", text_of(f"crates/{crate}/{part}/{name}.antt")
+            found = self.passed.get(module, [])
             passed = [(local, *(self.origin(source, it) if it else (source, it))) for source, it, local in found]
             passed += [(local, source, None) for source, local in re.findall(r"(?m)^-- use (\S+) as (\w+)$", text)]
-            yield name, passed + [(it, module, it) for it in defined(text)]
+            yield module, passed + [(it, module, it) for it in defined(text)]
 
 
 def declaration(text, name):

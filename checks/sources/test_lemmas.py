@@ -1,17 +1,19 @@
 """Each lemma and each definition for contracts is cited.
 
 Those are what files of proofs/ and specs/ define, except the files of functions' proofs, whose names the prover reads.
-Another definition, a contract, an attribute of the code or a file of crates/wkb/specs, which is for users, has to name
-it. The worked values, whose names begin with `worked_`, are cited by nothing on purpose: their proof is the test.
+Another definition, a contract, an attribute of the code or a file for users has to name it: a file of crates/wkb/specs,
+or one that crates/wkb/proofs/Lib.antt hands to other crates. The worked values, whose names begin with `worked_`, are
+cited by nothing on purpose: their proof is the test.
 """
 import collections
 import pathlib
 import re
 
 from checks import judge
-from pages import texts
+from pages import text_of, texts
 
-FOR_USERS = "crates/wkb/specs/"
+HANDED = re.findall(r"(?m)^pub mod (\w+)", text_of("crates/wkb/proofs/Lib.antt"))
+FOR_USERS = "crates/wkb/specs/", *(f"crates/wkb/proofs/{it}.antt" for it in HANDED)
 OF_FUNCTIONS = {"Answers.antt", "Invariants.antt", "Proof.antt", "Lib.antt"}
 DEFINITION = re.compile(r"(?:(?:pub|unfoldable|abbrev|record|data) )*([^\s:(){}.|]+)(?: [({].*[)}])* :(?: |$)")
 NAME = re.compile(r"[^\s(){}\[\],;]+")

@@ -1,3 +1,8 @@
-pub mod Rewritings
-pub mod Ordinates
-pub mod Visits
+pub mod AllCoordinates
+pub mod Calls
+pub mod Kept
+mod Ordinates
+pub mod Ranges
+mod Rewritings
+pub mod Same
+mod Visits

@@ -1,37 +1,12 @@
--- Lemmas: the turns of a loop that keeps some items of a list, told by a relation.
-use Rattle.std.proofs.Common.{ℕ, ◌+◌, ◌<◌, ◌≤◌, List, [], ◌∷◌, ◌++◌, drop, length, subst, append_assoc, append-nil}
-use Rattle.std.specs.Prelude.{slice_index_or}
-use Rattle.std.proofs.lemmas.List.{drop_all, drop_more}
-pub use Rattle.wkb.specs.Terms.{Keeps, none, kept, left, KeepsBefore}
+-- What a loop keeps of a list's items.
+use Rattle.std.specs.Prelude.{ℕ, List, [], ◌∷◌, ◌++◌, drop}
 
--- Before the first item none is kept.
-pub keeping_starts : {A : Type 0} (P Q : A → Type 0) (xs : List A) → KeepsBefore P Q xs [] 0
-keeping_starts P Q xs = record { before = λ more h. h }
+-- Of the items of the first list the second has, in order, some of which P holds; of each other Q holds.
+pub data Keeps {A : Type 0} (P Q : A → Type 0) : List A → List A → Type 0 where
+  none : Keeps P Q [] []
+  kept : (x : A) (xs ks : List A) → P x → Keeps P Q xs ks → Keeps P Q (x ∷ xs) (x ∷ ks)
+  left : (x : A) (xs ks : List A) → Q x → Keeps P Q xs ks → Keeps P Q (x ∷ xs) ks
 
--- A loop keeps the item at an index, of which P holds.
-pub keeps_one : {A : Type 0} (P Q : A → Type 0) (xs ks : List A) (i : ℕ) (x : A) → KeepsBefore P Q xs ks i
-    → i < length xs → P (slice_index_or xs i x) → KeepsBefore P Q xs (ks ++ (slice_index_or xs i x ∷ [])) (i + 1)
-keeps_one P Q xs ks i x so_far inside is =
-    let y = slice_index_or xs i x in
-    record {
-      before = λ more h.
-          rw (append_assoc ks (slice_index_or xs i x ∷ []) more)
-          (so_far.before (y ∷ more) (rw (drop_more xs i x inside) (kept y (drop (i + 1) xs) more is h)));
-    }
-
--- A loop leaves the item at an index out, of which Q holds.
-pub leaves_one : {A : Type 0} (P Q : A → Type 0) (xs ks : List A) (i : ℕ) (x : A) → KeepsBefore P Q xs ks i
-    → i < length xs → Q (slice_index_or xs i x) → KeepsBefore P Q xs ks (i + 1)
-leaves_one P Q xs ks i x so_far inside is =
-    record {
-      before = λ more h.
-          so_far.before more (rw (drop_more xs i x inside) (left (slice_index_or xs i x) (drop (i + 1) xs) more is h));
-    }
-
--- Behind the last item all were looked at.
-pub keeping_ends : {A : Type 0} (P Q : A → Type 0) (xs ks : List A) (i : ℕ) → KeepsBefore P Q xs ks i → length xs ≤ i
-    → Keeps P Q xs ks
-keeping_ends P Q xs ks i so_far all =
-    subst (Keeps P Q xs) (append-nil ks) (so_far.before [] (rw (drop_all i xs all) none))
-
-pub ruleset keeping_laws = (keeping_starts, keeps_one, leaves_one, keeping_ends)
+-- These were kept of the items before an index: with what is kept of those from it on, they are what is kept of all.
+pub record KeepsBefore {A : Type 0} (P Q : A → Type 0) (xs ks : List A) (i : ℕ) : Type 0 where
+  pub before : (more : List A) → Keeps P Q (drop i xs) more → Keeps P Q xs (ks ++ more)

@@ -1,7 +1,6 @@
 pub mod Canonical
 pub mod Checks
 pub mod Coordinates
-pub mod AllCoordinates
 pub mod Prelude
 pub mod Values
 pub mod Spellings
@@ -16,7 +15,6 @@ pub mod Reads
 pub mod Writes
 pub mod Laws
 pub mod Known
-mod Terms
 pub mod Bridges
 pub mod Handed
 pub mod Kept
@@ -27,5 +25,3 @@ pub mod Offsets
 pub mod Order
 pub mod OwnBytes
 pub mod Ranges
-pub mod ReadBack
-pub mod Same

@@ -8,8 +8,8 @@ use Rattle.wkb.specs.Values.{Coordinate, Value, multi_point, dimension}
 use Rattle.wkb.specs.Geometries.{AreCoordinates, IsPoint, normal, normal_point}
 use Rattle.wkb.specs.Encodings.{encoding_of, fault_of, IsForm}
 use Rattle.wkb.specs.Spellings.{Front}
-use Rattle.wkb.specs.AllCoordinates.{refused_points_are_many}
-use Rattle.wkb.specs.ReadBack.{encoding_is_read}
+use Rattle.wkb.proofs.AllCoordinates.{refused_points_are_many}
+use Rattle.wkb.proofs.Calls.{encoding_is_read}
 use Rattle.wkb.specs.Reads.{Item, values}
 use Rattle.wkb.specs.Writes.{WriteOptions, IsVecError}
 use Rattle.wkb.specs.Coordinates.{coordinates_of, HasOnly, HaveOnly}

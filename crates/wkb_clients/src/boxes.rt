@@ -14,7 +14,7 @@ pub struct BoundingBox {
 }
 
 /// The box of a ring.
-#[tactic(auto, using(wkb::specs::Ranges::widening_laws))]
+#[tactic(auto, using(wkb::proofs::Ranges::widening_laws))]
 pub fn ring_box(ring: &LinearRing) -> BoundingBox
     ensures { IsBoxOfRing ring.now result }
 {

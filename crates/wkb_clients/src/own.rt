@@ -5,8 +5,7 @@ ghost use Rattle.std.specs.Prelude.{◌≡◌, IfOk, IfErr, MatchBool};
 ghost use Rattle.wkb.specs.Prelude.{IsMemory};
 ghost use Rattle.wkb.specs.Checks.{AreBounds};
 ghost use Rattle.wkb.specs.Geometries.{geometry_of};
-ghost use Rattle.wkb.specs.OwnBytes.{own_options};
-ghost use Rattle.wkb.specs.Writes.{IsEncodingOf};
+ghost use Rattle.wkb.specs.Writes.{IsEncodingOf, own_options};
 
 use std::alloc::Global;
 use wkb::Endianness;

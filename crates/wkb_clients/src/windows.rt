@@ -33,7 +33,7 @@ pub fn meets(window: &BoundingBox, bytes: &[u8]) -> bool
 }
 
 /// The rows whose geometries meet the box, in their order.
-#[tactic(auto, using(wkb::specs::Kept::keeping_laws))]
+#[tactic(auto, using(wkb::proofs::Kept::keeping_laws))]
 pub fn found_in<'a>(
     alloc: Global,
     window: &BoundingBox,

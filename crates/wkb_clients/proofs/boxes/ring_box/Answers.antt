@@ -1,4 +1,4 @@
-use Rattle.wkb.specs.Ranges.{widens_x, widens_y}
+use Rattle.wkb.proofs.Ranges.{widens_x, widens_y}
 use Rattle.wkb_clients.specs.Common.{ring_seen, ring_dimension}
 use Rattle.wkb_clients.proofs.boxes.ring_box.Goals as goal
 

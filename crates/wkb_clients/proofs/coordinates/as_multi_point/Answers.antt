@@ -1,5 +1,5 @@
 use Rattle.std.proofs.Common.{◌≡◌, [], map, Some, ap, subst, ◌∙◌, arith}
-use Rattle.wkb.specs.AllCoordinates.{coordinates_fit, words_are_whole, coordinates_again}
+use Rattle.wkb.proofs.AllCoordinates.{coordinates_fit, words_are_whole, coordinates_again}
 use Rattle.wkb.specs.Geometries.{multi_point}
 use Rattle.wkb.specs.Levels.{points_dimensions, points_points}
 use Rattle.wkb.specs.Plain.{line_string_coordinates, coordinates_in}

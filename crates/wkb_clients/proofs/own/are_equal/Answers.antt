@@ -1,5 +1,5 @@
 use Rattle.std.proofs.Common.{Bool, Err}
-use Rattle.wkb.specs.OwnBytes.{always_compared, values_compared}
+use Rattle.wkb.proofs.Calls.{always_compared, values_compared}
 use Rattle.wkb_clients.proofs.own.are_equal.Goals as goal
 
 pub unreachable-requires : goal.unreachable-requires

@@ -1,4 +1,5 @@
-use Rattle.wkb.specs.OwnBytes.{not_refused, own_encoding_with_srid}
+use Rattle.wkb.specs.OwnBytes.{not_refused}
+use Rattle.wkb.proofs.Calls.{own_encoding_with_srid}
 use Rattle.wkb_clients.proofs.own.key_anew.Goals as goal
 
 pub returns-clause-ok : goal.returns-clause-ok

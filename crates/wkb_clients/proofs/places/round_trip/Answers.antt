@@ -1,6 +1,6 @@
 use Rattle.std.proofs.Common.{◌≡◌, Some, ◌∙◌, arith}
 use Rattle.wkb.specs.Geometries.{normal_point}
-use Rattle.wkb.specs.ReadBack.{value_is_read}
+use Rattle.wkb.proofs.Calls.{value_is_read}
 use Rattle.wkb_clients.specs.Common.{Xy, point}
 use Rattle.wkb_cases.specs.Places.{words_of_place}
 use Rattle.wkb_clients.proofs.places.round_trip.Goals as goal

@@ -1,5 +1,5 @@
 use Rattle.std.proofs.Common.{arith}
-use Rattle.wkb.specs.Kept.{keeping_ends}
+use Rattle.wkb.proofs.Kept.{keeping_ends}
 use Rattle.wkb_clients.proofs.windows.found_in.Goals as goal
 
 pub returns : goal.returns

@@ -1,10 +1,10 @@
 -- Lemmas: all coordinates of a value fit its one dimension, are in their words, and can be written as points.
 use Rattle.std.proofs.Common.{◌≡◌, ℕ, ◌+◌, ◌*◌, ◌%◌, ◌<◌, ◌≤◌, ◌^◌, List, [], ◌∷◌, ◌++◌, flat_map, length, Option, Some}
-use Rattle.std.proofs.Common.{None, Bool, refl, sym, ap, arith, if◌then◌else◌, length-append, is_some, lt-ltb}
+use Rattle.std.proofs.Common.{None, Bool, refl, sym, arith, if◌then◌else◌, length-append, is_some, lt-ltb}
 use Rattle.std.specs.List.{AllByRecursion}
 use Rattle.std.proofs.Math.Nat.{mul-div_cancel, mul-mod_left, suc-mul, zero-mul}
 use Rattle.std.proofs.Math.Seq.{take-append_seam, drop-append_seam}
-use Rattle.wkb.specs.Prelude.{Dimension, Xy, Dimensions, as_dimensions, size}
+use Rattle.wkb.specs.Prelude.{Dimension, Dimensions, as_dimensions, size}
 use Rattle.wkb.specs.Values.{Coordinate, Value, Values, point, line_string, polygon, multi_point, multi_line_string}
 use Rattle.wkb.specs.Values.{multi_polygon, collection, no_members, member}
 use Rattle.wkb.specs.Geometries.{AreCoordinates, IsPoint, IsGeometry, AreGeometries, geometry_of, geometries_of}
@@ -46,12 +46,10 @@ mutual
   coordinates_fit d (line_string e cs) fits is = rw (← is) fits
   coordinates_fit d (polygon e rings) fits is = rw (← is) (parts_fit (as_dimensions e) rings fits)
   coordinates_fit d (multi_point e points) fits is =
-      let s = as_dimensions e in
-      rw (← is) (each_fits s of_point (IsPoint s) (point_fits s) points fits)
+      rw (← is) (each_fits (as_dimensions e) of_point _ (point_fits (as_dimensions e)) points fits)
   coordinates_fit d (multi_line_string e lines) fits is = rw (← is) (parts_fit (as_dimensions e) lines fits)
   coordinates_fit d (multi_polygon e polygons) fits is =
-      let s = as_dimensions e in
-      rw (← is) (each_fits s of_parts (AllByRecursion (AreCoordinates s)) (parts_fit s) polygons fits)
+      rw (← is) (each_fits (as_dimensions e) of_parts _ (parts_fit (as_dimensions e)) polygons fits)
   coordinates_fit d (collection e ts) fits is = members_fit d ts fits is.1
 
   members_fit : (d : Dimension) (ts : Values) → AreGeometries (geometries_of ts) → HaveOnly d ts
@@ -72,36 +70,28 @@ word_count dims (c ∷ cs) fit =
 -- The words of coordinates are those of whole coordinates, as `LineString::new` asks for them.
 pub words_are_whole : (d : Dimension) (cs : List Coordinate) → AreCoordinates (as_dimensions d) cs
     → (0 < size (as_dimensions d)) × (length (words_of cs) % size (as_dimensions d) ≡ 0)
-words_are_whole d cs fit =
-    let n = size (as_dimensions d) in
-    (omega (arith, has_two d), rw (word_count (as_dimensions d) cs fit) (mul-mod_left (length cs) n))
+words_are_whole d cs fit = grind (arith, has_two, word_count, mul-mod_left)
 
 runs_of_words : (dims : Dimensions) (cs : List Coordinate) → AreCoordinates dims cs
     → runs (size dims) (length cs) (words_of cs) ≡ cs
 runs_of_words dims [] fit = refl
-runs_of_words dims (c ∷ cs) fit =
-    rw (sym fit.0.len, take-append_seam c (words_of cs), drop-append_seam c (words_of cs))
-    (ap (λ l. c ∷ l) (runs_of_words dims cs fit.1))
+runs_of_words dims (c ∷ cs) fit = grind (arith, take-append_seam, drop-append_seam, runs_of_words dims cs fit.1)
 
 -- The coordinates in these words are the coordinates.
 pub coordinates_again : (d : Dimension) (cs : List Coordinate) → AreCoordinates (as_dimensions d) cs
     → coordinates_in (as_dimensions d) (words_of cs) ≡ cs
-coordinates_again d cs fit =
-    let some : 0 < size (as_dimensions d) = omega (arith, has_two d) in
-    rw (word_count (as_dimensions d) cs fit, mul-div_cancel (length cs) some) (runs_of_words (as_dimensions d) cs fit)
+coordinates_again d cs fit = grind (arith, has_two, word_count, mul-div_cancel, runs_of_words)
 
 -- ---- points that can be written
 
 no_fault : (d : Dimension) (points : List (Option Coordinate)) → length points < 2 ^ 32
     → fault (points_of (as_dimensions d) points) ≡ None
 unfolding or_else dimensions_fault count_fault
-no_fault Xy points few = rw (lt-ltb (length points) (2 ^ 32) few) refl
-no_fault _ points few = rw (lt-ltb (length points) (2 ^ 32) few) refl
+no_fault d points few = grind (arith, lt-ltb)
 
 short : (d : Dimension) (n : ℕ) (b : Bool) → n < 2 ^ 32
     → 9 + n * (5 + 8 * size (as_dimensions d)) + 4 * (if b then 1 else 0) < 2 ^ 64
-short Xy n b few = grind arith
-short _ n b few = grind arith
+short d n b few = grind arith
 
 -- A multi point of no more points than four bytes can count is written.
 pub few_points_are_written : (options : WriteOptions) (d : Dimension) (points : List (Option Coordinate))
@@ -110,8 +100,8 @@ pub few_points_are_written : (options : WriteOptions) (d : Dimension) (points : 
 unfolding or_else size_fault
 few_points_are_written options d points fits lawful few =
     let none = no_fault d points few in
-    let g = points_of (as_dimensions d) points in
-    let long = encoding_has_size options.endianness options.form g fits lawful none in
+    let long =
+    encoding_has_size options.endianness options.form (points_of (as_dimensions d) points) fits lawful none in
     rw (none, long, lt-ltb _ (2 ^ 64) (short d (length points) (is_some (form_srid options.form)) few)) refl
 
 -- So one that is rejected has more.
