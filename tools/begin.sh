@@ -30,3 +30,13 @@ lacks() {
   done
   return 1
 }
+
+# The names that a shared library shows, sorted; and that it is bound when it is loaded.
+names_of() { "${NM:-nm}" -D --defined-only "$1" | awk '{ print $NF }' | LC_ALL=C sort; }
+is_bound() { "${READELF:-readelf}" -dW "$1" | grep -q BIND_NOW || fail "$1 is not bound when it is loaded"; }
+
+# blocks KIND DATABASE: the blocks of this kind in START_SQL's part on a database.
+blocks() {
+  awk -v begin="\`\`\`$1" -v part="$2" '/^## / { here = $0 ~ part } /^```/ { on = here && $0 == begin; next } on' \
+    "$top/docs/START_SQL.md"
+}
