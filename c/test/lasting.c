@@ -160,6 +160,7 @@ static void has_next_parts(const lasting *r, const wkb_part *parts) {
 
 static void is_listed(const lasting *r) {
   wkb_part parts[ROW_PARTS_MOST + 1];
+  wkb_found found;
   size_t count = 0, needed = 0, wanted = r->status == WKB_STATUS_OK ? (size_t)r->fields[1] : ROW_PARTS_MOST;
   memset(parts, UNTOUCHED, sizeof parts);
   wkb_status status = wkb_parts(r->bytes, r->len, parts, wanted, &count, &told);
@@ -169,6 +170,9 @@ static void is_listed(const lasting *r) {
   has_next_parts(r, parts);
   if (!is_good) return;
   is(summed(NO_SUM, parts, count * sizeof parts[0], sizeof parts[0]) == r->sums[OF_PARTS], "a part changes");
+  wkb_check(r->bytes, r->len, &found, NULL);
+  const wkb_part whole = wkb_whole(&found);
+  is(memcmp(&whole, parts, sizeof whole) == 0, "wkb_whole is not the first part");
   for (size_t i = 0; i < count; i++)
     if (parts[i].kind <= WKB_KIND_LINE_STRING) has_words(r->bytes, &parts[i]);
   memset(parts, UNTOUCHED, sizeof parts);

@@ -73,11 +73,10 @@ static void try_words(const uint8_t *data, const wkb_part *part) {
 
 /* The table, whose entries follow and hold one another, and of which the first geometries are checked by themselves. */
 static void try_parts(const uint8_t *data, size_t len, const wkb_found *found) {
-  wkb_part *parts = block(found->parts * sizeof *parts), whole = wkb_whole(found);
+  wkb_part *parts = block(found->parts * sizeof *parts);
   size_t count = 0;
   EXPECT(wkb_parts(data, len, parts, found->parts - 1, &count, NULL) == WKB_STATUS_NO_ROOM && count == found->parts);
   EXPECT(wkb_parts(data, len, parts, found->parts, &count, NULL) == WKB_STATUS_OK && count == found->parts);
-  EXPECT(memcmp(parts, &whole, sizeof whole) == 0);
   uint64_t coordinates = 0;
   for (size_t i = 0; i < count; i++) {
     const wkb_part *part = &parts[i];
