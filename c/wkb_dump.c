@@ -52,13 +52,13 @@ static int indent_of(const dump *it) {
 
 /* Puts a line. The one after the last requested line says that more are left out. */
 static void put_line(dump *it, const char *format, ...) {
-  char line[LINE_ROOM + 1];
+  char line[LINE_ROOM + 1] = "";
   va_list words;
   va_start(words, format);
-  int length = vsnprintf(line, LINE_ROOM, format, words);
+  vsnprintf(line, LINE_ROOM, format, words);
   va_end(words);
   if (it->has_stopped) return;
-  size_t end = length < 0 ? 0 : length < LINE_ROOM ? (size_t)length : LINE_ROOM - 1;
+  size_t end = strlen(line);
   line[end++] = '\n';
   it->has_stopped = it->put(it->to, line, end) != 0;
   it->lines++;
@@ -138,17 +138,16 @@ static bool is_left_out(const dump *it, uint64_t item, uint64_t count) {
   return most > 0 && count > most && item + 1 >= most && item + 1 < count;
 }
 
-static bool put_coordinate(dump *it) {
+static void put_coordinate(dump *it) {
   char text[NUMBER_ROOM];
   for (const char *name = DIMENSIONS[it->part.dimension]; *name != 0; name++) {
     if (is_shown(it)) spell(next_double(it), text);
-    if (!put_bytes(it, 8, "%c %s", *name, text)) return false;
+    if (!put_bytes(it, 8, "%c %s", *name, text)) return;
   }
-  return true;
 }
 
-/* Shows the coordinates of a point, a line string or a ring, as many as there are. Returns whether all are there. */
-static bool put_coordinates(dump *it, uint64_t count) {
+/* Shows the coordinates of a point, a line string or a ring, as many as there are. */
+static void put_coordinates(dump *it, uint64_t count) {
   size_t size = 8 * it->part.width;
   uint64_t held = (it->len - it->at) / size, whole = count < held ? count : held;
   for (uint64_t i = 0; i < whole; i++) {
@@ -160,7 +159,7 @@ static bool put_coordinates(dump *it, uint64_t count) {
     if (is_shown(it)) put_left_out(it, more, "coordinate");
     it->at += size * more, i += more - 1;
   }
-  return whole == count || put_coordinate(it);
+  if (whole < count) put_coordinate(it);
 }
 
 static const char *name_of(const list *items) { return items->is_of_rings ? "ring" : "member"; }
@@ -231,35 +230,34 @@ static bool put_front(dump *it) {
          (!part->has_srid || put_bytes(it, 4, "SRID %" PRIu32, next_number(it)));
 }
 
-/* Shows a part up to its own coordinates, or up to its rings or members, which are then the innermost list. Returns
- * whether all of it is there. */
-static bool put_part(dump *it) {
+/* Shows a part up to its own coordinates, or up to its rings or members, which are then the innermost list; of the
+ * rejected one what is there. */
+static void put_part(dump *it) {
   const bool is_ring = it->part.next > 0;
   begin_part(it);
-  if (!is_ring && !put_front(it)) return false;
+  if (!is_ring && !put_front(it)) return;
   const uint32_t kind = it->part.kind;
-  if (kind == WKB_KIND_POINT) return put_coordinates(it, 1);
-  const uint32_t count = it->is_at_refused ? next_number(it) : (uint32_t)it->part.count;
+  const bool is_point = kind == WKB_KIND_POINT;
+  const uint32_t count = is_point ? 1 : it->is_at_refused ? next_number(it) : (uint32_t)it->part.count;
   const char *what = kind == WKB_KIND_POLYGON ? "ring" : kind > WKB_KIND_POLYGON ? "member" : "coordinate";
-  if (!put_bytes(it, 4, "%" PRIu32 " %s%s", count, what, count == 1 ? "" : "s")) return false;
-  if (kind < WKB_KIND_POLYGON) return put_coordinates(it, count);
-  if (it->is_at_refused || it->depth == DEEPEST) return false;
+  if (!is_point && !put_bytes(it, 4, "%" PRIu32 " %s%s", count, what, count == 1 ? "" : "s")) return;
+  if (kind < WKB_KIND_POLYGON) put_coordinates(it, count);
+  if (kind < WKB_KIND_POLYGON || it->is_at_refused || it->depth == DEEPEST) return;
   const list items = {count, 0, 0, kind == WKB_KIND_POLYGON};
   it->lists[it->depth++] = items;
-  return true;
 }
 
 /* Goes over the parts, up to the end or to that of the rejected part. */
 static void put_parts(dump *it) {
-  bool is_all_there = put_part(it);
-  while (is_all_there && !it->is_at_refused && it->depth > 0 && !it->has_stopped) {
+  put_part(it);
+  while (!it->is_at_refused && it->depth > 0 && !it->has_stopped) {
     const list *items = &it->lists[it->depth - 1];
     if (it->is_full && it->refused == NO_PART) return;
     if (items->begun == items->count) {
       it->depth--;
     } else {
       begin_item(it);
-      is_all_there = put_part(it);
+      put_part(it);
     }
     if (it->depth < it->hidden) it->hidden = 0;
   }

@@ -45,8 +45,8 @@ static int fails(const char *why, const char *what) {
 
 static int put(void *to, const char *line, size_t length) { return fwrite(line, 1, length, to) != length; }
 
-/* Reads a whole file, or prints why it can't. */
-static const char *read_file(FILE *file, size_t most, char **bytes, size_t *size) {
+/* Reads standard input to its end. Returns NULL, or why it can't. */
+static const char *read_input(size_t most, char **bytes, size_t *size) {
   size_t room = 0, got = 1;
   *bytes = NULL, *size = 0;
   for (; got > 0; *size += got) {
@@ -56,10 +56,10 @@ static const char *read_file(FILE *file, size_t most, char **bytes, size_t *size
       if (more == NULL) return "allocating memory for the input failed";
       *bytes = more;
     }
-    got = fread(*bytes + *size, 1, room - *size, file);
+    got = fread(*bytes + *size, 1, room - *size, stdin);
     if (*size + got > most) return "the input has more bytes than -b says";
   }
-  return ferror(file) ? "the input can't be read" : NULL;
+  return ferror(stdin) ? "the input can't be read" : NULL;
 }
 
 /* Whether all of it is text, so that it is no geometry, whose first bytes are numbers. */
@@ -155,12 +155,10 @@ int main(int count, char **words) {
 #ifdef _WIN32
   _setmode(_fileno(stdin), _O_BINARY);
 #endif
-  FILE *file = it.file == NULL ? stdin : fopen(it.file, "rb");
-  if (file == NULL) return fails("this file can't be opened: ", it.file);
+  if (it.file != NULL && freopen(it.file, "rb", stdin) == NULL) return fails("this file can't be opened: ", it.file);
   char *bytes;
   size_t size;
-  const char *wrong = read_file(file, it.most_bytes, &bytes, &size);
-  if (file != stdin) fclose(file);
+  const char *wrong = read_input(it.most_bytes, &bytes, &size);
   int status = wrong != NULL  ? fails(wrong, "")
                : it.has_lines ? show_lines(&it, bytes, size)
                               : show(&it, bytes, size);

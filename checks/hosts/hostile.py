@@ -74,7 +74,7 @@ def cases():
     for case in re.split(r"(?m)^> ", (TESTS / "dump.cases").read_text(encoding="utf-8"))[1:]:
         head, _, lines = case.partition("\n")
         _, items, most, text = head.split(" ", 3)
-        if (items, most) == ("3", "0"):
+        if (items, most) == ("3", "1000"):
             yield bytes.fromhex(re.sub(r"^\s*(\\x|0x)", "", text)), lines[:-1]
 
 

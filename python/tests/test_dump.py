@@ -24,7 +24,8 @@ class Dump(unittest.TestCase):
             _, items, lines, text = head.split(" ", 3)
             data = bytes.fromhex(re.sub(r"^\s*(\\x|0x)", "", text))
             with self.subTest(head):
-                self.assertEqual(wkb.dump(memoryview(data), int(items), int(lines)), expected)
+                options = () if (items, lines) == ("3", "1000") else (int(items), int(lines))
+                self.assertEqual(wkb.dump(memoryview(data), *options), expected)
                 headers += self.has_header(data, expected)
         self.assertTrue(len(cases) > 20 and headers > 5)
 

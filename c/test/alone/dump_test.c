@@ -74,11 +74,11 @@ static int try_cases(void) {
     unsigned items, lines;
     memcpy(head, wanted, sizeof head);
     expect(sscanf(head, "> %d %u %u %n", &status, &items, &lines, &used) == 3, "no head of a case", head);
-    const wkb_dump_options options = {items, lines};
+    const wkb_dump_options options = {items, lines}, *own = items == 3 && lines == 1000 ? NULL : &options;
     snprintf(hex, sizeof hex, "%s", head + used);
     size_t len = wkb_dump_from_hex(hex, strlen(hex), &wrong);
     expect(len != WKB_DUMP_NOT_HEX, "no hex", head);
-    expect(wkb_dump(hex, len, &options, is_wanted, head, NULL) == status, "another status", head);
+    expect(wkb_dump(hex, len, own, is_wanted, head, NULL) == status, "another status", head);
   }
   fclose(cases);
   return tried;
