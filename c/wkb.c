@@ -65,6 +65,9 @@ static void pass_on(const uint64_t *here, size_t *number, int is_written) {
   if (number != NULL && sizeof *number != sizeof *here && is_written) *number = (size_t)*here;
 }
 
+/* Returns an end, or the largest size if that is narrower than the end. */
+static size_t as_size(uint64_t end) { return end < SIZE_MAX ? (size_t)end : SIZE_MAX; }
+
 static int has_size(wkb_status status) { return status == WKB_STATUS_OK || status == WKB_STATUS_NO_ROOM; }
 
 unsigned wkb_version(void) { return WKB_VERSION; }
@@ -255,13 +258,10 @@ void wkb_column_check(const wkb_column *column, uint8_t *statuses) {
 }
 
 void wkb_column_found(const wkb_column *column, wkb_found *found, uint8_t *statuses) {
-  if (column->rows == 0) return;
+  if (found == NULL) wkb_column_check(column, statuses);
+  if (found == NULL || column->rows == 0) return;
   wkb_raw_column raw = unpacked(column);
-  if (found == NULL) {
-    wkb_raw_column_check(&raw, statuses, column->rows);
-  } else {
-    wkb_raw_column_found(&raw, found, column->rows, statuses, column->rows);
-  }
+  wkb_raw_column_found(&raw, found, column->rows, statuses, column->rows);
 }
 
 void wkb_column_bounds(const wkb_column *column, wkb_box *boxes, uint8_t *statuses) {
@@ -276,7 +276,7 @@ size_t wkb_column_parts(const wkb_column *column, wkb_part *parts, size_t room, 
   if (rows == 0) return 0;
   wkb_raw_column raw = unpacked(column);
   wkb_raw_column_parts(&raw, room == 0 ? &part_here : parts, room, ends, rows, statuses, rows);
-  return ends[rows - 1] < SIZE_MAX ? (size_t)ends[rows - 1] : SIZE_MAX;
+  return as_size(ends[rows - 1]);
 }
 
 size_t wkb_column_write(const wkb_column *column, const wkb_options *options, void *out, size_t room, uint64_t *ends,
@@ -286,7 +286,7 @@ size_t wkb_column_write(const wkb_column *column, const wkb_options *options, vo
   if (rows == 0) return 0;
   wkb_raw_column raw = unpacked(column);
   wkb_raw_column_write(&raw, options, room == 0 ? &out_here : (uint8_t *)out, room, ends, rows, statuses, rows);
-  return ends[rows - 1] < SIZE_MAX ? (size_t)ends[rows - 1] : SIZE_MAX;
+  return as_size(ends[rows - 1]);
 }
 
 wkb_status wkb_collect(const wkb_column *column, wkb_kind kind, wkb_dim dimension, const wkb_options *options,
@@ -356,7 +356,7 @@ size_t wkb_column_from_coordinates(const wkb_levels *levels, wkb_kind kind, wkb_
   wkb_raw_level_column raw = unpacked_levels(levels);
   wkb_raw_column_from_coordinates(&raw, kind, dimension, options, room == 0 ? &out_here : (uint8_t *)out, room, ends,
                                   rows, statuses, rows);
-  return ends[rows - 1] < SIZE_MAX ? (size_t)ends[rows - 1] : SIZE_MAX;
+  return as_size(ends[rows - 1]);
 }
 
 void wkb_words(const void *buf, const wkb_part *part, uint64_t first, uint64_t count, double *out) {
