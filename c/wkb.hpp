@@ -452,19 +452,15 @@ inline std::size_t width_of(wkb_dim dimension) noexcept {
 // Returns the coordinates of all rows, with the ordinates of DIMENSION.
 [[nodiscard]] inline row_coordinates coordinates_of_rows(const wkb_column &column, wkb_dim dimension) {
   row_coordinates it{statuses(column.rows), std::vector<std::uint64_t>(column.rows), {}, {}, {}};
-  const std::size_t width = width_of(dimension);
   wkb_coordinates out{};
   out.row_ends = it.row_ends.data();
-  const auto resize = [&] {
-    it.words.resize(width * out.coordinates), it.ring_ends.resize(out.rings), it.single_ends.resize(out.singles);
-  };
   wkb_column_coordinates(&column, dimension, &out, it.statuses.data());
-  resize();
+  it.words.resize(width_of(dimension) * out.coordinates);
+  it.ring_ends.resize(out.rings), it.single_ends.resize(out.singles);
   out.words = it.words.data(), out.words_room = it.words.size();
   out.ring_ends = it.ring_ends.data(), out.ring_room = it.ring_ends.size();
   out.single_ends = it.single_ends.data(), out.single_room = it.single_ends.size();
   wkb_column_coordinates(&column, dimension, &out, it.statuses.data());
-  resize();
   return it;
 }
 

@@ -76,7 +76,6 @@ void exceptions() {
     return it.status() == WKB_STATUS_SHORT_POINT && it.fault().end == 25;
   };
   throws<wkb::refused>(SAYS_CUT, [] { wkb::bounds(CUT); }, nothing, is_of_point);
-  throws<wkb::refused>(SAYS_CUT, [] { wkb::write(CUT, BIG); }, nothing, is_of_point);
   throws<wkb::refused>(SAYS_ENDED, [&] { wkb::write({}, BIG, out); }, is_left);
   throws<std::invalid_argument>(SAYS_UNKNOWN, [&] { wkb::write(POINT, {2, WKB_FORM_ISO, 0}, out); }, is_left);
   is_left();
@@ -158,7 +157,11 @@ static_assert(noexcept(wkb::check({})) && noexcept(wkb::try_bounds({})) && noexc
 static_assert(noexcept(wkb::try_write({}, BIG, std::span<std::byte>())));
 static_assert(noexcept(wkb::try_read({}, std::span<wkb_part>())));
 static_assert(noexcept(wkb::column({}, std::span<const std::int32_t>())));
-static_assert(noexcept(std::declval<wkb::part>().word(0, 0)) && noexcept(std::declval<wkb::part>().copy({})));
+static_assert(requires(const wkb::part it, const wkb::refused_of_two two, const wkb::refused_row row) {
+  requires noexcept((it.kind(), it.dimension(), it.order(), it.width(), it.size(), it.empty(), it.srid(), it.encoding(),
+                     it.entry(), it.has_coordinates(), it.word(0, 0), it.copy({}), it.begin()++, ++it.end()));
+  requires noexcept((two.status(), two.fault(), two.which(), row.row()));
+});
 
 // Offsets are those that Arrow has.
 template <typename Offset>
@@ -197,17 +200,17 @@ void levels_without_ends() {
 // Facts of rows of each sort, of no rows, and of zeros of both signs in any order.
 void facts() {
   constexpr double INFINITE = std::numeric_limits<double>::infinity();
-  const std::string zero = "0101000000" + std::string(32, '0');
+  const std::string zero = "0101000000" + std::string(32, '0'), of_zero = "010100002000000000" + zero.substr(10);
   const std::string minus = "0101000000" "0000000000000080" + zero.substr(26);
   const std::string line = "01ea03000001000000" + ONE_AND_TWO + "00000000000008c0";
   const std::string with_srid = "0101000020e6100000" + ONE_AND_TWO, of_two = "010100002002000000" + ONE_AND_TWO;
-  filled several(zero, with_srid, line, "", of_two, "02", with_srid, POINT_TEXT, POINT_TEXT);
+  filled several(of_zero, with_srid, line, "", of_two, "02", with_srid, POINT_TEXT, POINT_TEXT);
   several.offsets.back() = 1000000;
   const std::uint8_t validity[] = {0x77, 0xff};
   const auto all = wkb::facts_of_rows(several.column(validity));
   expect(all.rows == 9 && all.accepted == 5 && all.null_rows == 2 && all.refused == 1, "how many rows there are");
   expect(all.of_kind[WKB_KIND_POINT][WKB_DIM_XY] == 4 && all.of_kind[WKB_KIND_LINE_STRING][WKB_DIM_XYZ] == 1, "kinds");
-  expect(all.without_srid == 2 && all.srids == std::vector<std::uint32_t>{2, 4326}, "SRIDs");
+  expect(all.without_srid == 1 && all.srids == std::vector<std::uint32_t>{0, 2, 4326}, "SRIDs");
   expect(is_same(all.box, wkb_box{{0, 1, 5}, {0, 2, 5}, {-3, -3, 1}, {INFINITE, -INFINITE, 0}}), "the box");
   for (const auto &none : {wkb::facts_of_rows(filled("", "0201000000").column()), wkb::facts_of_rows({})})
     for (const wkb_range &it : {none.box.x, none.box.y, none.box.z, none.box.m})
