@@ -91,18 +91,15 @@ export function copyOfBytes() {
   return bytesThere.slice(at, at + (calls.wkb_size(desk, 2) >>> 0));
 }
 
-function failure(status) {
+/** Makes a call over the inputs that are there. Returns why it has no result, if it has none. */
+export function refusal(name, ...values) {
+  const status = ask(name, ...values);
+  if (status === 0) return null;
   if (status in REFUSALS) return new RangeError(REFUSALS[status]);
   const [part, offset, ...more] = factsThere;
   const [needed, has, code] = more.map((it) => it < 0 ? null : it);
   const reason = STATUSES[status] ?? 'NO_HEADER';
   return new WkbError(new TextDecoder().decode(result('bytes')), { reason, part, offset, code, needed, has });
-}
-
-/** Makes a call over the inputs that are there. Returns why it has no result, if it has none. */
-export function refusal(name, ...values) {
-  const status = ask(name, ...values);
-  return status === 0 ? null : failure(status);
 }
 
 /** Makes a call over the inputs that are there; throws if it has no result. */
