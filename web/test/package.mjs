@@ -161,19 +161,15 @@ test('by require, where Node.js has that', { skip: !process.features.require_mod
   assert.equal(createRequire(import.meta.url)('../out/package/wkb.js').check(POINT).size, 21);
 });
 
-test('a call that traps: a length that overflows', async () => {
+test('a call that traps: a product that overflows', async () => {
   const own = await import(`${DESK}?own`);
-  const write = () => own.run('wkb_write', ...own.numbered({ form: 'ewkb', srid: 1 }));
-  const long = new Uint8Array(77);
-  long.set(bytesOf('0102000020e6100000ffffff0f'));
-  const at = own.put(long);
-  // The input is said to have 4 GB, where its place is: so the size of its encoding doesn't fit 32 bits.
+  const at = own.put(new Uint8Array(77), 1);
+  // The offsets are said to have 4 GB, where their place is: so eight numbers a row are more than 32 bits count.
   const there = new Uint32Array(own.viewThere.buffer);
   there.forEach((it, i) => { if (it === 77 && there.subarray(i - 2, i).includes(at)) there[i] = 2 ** 32 - 1; });
-  assert.throws(write, (why) => why instanceof WebAssembly.RuntimeError && /unreachable/.test(why.message));
-  own.put(POINT);
-  write();
-  assert.equal(wkb.check(own.copyOf('bytes')).srid, 1);
+  const isTrap = (why) => why instanceof WebAssembly.RuntimeError && /unreachable/.test(why.message);
+  assert.throws(() => own.run('wkb_column_bounds', 4, -1), isTrap);
+  assert.equal(own.over(POINT, 'wkb_check')[4], 21);
   assert.notEqual(own.viewThere.buffer, there.buffer);
 });
 
