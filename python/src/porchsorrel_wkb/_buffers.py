@@ -45,31 +45,19 @@ WORD_SIZE = 8
 LONG = 1 << 14
 
 
-def view_of(data: Buffer) -> memoryview:
-    """Return the buffer as Python has it."""
-    buffer: Any = data
+def view_of(data: Any) -> memoryview:
+    """Return the buffer as Python has it. The error for anything else says what makes one."""
     try:
-        return memoryview(buffer)
-    except TypeError:
-        kind = type(data).__name__
-        raise TypeError(
-            f"a bytes-like object or an array is required, and not {kind!r}: numpy.asarray or array.array makes an "
-            "array of numbers, and bytes.fromhex makes bytes of hexadecimal text"
-        ) from None
+        return memoryview(data)
+    except TypeError as error:
+        hint = "bytes.fromhex makes bytes of hexadecimal text, numpy.asarray or array.array an array of numbers"
+        hint = "its attribute wkb has the bytes" if hasattr(type(data), "wkb") else hint
+        raise TypeError(f"{error}: {hint}") from None
 
 
 def bytes_in(data: Any) -> memoryview:
     """Return the bytes of a buffer; a copy of them where they aren't in one piece."""
-    try:
-        view = memoryview(data)
-    except TypeError:
-        if isinstance(data, str):
-            hint = "bytes.fromhex(text) makes one of hexadecimal text, as PostGIS prints geometries"
-            raise TypeError(f"a bytes-like object is required, not 'str': {hint}") from None
-        if hasattr(type(data), "wkb"):
-            hint = "its attribute wkb has the bytes"
-            raise TypeError(f"a bytes-like object is required, and not {type(data)!r}: {hint}") from None
-        raise
+    view = view_of(data)
     if view.c_contiguous:
         return view
     with view:

@@ -3,7 +3,7 @@
 import array
 from typing import Any, List, NamedTuple, Optional, Tuple
 
-from ._arrow import VALIDITY, WITH_ONE, Array, Schema, check_array, check_schema, expect, taken
+from ._arrow import VALIDITY, WITH_ONE, Array, Schema, check_array, expect, taken
 from ._buffers import WORD_SIZE, Buffer, has_numpy, new_numbers
 from ._enums import Dimension, Kind
 
@@ -39,7 +39,6 @@ class _Window(NamedTuple):
 
 def _check(it: _Window, children: int, buffers: range, depth: int) -> None:
     """Raise an error unless the counts fit, and no item inside a row is null."""
-    check_schema(it.schema)
     check_array(it.array, children, buffers)
     expect(it.schema.n_children == children and not it.schema.dictionary, "array has other children than its type")
     expect(it.first + it.rows <= it.array.offset + it.array.length, "array has fewer items than its lists say")

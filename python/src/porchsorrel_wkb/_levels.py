@@ -58,10 +58,10 @@ def _place(inputs: Inputs, it: Levels) -> wkb_levels:
     for offsets in it.offsets:
         ends = None
         if offsets is not None:
-            numbers = inputs.hold(inputs.hold(inputs.aligned(offsets).cast("B")).cast("q"))
+            numbers = inputs.hold(inputs.aligned(offsets).cast("B").cast("q"))
             if len(numbers) and numbers[0] != 0:
                 raise ValueError(f"the offsets of a level begin with 0, and not with {numbers[0]}")
-            ends, items = address_of(inputs.hold(numbers[1:])), max(len(numbers) - 1, 0)
+            ends, items = address_of(numbers[1:]), max(len(numbers) - 1, 0)
         placed += ends, items
     return wkb_levels(*placed, inputs.bits(it.validity, it.first + items), it.first)
 

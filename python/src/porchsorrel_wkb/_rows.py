@@ -25,10 +25,8 @@ class Pieces(NamedTuple):
 def _bytes_of_row(i: int, row: Any) -> bytes:
     try:
         return bytes(view_of(row))
-    except TypeError:
-        hint = "; bytes.fromhex(text) makes bytes of hexadecimal text" if isinstance(row, str) else ""
-        hint = "; its attribute wkb has the bytes" if hasattr(type(row), "wkb") else hint
-        raise TypeError(f"row {i} is of type {type(row).__name__}, and neither bytes nor None{hint}") from None
+    except TypeError as error:
+        raise TypeError(f"row {i} is neither bytes nor None: {error}") from None
 
 
 # The digit of a status in a bitmap.
