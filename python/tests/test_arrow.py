@@ -101,7 +101,12 @@ OF_OUTER = OF_LISTS + [
     ("array.buffers.1", (None,), WRONG),
     ("schema.format", (None, b"", b"+", b"+s", b"+w", b"z", b"+l "), OTHER),
 ]
-OF_INNER = OF_LISTS + [("schema.format", (b"+w:0", b"+w:1", b"+w:5", b"+w:-2", b"+w:", b"+l"), OTHER)]
+OF_INNER = OF_LISTS + [
+    ("array.length", (2,), WRONG), ("schema.format", (b"+w:0", b"+w:1", b"+w:5", b"+w:-2", b"+w:", b"+l"), OTHER),
+]
+OF_APART = [it for it in OF_INNER if it[0] != "schema.n_children"] + [
+    ("schema.n_children", (2,), WRONG), ("schema.n_children", (*BAD, 0, 1, 5), OTHER),
+]
 OF_NUMBERS = OF_ANY + [
     ("array.n_buffers", (1, 3), WRONG),
     ("array.length", (0, 5), WRONG),
@@ -138,6 +143,7 @@ SOURCES = [
       for make, rows in ((Arrow, OF_OFFSETS), (lambda: Arrow(b"Z"), OF_OFFSETS), (lambda: Views(ROWS, 1), OF_VIEWS))),
     *((lambda: records(Arrow()), 0, OF_RECORDS, lambda it: it, take) for take in (array, stream)),
     *((lists, depth, rows, lambda it: it, coordinates) for depth, rows in enumerate((OF_OUTER, OF_INNER, OF_NUMBERS))),
+    (lambda: Lists([(0, 1, 3)], 3 * [(1.0, 2.0, 3.0)], "xyz"), 1, OF_APART, lambda it: it, coordinates),
 ]
 
 
@@ -165,7 +171,7 @@ def changed(make, depth, to, take, *changes):
 def cases():
     """What each case is, what becomes of it, and a call that returns columns."""
     for number, (make, depth, rows, to, take) in enumerate(SOURCES):
-        yield (number, "as it is"), [0, 0] if make is lists else STATUSES, lambda: changed(make, 0, to, take)
+        yield (number, "as it is"), [0, 0] if take is coordinates else STATUSES, lambda: changed(make, 0, to, take)
         for path, values, expected in rows:
             for value in values:
                 yield (number, path, value), expected, lambda: changed(make, depth, to, take, (path, value))

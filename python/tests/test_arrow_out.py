@@ -10,7 +10,7 @@ from unittest import mock
 
 import porchsorrel_wkb as wkb
 from capsules import Again, Arrow, Array, Lists, Schema, address_of, deep, memory_of, pointers, rename
-from samples import BIG_POINT, EMPTY_POINT, ISO_POLYGON, POINT, POLYGON, ROWS, numpy, slices
+from samples import BIG_POINT, EMPTY_POINT, ISO_POLYGON, POINT, POLYGON, ROWS, geometry, numpy, slices
 from porchsorrel_wkb import Column, Dimension, Form, Kind, Order, Status, _results, column_from_coordinates
 
 try:
@@ -91,21 +91,18 @@ def asked_for(form):
 
 
 class RowsOfBytes(unittest.TestCase):
-    def setUp(self):
-        self.rows = Column.of(ROWS).write().rows
-        self.expected = [POINT, None, None, ISO_POLYGON, None]
-
     def test_sequence(self):
-        self.assertEqual((len(self.rows), list(self.rows), repr(self.rows)), (5, self.expected, "<5 encodings>"))
+        rows, expected = Column.of(ROWS).write().rows, [POINT, None, None, ISO_POLYGON, None]
+        self.assertEqual((len(rows), list(rows), repr(rows)), (5, expected, "<5 encodings>"))
         bounds = (None, *range(-6, 7))
         for i in range(-5, 5):
-            self.assertEqual(self.rows[i], self.expected[i])
+            self.assertEqual(rows[i], expected[i])
         for begin, end, step in itertools.product(bounds, bounds, (None, 1, 2, -1, -3)):
-            self.assertEqual(self.rows[begin:end:step], self.expected[begin:end:step])
+            self.assertEqual(rows[begin:end:step], expected[begin:end:step])
         for index in (5, -6):
-            self.assertRaises(IndexError, lambda: self.rows[index])
-        self.assertRaises(TypeError, lambda: self.rows["0"])
-        self.assertEqual((self.rows.index(ISO_POLYGON), None in self.rows), (3, True))
+            self.assertRaises(IndexError, lambda: rows[index])
+        self.assertRaises(TypeError, lambda: rows["0"])
+        self.assertEqual((rows.index(ISO_POLYGON), None in rows), (3, True))
         self.assertEqual(list(Column.of([]).write().rows), [])
 
     def test_many(self):
@@ -143,12 +140,13 @@ class Encodings(unittest.TestCase):
             self.assertEqual(read(it)[2], "geoarrow.wkb" if form == Form.ISO else None)
 
     def test_wide(self):
-        """From so many bytes or items on an end doesn't fit 32 bits; here from 21 bytes, or 2 coordinates, on."""
-        for most, forms in ((22, (b"z", b"+l")), (21, (b"Z", b"+l")), (2, (b"Z", b"+L"))):
+        """From so many bytes, or items of any level, on an end doesn't fit 32 bits: here 21 bytes, or 2 items."""
+        rows = LINE, part(3, 2 * [bytes(4)]), part(6, 2 * [part(3, [])])
+        for most, form, sign in ((22, b"z", b"+l"), (21, b"Z", b"+l"), (2, b"Z", b"+L")):
             with mock.patch.object(_results, "NARROW", most):
-                capsules = Column.of([POINT]).write(), Column.of([LINE]).coordinates()
-                asked = capsules[0].__arrow_c_array__(asked_for(b"z")), capsules[1].__arrow_c_array__()
-            self.assertEqual([structs_of(it)[0].format for it in asked], [*forms])
+                asked = [Column.of([row]).coordinates().__arrow_c_array__() for row in rows]
+                asked.append(Column.of([POINT]).write().__arrow_c_array__(asked_for(b"z")))
+            self.assertEqual([structs_of(it)[0].format for it in asked], [sign, sign, sign, form])
 
 
 class Released(unittest.TestCase):
@@ -223,10 +221,8 @@ class Coordinates(unittest.TestCase):
     def test_several_kinds(self):
         """Rows of several kinds, or of collections, are lists without a name."""
         for rows in ([POINT, LINE], [part(7, [POINT, LINE])], [SQUARE, part(6, [SQUARE])], []):
-            capsules = Column.of(rows).coordinates().__arrow_c_array__()
-            schema, it = structs_of(capsules)
-            self.assertIsNone(texts_of(schema)[0])
-            self.assertEqual((schema.format, len(items_of(schema, it))), (b"+l", len(rows)))
+            values, names, extension = read(Column.of(rows).coordinates())
+            self.assertEqual((extension, names[0], len(values)), (None, ("+l", ""), len(rows)))
         self.assertEqual(read(Column.of([None]).coordinates())[0], [None])
 
 
@@ -264,8 +260,9 @@ class FromGeoArrow(unittest.TestCase):
 
     def test_nulls_inside(self):
         """Items inside rows may have validity, where it says that all are there."""
-        for bits, depth in itertools.product((b"\x3f", b"\xff", b"\x05"), (1, 2, 3)):
-            source, validity = Lists([(0, 3), range(4)], [(1.0, 2.0, 3.0, 4.0, 5.0, 6.0)]), memory_of(bits)
+        together, apart = ([(1.0, 2.0, 3.0, 4.0, 5.0, 6.0)],), (2 * [(1.0, 2.0, 3.0)], "xy")
+        for bits, depth, words in itertools.product((b"\x3f", b"\xff", b"\x05"), (1, 2, 3), (together, apart)):
+            source, validity = Lists([(0, 3), range(4)], *words), memory_of(bits)
             it = deep(source, depth).array
             it.buffers[0], it.null_count = ctypes.addressof(validity), -1
             if bits != b"\x05":
@@ -290,8 +287,7 @@ class Changed(unittest.TestCase):
     """Results with other arrays in them go out only if what is shown is there."""
 
     ENCODINGS = Column.of(2 * [POINT]).write()
-    LINE_BYTES = bytes.fromhex("010200000001000000") + POINT[5:]
-    LINE = Column.of([LINE_BYTES]).coordinates()
+    LINE = Column.of([geometry(2)]).coordinates()
 
     def test_refused(self):
         offsets = ([0, 21], [0, 21, 43], [0, 22, 21], [-1, 21, 42], [1, 0, 42], [0, 2**62, 42], [])
@@ -312,22 +308,21 @@ class Changed(unittest.TestCase):
         self.assertEqual(list(Column.from_arrow(every_second).write().rows), 2 * [POINT])
         if numpy:
             turned = self.LINE._replace(coordinates=numpy.asfortranarray(numpy.array([[1.0, 2.0]])))
-            self.assertEqual(list(column_from_coordinates(Kind.LINE_STRING, turned).rows), [self.LINE_BYTES])
+            self.assertEqual(list(column_from_coordinates(Kind.LINE_STRING, turned).rows), [geometry(2)])
 
     @unittest.skipUnless(numpy, "numpy is not here")
     def test_less(self):
         """Without its z a coordinate has two numbers, and goes out as such; with other widths there is none."""
-        line = bytes.fromhex("01ea03000001000000") + POINT[5:] + bytes(8)
-        levels = Column.of([line]).coordinates(Dimension.XYZ)
-        self.assertEqual(levels.coordinates.tolist(), [[1.0, 2.0, 0.0]])
+        levels = Column.of([geometry(2, 1)]).coordinates(Dimension.XYZ)
+        self.assertEqual(levels.coordinates.tolist(), [[1.0, 2.0, 3.0]])
         flat = levels._replace(coordinates=levels.coordinates[:, :2].copy())
-        self.assertEqual(list(column_from_coordinates(Kind.LINE_STRING, flat).rows), [self.LINE_BYTES])
+        self.assertEqual(list(column_from_coordinates(Kind.LINE_STRING, flat).rows), [geometry(2)])
         wide = levels._replace(coordinates=numpy.zeros((1, 5)))
         self.assertRaisesRegex(ValueError, "5 numbers", wide.__arrow_c_array__)
 
     def test_written_later(self):
         """An array that has gone out doesn't change."""
-        written, levels = Column.of(2 * [POINT]).write(), Column.of([self.LINE_BYTES]).coordinates()
+        written, levels = Column.of(2 * [POINT]).write(), Column.of([geometry(2)]).coordinates()
         capsules, lines = written.__arrow_c_array__(), levels.__arrow_c_array__()
         written.offsets[1], written.data[0], written.statuses[0] = 2**40, 9, 16
         levels.ring_offsets[1], levels.coordinates[0] = 2**40, 7.0

@@ -110,7 +110,6 @@ class Calls(unittest.TestCase):
             self.assertEqual([str(it), str(pickle.loads(pickle.dumps(it)))], 2 * [text + end])
 
     def test_texts(self):
-        self.assertEqual(".".join(map(str, wkb.version())), wkb.__version__)
         self.assertEqual(repr(wkb.bounds(POINT).y), "Range(least=2.0, greatest=2.0, count=1)")
         text = repr(wkb.check(POLYGON))
         start = "Found(size=33, parts=2, coordinates=1, offset=13, count=1, srid=4326, kind=<Kind.POLYGON"
@@ -193,8 +192,9 @@ class Buffers(unittest.TestCase):
             lambda: Column(data, b"\0" * 7, offset_size=4),
             lambda: Column(b"", bytes(16), data, first=10**6, offset_size=8),
             lambda: Column(data, data[:16], data, offset_size=8).check(),
+            lambda: wkb.column_from_coordinates(Kind.LINE_STRING, array.array("d"), data, offset_size=8),
         )
-        for start, number in itertools.product((POINT, POINT[:-1]), range(len(of(POINT)))):
+        for start, number in itertools.product((POINT, POINT[:-1], POINT + b"..."), range(len(of(POINT)))):
             data, kept = bytearray(start), None
             try:
                 result = of(data)[number]()
