@@ -70,14 +70,14 @@ class Split(unittest.TestCase):
         rows = [POINT if i % 3 else None for i in range(20)]
         data, offsets = rows_of(*(row or b"" for row in rows))
         bits = sum((row is not None) << i for i, row in enumerate(rows)).to_bytes(3, "little")
-        for first, count in ((0, 20), (3, 9), (7, 1), (20, 0)):
+        for first, count in ((0, 20), (3, 9), (7, 1), (20, 0), (11, None)):
             column = Column(data, offsets, bits, first=first, rows=count)
             column.metadata = "{}"
             for parts in (1, 2, 3, 7, 30):
                 columns = column.split(parts)
                 self.assertEqual([it.metadata for it in columns], ["{}"] * parts)
                 self.assertEqual(sum(map(statuses, columns), []), statuses(column))
-                self.assertEqual(sum((list(it.write().rows) for it in columns), []), rows[first : first + count])
+                self.assertEqual(sum((list(it.write().rows) for it in columns), []), rows[first:][:count])
                 self.assertLess(max(map(len, columns)) - min(map(len, columns)), 2)
         for count in (0, -1):
             self.assertRaises(ValueError, column.split, count)
@@ -134,8 +134,6 @@ class Taken(unittest.TestCase):
         ):
             self.assertRaises(TypeError, Column, data, refused)
             self.assertRaises(TypeError, column_from_coordinates, Kind.LINE_STRING, coordinates, refused)
-        self.assertRaises(TypeError, Column, data, None)
-        self.assertRaises(TypeError, Column, data, memoryview(bytes(32)).cast("B", (4, 8)), offset_size=8)
 
     def test_no_rows(self):
         for offsets in (array.array("q"), array.array("q", [0])):
@@ -161,11 +159,10 @@ class Taken(unittest.TestCase):
               for first, rows in ((4, 0), (2**62, 0), (0, 2**62))),
             *(("", offsets, wrong) for wrong in ({"first": 0.5}, {"rows": "1"})),
             ("4 offsets have 3 rows: not 3 from row 1 on", offsets, {"first": 1, "rows": 3}),
+            ("4 offsets have 3 rows: not 0 from row 4 on", offsets, {"first": 4}),
             ("0 offsets have 0 rows: not 1 from row 0 on", array.array("q"), {"rows": 1}),
             ("7 bytes are after the last offset", raw[:-1], {"offset_size": 8}),
             ("format 'i' have 4 bytes: no offset_size=8", array.array("i", offsets), {"offset_size": 8}),
-            ("format 'q' have 8 bytes: no offset_size=4", offsets, {"offset_size": 4}),
-            ("format 'f' are not 32-bit or 64-bit numbers", array.array("f", offsets), {"offset_size": 4}),
             ("raw bytes need offset_size=4 or offset_size=8, and not None", raw, {}),
             ("raw bytes need offset_size=4 or offset_size=8, and not 2", raw, {"offset_size": 2}),
             ("one dimension, and not 2", memoryview(raw).cast("B", (4, 8)), {"offset_size": 8}),
@@ -231,16 +228,13 @@ class Levels(unittest.TestCase):
             (TypeError, "format 'B' are not 64-bit floats", (1, bytes(16)), {}),
             (ValueError, r"shape \(1, 2\) have not 3 numbers", (1, memoryview(POINT[5:]).cast("d", (1, 2))),
              {"dimension": Dimension.XYZ}),
-            (TypeError, "format 'q' are not 64-bit floats", (1, array.array("q", [1, 2])), {}),
             (ValueError, r"shape \(1, 1, 2\) have not 2 numbers",
              (1, memoryview(POINT[5:]).cast("d", (1, 1, 2))), {}),
             (ValueError, "begin with 0, and not with 1", (2, numbers, array.array("q", [1])), {}),
-            (ValueError, "4 bytes are after the last offset", (2, numbers, bytes(20)), {"offset_size": 8}),
             (ValueError, "0 bytes of validity hold fewer than 1 bits", (1, numbers), {"validity": b""}),
             (ValueError, "hold fewer than 9 bits", (1, numbers), {"validity": b"\xff", "validity_offset": 8}),
             (TypeError, "is not bits in bytes", (1, numbers), {"validity": numbers}),
             (ValueError, "can't be negative", (1, numbers), {"validity_offset": -1}),
-            (TypeError, "", (1, [1.0, 2.0]), {}),
         ):
             with self.assertRaisesRegex(error, text):
                 column_from_coordinates(*arguments, **options)
