@@ -1,5 +1,5 @@
-"""The first inputs of each target, in FOLDER/TARGET_seed_corpus.zip: those made of c/test/lasting.rows, levels that fit
-each kind, and the few of found.rows, which reach the other blocks of the assembly that runs of twelve minutes reached.
+"""The first inputs of each target, in FOLDER/TARGET: those made of c/test/lasting.rows, levels that fit each kind, and
+the few of found.rows, which reach the other blocks of the assembly that runs of twelve minutes reached.
 
     python3 seeds.py FOLDER
 """
@@ -7,7 +7,6 @@ import pathlib
 import random
 import struct
 import sys
-import zipfile
 
 HERE = pathlib.Path(__file__).resolve().parent
 
@@ -56,9 +55,9 @@ def main(folder):
         target, data = line.split(" ")
         first[target].append(bytes.fromhex(data))
     for target, inputs in first.items():
-        with zipfile.ZipFile(folder / f"{target}_seed_corpus.zip", "w") as file:
-            for number, data in enumerate(inputs):
-                file.writestr(f"{number:04}", data)
+        (folder / target).mkdir(parents=True)
+        for number, data in enumerate(inputs):
+            (folder / target / f"{number:04}").write_bytes(data)
 
 
 main(pathlib.Path(sys.argv[1]))
