@@ -11,7 +11,7 @@ ROOT = pathlib.Path(__file__).resolve().parent.parent
 # What a build makes, and what a checkout keeps beside its files.
 NOT_OURS = {".git", "out", "build", "target", "__pycache__", "wkb.so", "wkb_postgres.o"}
 # The folders of our scripts.
-OURS = r"(?:\.ci|bench|c|checks|crates|docs|edits|examples|postgres|python|rust|sqlite|tools|web)"
+OURS = r"(?:\.ci|bench|c|checks|crates|docs|examples|postgres|python|rust|sqlite|tools|web)"
 SPAN = re.compile(r"`([^`\n]+)`")
 # What a command without `$ ` may begin with, besides a file.
 TOOLS = "cd cc ldconfig rt make printf python3 pip".split()

@@ -8,7 +8,7 @@ use `wkb_dump` are skipped if that can't be built.
 
 A command without `$ ` isn't run, unless it runs the program: the page then has its output in backticks. Code between
 lines ```rust, ```antt, ```c, ```cpp, ```python or ```sql and ``` has to be, piece by piece, in the SOURCES below, which
-are compiled and run elsewhere. An edit that a page shows has to be one of the repository.
+are compiled and run elsewhere; web/run runs that in ```js. An edit that a page shows has to be one of the repository.
 """
 import functools
 import os
@@ -35,13 +35,12 @@ SOURCES = {
     "c": ["c/examples/*.c", "docs/START_C.md"],
     "cpp": ["c/examples/example.cpp"],
     "python": ["c/examples/*.py", "python/**/*.py", "examples/*.py", "docs/START_PYTHON.md", "README.md"],
-    "js": ["web/README.md"],
     "sql": ["sqlite/queries.sql", "postgres/queries.sql", "docs/START_SQL.md"],
 }
 # Whose examples are proved nowhere.
 SKETCHED = ["crates/wkb/src/check.rt", "crates/wkb/src/lib.rt"]
-# The program as such commands run it: in its folder, or at the top.
-RUNS = re.compile(r"\(cd crates/wkb_hex && rt try -- (\S+) < \.\./\.\./(\S+)\)|\./wkb_hex (\S+) < (\S+)$")
+# The program as such commands run it.
+RUNS = re.compile(r"\./wkb_hex (\S+) < (\S+)$")
 # With the kit these commands build and test everything, and README names them.
 KIT = "./wkb_hex be < examples/point.hex", "rt ci"
 
@@ -116,7 +115,7 @@ def code_of(language):
 
 def lost_pieces(page):
     """The pieces of the code on a page, from one empty line to the next, that are in no source; and lost edits."""
-    unknown = {*re.findall(r"(?m)^```(\w+)$", text_of(page))} - {*SOURCES, "console", "text", "toml"}
+    unknown = {*re.findall(r"(?m)^```(\w+)$", text_of(page))} - {*SOURCES, "console", "js", "text", "toml"}
     yield from (f"{page}: nothing is known of {it}" for it in unknown)
     for language in SOURCES:
         blocks = text_of(page).split(f"```{language}\n")[1:]
@@ -145,9 +144,9 @@ def flat(text):
 def lost_runs(page):
     """The commands without `$ ` that run the program, and print what the page doesn't have."""
     for number, command, expected in commands(page):
-        ran = RUNS.search(command) if expected is None else None
+        ran = RUNS.match(command) if expected is None else None
         if ran:
-            word, file = [it for it in ran.groups() if it]
+            word, file = ran.groups()
             text = text_of(file) if (ROOT / file).is_file() else ""
             printed = run_program([word], text).stdout.decode().strip()
             if not text or f"`{printed}`" not in text_of(page):

@@ -66,10 +66,9 @@ class Clauses:
         """The labels of all that these crates have."""
         return set().union(*(labels for it in crates for labels in self.labels[it].values()))
 
-    def is_name(self, name, crates=()):
+    def is_name(self, name):
         """Whether something that may have clauses has this name."""
-        name = name.split("::")[-1]
-        return any(name in self.labels[it] for it in crates or list(self.labels))
+        return any(name.split("::")[-1] in labels for labels in self.labels.values())
 
 
 def said_of(part):

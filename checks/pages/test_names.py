@@ -1,8 +1,8 @@
 """Looks up the paths of files and of code in backticks on every page, and those that a picture has as code.
 
 A path of files, or a pattern of some, also as a word of a command, is that of files that git knows: from the top, from
-docs/, edits/ or c/, or in a crate. The names of a path of code, as `a::b`, have to be words of a source. In
-ARCHITECTURE's tables of files and calls each call is defined in the file beside it.
+docs/ or c/, or in a crate. The names of a path of code, as `a::b`, have to be words of a source. In ARCHITECTURE's
+tables of files and calls each call is defined in the file beside it.
 """
 import functools
 import glob
@@ -27,9 +27,9 @@ CODES = "crates/*/src/**/*.rt", "crates/*/specs/**/*.antt", "rust/src/**/*.rs", 
 
 @functools.lru_cache(maxsize=None)
 def words():
-    """The words of the code, and of the paths of it and its proofs; and those that stand for a name of the reader's."""
+    """The words of the code, and of the paths of it and its proofs."""
     code = [*texts(*CODES).values(), *paths("crates/*/*/**/*.*t")]
-    return {"MODULE", "TEST", *re.findall(r"\w+", "\n".join(code))}
+    return {*re.findall(r"\w+", "\n".join(code))}
 
 
 def is_named(path):
@@ -45,7 +45,7 @@ def known():
 
 def is_there(path):
     """Whether git knows a path with slashes, from one of these places, or it is one that something else makes."""
-    places, ends = ("", "crates", "crates/*", "crates/*/src", "docs", "edits", "c"), ("", ".*")
+    places, ends = ("", "crates", "crates/*", "crates/*/src", "docs", "c"), ("", ".*")
     of = PLACES.sub("*", path.rstrip("/"))
     found = (it for place in places for end in ends for it in glob.glob(str(ROOT / place / of) + end))
     return path in MADE_PATHS or not known().isdisjoint(found)

@@ -32,11 +32,12 @@ def cells_of(table, column):
 
 
 def wrong_times():
-    """How many times as fast README says the bounds are, if that isn't what the bars show."""
-    text = text_of("README.md")
-    drawn = re.findall(r'<text x="20" y="\d+">([^<]+)<', text_of("docs/pictures/speed.svg"))
+    """How many times as fast README says the bounds are, if that isn't what the bars show; and bars of other times."""
+    text, picture = text_of("README.md"), text_of("docs/pictures/speed.svg")
+    drawn = re.findall(r'<text x="20" y="\d+">([^<]+)<', picture)
     for name in ("OGR", "GEOS"):
         ratios = [float(cell) for row, cell in cells_of(TIMES, name).items() if row in drawn]
+        yield from (f"speed.svg: no bar is {it:.1f} {name}" for it in ratios if f">{it:.1f} {name}<" not in picture)
         meant = f"{min(ratios):.0f} to {max(ratios):.0f} times as fast as by {name}"
         if meant not in text:
             yield f"README.md: by {SPEED} it is {meant}"
