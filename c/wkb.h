@@ -340,15 +340,15 @@ void wkb_column_check(const wkb_column *column, uint8_t *statuses);
 /** Validates each row as wkb_check() does, and finds what its geometry is. No row stops the others.
  *
  * @param column         the rows; not null
- * @param[out] found     an entry a row: what wkb_check() finds, or all zeros if the row's status isn't WKB_STATUS_OK;
- *                       may be null
+ * @param[out] found     one entry per row: what wkb_check() finds, or all zeros if the row's status isn't
+ *                       WKB_STATUS_OK; may be null
  * @param[out] statuses  one byte per row, as for wkb_column_check(); may be null if there are no rows */
 void wkb_column_found(const wkb_column *column, wkb_found *found, uint8_t *statuses);
 
 /** Computes the bounds of each row as wkb_bounds() does. No row stops the others.
  *
  * @param column         the rows; not null
- * @param[out] boxes     an entry a row: its bounds, or those of a geometry without coordinates if the row's status
+ * @param[out] boxes     one entry per row: its bounds, or those of a geometry without coordinates if the row's status
  *                       isn't WKB_STATUS_OK; may be null if there are no rows
  * @param[out] statuses  one byte per row, as for wkb_column_check(); may be null if there are no rows */
 void wkb_column_bounds(const wkb_column *column, wkb_box *boxes, uint8_t *statuses);

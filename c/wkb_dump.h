@@ -50,8 +50,8 @@ typedef struct wkb_dump_walk {
 int wkb_dump(const void *buf, size_t len, const wkb_dump_options *options, wkb_dump_put *put, void *to,
              wkb_dump_walk *walk);
 
-/* Returns what an input is that wkb_check has rejected with this fault, if it is none of WKB from its first bytes on but
- * text, the blob of a GeoPackage or one of SpatiaLite: words that follow those of the fault. Else "". */
+/* Returns what an input that wkb_check has rejected with this fault is by its first bytes, if that is text, the blob of
+ * a GeoPackage or one of SpatiaLite: words that follow those of the fault. Else "". */
 const char *wkb_dump_other(const wkb_fault *fault, const void *buf, size_t len);
 
 /* The header that a GeoPackage has before the geometry of a blob: OGC 12-128r18, clause 2.1.3. */

@@ -13,8 +13,8 @@
 
 namespace wkb {
 
-// The facts of a column. Rows are counted by their status: an accepted row is one whose status is WKB_STATUS_OK, and the
-// rest of the facts is about these rows alone.
+// The facts of a column. Rows are counted by their status: an accepted row is one whose status is WKB_STATUS_OK, and
+// the rest of the facts is about these rows alone.
 struct column_facts {
   std::size_t rows = 0, accepted = 0, null_rows = 0, refused = 0;
   // The number of rows of a kind and a dimension, by their numbers: of_kind[WKB_KIND_POINT][WKB_DIM_XYZ].
@@ -23,7 +23,7 @@ struct column_facts {
   // don't count.
   std::size_t without_srid = 0;
   std::vector<std::uint32_t> srids{};
-  // The bounds of all rows together. The range of an ordinate that no row has is that of a geometry without coordinates.
+  // The bounds of all rows together. An ordinate that no row has has the range of a geometry without coordinates.
   wkb_box box{};
 };
 

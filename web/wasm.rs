@@ -17,8 +17,8 @@ use porchsorrel_wkb::reader::Dimension;
 use porchsorrel_wkb::writer::{Form, WriteOptions};
 use porchsorrel_wkb::{AllocError, Endianness};
 
-/// Why a call has no result: a number, which refused bytes have of `Status`, a text, and the numbers of part, offset,
-/// bytes needed, bytes there, and code.
+/// Why a call has no result: a number, of rejected bytes that of their `Status`; a text; and part, offset, bytes needed,
+/// bytes there and code, each `NONE` where it has none.
 struct Failure(u32, String, [f64; 5]);
 
 const NONE: f64 = -1.0;
@@ -146,7 +146,7 @@ pub extern "C" fn wkb_desk() -> Box<Desk> {
     Box::default()
 }
 
-/// Where the so many bytes of an input are to be put; null without memory.
+/// Makes room for so many bytes of an input, and returns where they are to be put; null without memory.
 #[no_mangle]
 pub extern "C" fn wkb_input(desk: &mut Desk, which: usize, length: usize) -> *mut u8 {
     let input = &mut desk.inputs[which];
@@ -157,13 +157,13 @@ pub extern "C" fn wkb_input(desk: &mut Desk, which: usize, length: usize) -> *mu
     input.as_mut_ptr()
 }
 
-/// Where a result is.
+/// Returns where a result is.
 #[no_mangle]
 pub extern "C" fn wkb_place(desk: &Desk, which: usize) -> *const u8 {
     desk.results.at(which).0
 }
 
-/// How many items a result has.
+/// Returns how many items a result has.
 #[no_mangle]
 pub extern "C" fn wkb_size(desk: &Desk, which: usize) -> usize {
     desk.results.at(which).1
@@ -202,7 +202,7 @@ calls! {
         made.map_err(|_| check(&inputs[0]).err().map_or(NO_MEMORY, Failure::from))
     }
 
-    /// Whether two inputs have one value.
+    /// Tells 1 if two inputs have one value, and else 0.
     wkb_equal(inputs, out) {
         check(&inputs[0])?;
         check(&inputs[1])?;

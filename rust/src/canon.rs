@@ -22,7 +22,8 @@ use crate::wkb_rewrite::{lay_encoding, lay_one_piece, lay_polygon, size_with_own
 use crate::writer::{Form, WriteOptions};
 use alloc::vec::Vec;
 
-/// What [`canonical`] returns, in a vector that keeps its memory for the next input. Of rejected bytes it is empty.
+/// Puts what [`canonical`] returns into a vector, which keeps its memory for the next input. Rejected bytes leave it
+/// empty.
 ///
 /// # Errors
 ///

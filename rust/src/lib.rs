@@ -58,7 +58,7 @@ pub use rt::io;
 pub use rt::{AllocError, TryClone};
 pub use wkb::Endianness;
 
-/// The check: whether a geometry is at the start of some bytes, what it is and where it ends, and its bounds. Nothing is
+/// The check: whether a geometry is at the start of some bytes, what it is, where it ends, and its bounds. Nothing is
 /// allocated.
 ///
 /// ```

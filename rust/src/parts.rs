@@ -64,7 +64,7 @@ impl Part {
     }
 }
 
-/// The parts of the geometry at the start of the bytes. Bytes after it are not looked at.
+/// Lists the parts of the geometry at the start of the bytes. Bytes after it are not looked at.
 ///
 /// A table takes 64 bytes a part while it is made, beside the one that is returned.
 ///
@@ -80,8 +80,8 @@ pub fn parts(bytes: &[u8]) -> WkbResult<Vec<Part>> {
     Ok(table)
 }
 
-/// The parts before the rejected one, in the same order. What such a part has inside isn't known, so that it ends where its
-/// rings or members begin, and the next part is the one behind it.
+/// Lists the parts before the rejected one, in the same order. What is inside such a part isn't known, so it ends where
+/// its rings or members begin, and the next part is the one behind it.
 ///
 /// ```
 /// use porchsorrel_wkb::{check::check, parts::parts_before};

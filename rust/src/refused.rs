@@ -7,15 +7,15 @@ use crate::wkb_abi::fault::status_of_cause;
 use core::fmt;
 
 impl Refused {
-    /// What is wrong, as the status of a row.
+    /// Returns what is wrong, as the status of a row.
     #[must_use]
     pub fn status(&self) -> Status {
         Status::of(status_of_cause(self.cause))
     }
 
-    /// Where the input ends inside the coordinates of the part: how many bytes the part needs, and how many there are
-    /// from its first one on. A stream may wait for the rest. Of an input that ends inside a header or before a count,
-    /// which [`Status::is_short`] is true of as well, there are no such numbers.
+    /// Returns how many bytes the part needs, and how many there are from its first one on, if the input ends inside
+    /// its coordinates: a stream may wait for the rest. None for any other fault, also if the input ends inside a
+    /// header or before a count, of which [`Status::is_short`] is true, too.
     #[must_use]
     pub fn ends(&self) -> Option<(u64, usize)> {
         match self.cause {

@@ -121,7 +121,7 @@ pub(crate) use try_vec;
 /// The calls of `CoordTrait` that have a default.
 macro_rules! coord_calls {
     () => {
-        /// The word at an index.
+        /// Returns the word at an index.
         ///
         /// # Panics
         ///
@@ -130,42 +130,42 @@ macro_rules! coord_calls {
         fn word_at(&self, n: usize) -> u64 {
             self.nth_word(n).expect("an index below the number of words")
         }
-        /// The first word.
+        /// Returns the first word.
         #[inline]
         fn x_word(&self) -> u64 {
             self.word_at(0)
         }
-        /// The second word.
+        /// Returns the second word.
         #[inline]
         fn y_word(&self) -> u64 {
             self.word_at(1)
         }
-        /// The first two words.
+        /// Returns the first two words.
         #[inline]
         fn x_y_words(&self) -> (u64, u64) {
             (self.x_word(), self.y_word())
         }
-        /// The number at an index, if there is one: x, y, and then z, m or both.
+        /// Returns the number at an index, if there is one: x, y, and then z, m or both.
         #[inline]
         fn nth(&self, n: usize) -> Option<f64> {
             self.nth_word(n).map(f64::from_bits)
         }
-        /// The number at an index.
+        /// Returns the number at an index.
         #[inline]
         fn nth_or_panic(&self, n: usize) -> f64 {
             f64::from_bits(self.word_at(n))
         }
-        /// The first number.
+        /// Returns the first number.
         #[inline]
         fn x(&self) -> f64 {
             f64::from_bits(self.x_word())
         }
-        /// The second number.
+        /// Returns the second number.
         #[inline]
         fn y(&self) -> f64 {
             f64::from_bits(self.y_word())
         }
-        /// The first two numbers.
+        /// Returns the first two numbers.
         #[inline]
         fn x_y(&self) -> (f64, f64) {
             (self.x(), self.y())
@@ -177,7 +177,7 @@ pub(crate) use coord_calls;
 /// The call of `LineStringTrait` that has a default.
 macro_rules! line_calls {
     () => {
-        /// The coordinate at an index.
+        /// Returns the coordinate at an index.
         ///
         /// # Panics
         ///
@@ -228,7 +228,7 @@ pub mod io {
     pub type Result<T> = core::result::Result<T, Error>;
 
     impl Error {
-        /// Its kind.
+        /// Returns its kind.
         #[must_use]
         pub fn kind(&self) -> ErrorKind {
             self.0

@@ -11,7 +11,7 @@ use alloc::alloc::{handle_alloc_error, Layout};
 macro_rules! coords {
     ($($view:ident)*) => {$(
         impl<'a> $view<'a> {
-            /// The coordinates, in order.
+            /// Gives the coordinates, in order.
             #[inline]
             pub fn coords(&self) -> impl DoubleEndedIterator<Item = Coord<'a>> + ExactSizeIterator + 'a {
                 let (order, dimension) = (self.byte_order(), self.dimension());
@@ -37,11 +37,11 @@ macro_rules! parts {
 }
 
 parts! {
-    Polygon: interiors by interior below num_interiors, LinearRing<'a>, "The rings behind the exterior, in order.";
-    MultiPoint: points by point below num_points, Point<'a>, "The points, in order.";
+    Polygon: interiors by interior below num_interiors, LinearRing<'a>, "Gives the interiors, in order.";
+    MultiPoint: points by point below num_points, Point<'a>, "Gives the points, in order.";
     MultiLineString: line_strings by line_string below num_line_strings, LineString<'a>,
-        "The line strings, in order.";
-    MultiPolygon: polygons by polygon below num_polygons, &'_ Polygon<'a>, "The polygons, in order.";
+        "Gives the line strings, in order.";
+    MultiPolygon: polygons by polygon below num_polygons, &'_ Polygon<'a>, "Gives the polygons, in order.";
 }
 
 macro_rules! clones {
@@ -58,13 +58,13 @@ macro_rules! clones {
 clones! { Polygon MultiLineString MultiPolygon GeometryCollection Wkb }
 
 impl Range {
-    /// The least number; infinity where there is none.
+    /// Returns the least number; infinity where there is none.
     #[must_use]
     pub fn min(&self) -> f64 {
         f64::from_bits(self.least)
     }
 
-    /// The greatest number; minus infinity where there is none.
+    /// Returns the greatest number; minus infinity where there is none.
     #[must_use]
     pub fn max(&self) -> f64 {
         f64::from_bits(self.greatest)
@@ -87,7 +87,7 @@ impl Default for Bounds {
 }
 
 impl Bounds {
-    /// The bounds of two geometries together.
+    /// Returns the bounds of two geometries together.
     #[must_use]
     pub fn union(self, other: Bounds) -> Bounds {
         let (x, y) = (self.x.union(other.x), self.y.union(other.y));

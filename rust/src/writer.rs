@@ -38,7 +38,7 @@ impl<W: io::Write> Sink for W {
         }
     }
 
-    /// False: a writer doesn't tell. An [`Out`] over it does.
+    /// Returns false: a writer doesn't tell. An [`Out`] over it does.
     fn failed(&self) -> bool {
         false
     }

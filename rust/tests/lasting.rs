@@ -1,6 +1,6 @@
 // SPDX-License-Identifier: MIT OR Apache-2.0
-//! The inputs of c/test/lasting.rows: one by one, by each way of writing, and as a column with null rows; and with faults,
-//! where each target has to answer alike.
+//! The inputs of c/test/lasting.rows: one by one, by each way of writing, and as a column with null rows; and with
+//! faults, where each target has to answer alike.
 use porchsorrel_wkb::canon::{canonical, canonical_into, canonical_with_srid, same};
 use porchsorrel_wkb::check::{bounds, check, Bounds, Cause, Refused, Summary, WkbType};
 use porchsorrel_wkb::columns::*;
@@ -303,8 +303,8 @@ fn hostile(rows: &[Row], state: &mut u64) -> Vec<u8> {
     input
 }
 
-/// Inputs with faults, each by one of the options and under one dimension: what is rewritten is what a view and a column
-/// write. checks/systems/targets_test compares the sums of all answers between targets.
+/// Inputs with faults, each by one of the options and under one dimension: what is rewritten is what a view and a
+/// column write. checks/systems/targets_test compares the sums of all answers between targets.
 #[test]
 fn hostile_inputs() {
     let (rows, mut state, mut sum) = (rows(), 1, 0);

@@ -110,8 +110,8 @@ fn hostile_counts_take_little() {
     assert!(taken(keeps, &long(&[head(2, 0)])) < 100);
 }
 
-/// Where `usize` has 32 bits: a line string of a gigabyte, of which calls make as many bytes; and no call finds room for
-/// them where little is left, or for more than there can be.
+/// Where `usize` has 32 bits: a line string of a gigabyte, of which calls make as many bytes; and no call finds room
+/// for them where little is left, or for more than there can be.
 #[cfg(target_pointer_width = "32")]
 #[test]
 #[ignore = "it takes two gigabytes"]

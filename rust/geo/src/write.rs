@@ -13,16 +13,16 @@ use porchsorrel_wkb::{writer, AllocError, Endianness};
 use std::io::Write;
 use writer::WriteOptions;
 
-/// Writes a geometry, once all of it is encoded. A line is written as a line string; a triangle as a polygon that ends as
-/// it begins; a rectangle as a polygon in x and y, from its least corner on to that of the greatest y. Coordinates of
-/// two, three or four words without names are XY, XYZ or XYZM.
+/// Writes a geometry, once all of it is encoded. A line is written as a line string; a triangle as a polygon that ends
+/// as it begins; a rectangle as a polygon in x and y, from its least corner on to that of the greatest y. Coordinates
+/// of two, three or four words without names are XY, XYZ or XYZM.
 ///
 /// # Errors
 ///
 /// For the first part that can't be written: `General(UnsupportedDimensions)`, where a geometry or a coordinate has so
-/// many words, and no dimension with a name; `IncorrectType`, where a coordinate, a ring or a member of a multi geometry
-/// has another dimension than the whole; `NestingDepthExceeded`, where more than 128 collections are inside one another;
-/// `OverflowError`, where a count doesn't fit 32 bits; `Memory`. Where the writer fails: `IOError`.
+/// many words, and no dimension with a name; `IncorrectType`, where a coordinate, a ring or a member of a multi
+/// geometry has another dimension than the whole; `NestingDepthExceeded`, where more than 128 collections are inside
+/// one another; `OverflowError`, where a count doesn't fit 32 bits; `Memory`. Where the writer fails: `IOError`.
 pub fn write_geometry(
     writer: &mut impl Write,
     geometry: &impl GeometryTrait<T = f64>,

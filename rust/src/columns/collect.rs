@@ -49,9 +49,9 @@ impl From<AllocError> for NotCollected {
 }
 
 impl Column<'_> {
-    /// The one encoding under the options of the geometry of this type whose members are the geometries of all rows in
-    /// order. Of a row only the value counts: its byte order and its SRID don't matter. A collection takes rows of any
-    /// type.
+    /// Returns the one encoding under the options of the geometry of this type whose members are the geometries of all
+    /// rows in order. Of a row only the value counts: its byte order and its SRID don't matter. A collection takes rows
+    /// of any type.
     ///
     /// # Errors
     ///

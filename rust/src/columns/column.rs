@@ -22,39 +22,39 @@ use core::ops::Range;
 pub struct Column<'a>(Raw<'a>);
 
 impl<'a> Column<'a> {
-    /// A column with offsets of 32 bits in the machine's order, as the bytes of Arrow's buffer, which aren't copied.
-    /// There is one offset more than there are rows. Numbers become such bytes by `to_ne_bytes`.
+    /// Makes a column with offsets of 32 bits in the machine's order, as the bytes of Arrow's buffer, which aren't
+    /// copied. There is one offset more than there are rows. Numbers become such bytes by `to_ne_bytes`.
     pub fn binary(data: &'a [u8], offsets: &'a [u8]) -> Self {
         Column(Raw { bytes: data, offsets, offset_size: 4, validity: &[], validity_offset: 0 })
     }
 
-    /// A column with offsets of 64 bits.
+    /// Makes a column with offsets of 64 bits.
     pub fn large_binary(data: &'a [u8], offsets: &'a [u8]) -> Self {
         Column(Raw { offset_size: 8, ..Column::binary(data, offsets).0 })
     }
 
-    /// The same column with a validity bitmap, least significant bit first, 0 for a null row. The first row's bit is
-    /// `first`. None if there are fewer bits than rows.
+    /// Returns the same column with a validity bitmap, least significant bit first, 0 for a null row. The first row's
+    /// bit is `first`. None if there are fewer bits than rows.
     #[must_use]
     pub fn with_validity(self, bits: &'a [u8], first: usize) -> Option<Self> {
         let has_all = first.checked_add(self.len())? <= bits.len().saturating_mul(8);
         has_all.then_some(Column(Raw { validity: bits, validity_offset: first, ..self.0 }))
     }
 
-    /// How many rows there are.
+    /// Returns how many rows there are.
     #[must_use]
     pub fn len(&self) -> usize {
         (self.0.offsets.len() / self.0.offset_size).saturating_sub(1)
     }
 
-    /// Whether there is no row.
+    /// Tells whether there is no row.
     #[must_use]
     pub fn is_empty(&self) -> bool {
         self.len() == 0
     }
 
-    /// The rows of a range as a column. A row that begins before the end of an earlier one has bad offsets in columns
-    /// that have both.
+    /// Returns the rows of a range as a column. A row that begins before the end of an earlier one has bad offsets in
+    /// columns that have both.
     ///
     /// # Panics
     ///
@@ -67,7 +67,8 @@ impl<'a> Column<'a> {
         Column(Raw { offsets, validity_offset: validity_offset + rows.start, ..self.0 })
     }
 
-    /// The column as so many [slices](Column::slice) of about as many rows, one after another: threads can share them.
+    /// Splits the column into so many [slices](Column::slice) of about as many rows each, in order: threads can share
+    /// them.
     ///
     /// ```
     /// use porchsorrel_wkb::columns::{Facts, Rows};
@@ -84,7 +85,7 @@ impl<'a> Column<'a> {
     ///
     /// # Panics
     ///
-    /// If there should be none.
+    /// If `columns` is 0.
     pub fn split(&self, columns: usize) -> impl DoubleEndedIterator<Item = Column<'a>> + ExactSizeIterator {
         assert!(columns > 0, "rows have to be in a column");
         let (whole, each, longer) = (*self, self.len() / columns, self.len() % columns);
@@ -92,37 +93,37 @@ impl<'a> Column<'a> {
         (0..columns).map(move |column| whole.slice(begin(column)..begin(column + 1)))
     }
 
-    /// The bytes of each row, or the status of a row without bytes: it is null, or has bad offsets.
+    /// Gives the bytes of each row, or the status of a row without bytes: it is null, or has bad offsets.
     pub fn rows(&self) -> impl ExactSizeIterator<Item = Result<&'a [u8], Status>> {
         let (column, mut reach) = (self.0, 0);
         (0..self.len()).map(move |i| column.row(i, &mut reach).map_err(Status::of))
     }
 
-    /// What [`check`](crate::check::check) finds of each row, or its status.
+    /// Gives what [`check`](crate::check::check) finds of each row, or its status.
     pub fn found(&self) -> impl ExactSizeIterator<Item = Result<Summary, Status>> + 'a {
         self.rows().map(|row| row.and_then(geometry).map(|(_, found)| found))
     }
 
-    /// The status of each row: whether it is a geometry, as [`check`](crate::check::check) finds it.
+    /// Returns the status of each row: whether it is a geometry, as [`check`](crate::check::check) finds it.
     pub fn check(&self) -> Result<Vec<Status>, AllocError> {
         let mut statuses = try_filled(0, self.len())?;
         wkb_raw_column_check(&self.0, &mut statuses);
         Ok(Status::all(statuses))
     }
 
-    /// What [`bounds`](crate::check::bounds) finds of each row: the bounds of no coordinate where it has none.
+    /// Returns what [`bounds`](crate::check::bounds) finds of each row: the bounds of no coordinate where it has none.
     pub fn bounds(&self) -> Result<(Vec<Bounds>, Vec<Status>), AllocError> {
         let (mut boxes, mut statuses) = (try_filled(Bounds::empty(), self.len())?, try_filled(0, self.len())?);
         wkb_raw_column_bounds(&self.0, &mut boxes, &mut statuses);
         Ok((boxes, Status::all(statuses)))
     }
 
-    /// What [`canonical`](crate::canon::canonical) makes of each row.
+    /// Returns what [`canonical`](crate::canon::canonical) makes of each row.
     pub fn write(&self, options: &WriteOptions) -> Result<Encodings, AllocError> {
         self.write_by(|_| *options)
     }
 
-    /// What [`canonical_with_srid`](crate::canon::canonical_with_srid) makes of each row.
+    /// Returns what [`canonical_with_srid`](crate::canon::canonical_with_srid) makes of each row.
     pub fn write_with_srids(&self, order: Endianness) -> Result<Encodings, AllocError> {
         self.write_by(|found| WriteOptions { endianness: order, form: Form::Ewkb { srid: found.srid } })
     }
@@ -143,8 +144,8 @@ impl<'a> Column<'a> {
         Ok(Encodings { data, ends, statuses })
     }
 
-    /// The coordinates of each row. Words that the dimension doesn't name are left out, and a word that a geometry
-    /// doesn't have is a NaN.
+    /// Returns the coordinates of each row. Words that the dimension doesn't name are left out, and a word that a
+    /// geometry doesn't have is a NaN.
     pub fn coordinates(&self, dimension: Dimension) -> Result<Coordinates, AllocError> {
         let (mut row_ends, mut statuses) = (try_filled(0, self.len())?, try_filled(0, self.len())?);
         let asked = dimension.thousands();
@@ -180,7 +181,7 @@ pub struct Rows {
 }
 
 impl Rows {
-    /// A copy of the rows; None is a null row.
+    /// Copies the rows; None is a null row.
     pub fn of<R: AsRef<[u8]>>(rows: impl IntoIterator<Item = Option<R>>) -> Result<Rows, AllocError> {
         let mut made = Rows { data: Vec::new(), offsets: try_filled(0, 8)?, validity: Vec::new() };
         for (row, bytes) in rows.into_iter().enumerate() {
@@ -194,7 +195,7 @@ impl Rows {
         Ok(made)
     }
 
-    /// The rows as a column.
+    /// Returns the rows as a column.
     pub fn column(&self) -> Column<'_> {
         Column(Raw { validity: &self.validity, ..Column::large_binary(&self.data, &self.offsets).0 })
     }
@@ -212,7 +213,7 @@ pub struct Encodings {
 }
 
 impl Encodings {
-    /// The encoding of a row, where it has one.
+    /// Returns the encoding of a row, where it has one.
     ///
     /// # Panics
     ///
@@ -223,7 +224,7 @@ impl Encodings {
         self.statuses[row].is_ok().then(|| &self.data[begin as usize..self.ends[row] as usize])
     }
 
-    /// The encoding of each row, where it has one.
+    /// Gives the encoding of each row, where it has one.
     pub fn rows(&self) -> impl ExactSizeIterator<Item = Option<&[u8]>> {
         (0..self.ends.len()).map(move |row| self.row(row))
     }

@@ -51,8 +51,8 @@ impl Facts {
         Ok(())
     }
 
-    /// Adds an SRID behind the others. Where there is no room, they are put in order first, and room is made for as many
-    /// as these are: so that the time for each doesn't grow with their number.
+    /// Adds an SRID behind the others. Where there is no room, they are put in order first, and room is made for as
+    /// many as these are: so that the time for each doesn't grow with their number.
     fn add_srid(&mut self, srid: u32) -> Result<(), AllocError> {
         if self.srids.last() != Some(&srid) {
             if self.srids.len() == self.srids.capacity() {
@@ -73,7 +73,7 @@ impl Facts {
 }
 
 impl Column<'_> {
-    /// What occurs in the rows. Memory is taken for the SRIDs that occur.
+    /// Finds what occurs in the rows. Memory is taken for the types and the SRIDs that occur.
     pub fn facts(&self) -> Result<Facts, AllocError> {
         let mut facts = Facts { rows: self.len(), ..Facts::default() };
         for row in self.rows() {

@@ -84,7 +84,7 @@ pub struct Levels<'a> {
 }
 
 impl Levels<'_> {
-    /// The encoding of each row. A row whose levels don't fit its type or each other is [`Status::BAD_LEVELS`]; no row
+    /// Encodes each row. A row whose levels don't fit its type or each other is [`Status::BAD_LEVELS`]; no row
     /// stops the others. If the words are no whole number of coordinates, all rows are that; a level without ends has
     /// an item for the rest of them as well.
     ///

@@ -17,7 +17,7 @@ macro_rules! statuses {
                 pub const $name: Status = Status($number);
             )*
 
-            /// The text of the status, in one line.
+            /// Returns the text of the status, in one line.
             #[must_use]
             pub fn text(self) -> &'static str {
                 match self {
@@ -58,25 +58,25 @@ impl Status {
         numbers.into_iter().map(Status).collect()
     }
 
-    /// The number of `wkb_status` in `c/wkb.h`.
+    /// Returns the number, that of `wkb_status` in `c/wkb.h`.
     #[must_use]
     pub fn number(self) -> u8 {
         self.0
     }
 
-    /// Whether the input is a geometry, or the row has its result.
+    /// Tells whether the input is a geometry, or the row has its result.
     #[must_use]
     pub fn is_ok(self) -> bool {
         self == Status::OK
     }
 
-    /// Whether the input is rejected.
+    /// Tells whether the input is rejected.
     #[must_use]
     pub fn is_refusal(self) -> bool {
         self.0 >= 32
     }
 
-    /// Whether the input ends before its geometry does, so that bytes are missing.
+    /// Tells whether the input ends before its geometry does, so that bytes are missing.
     #[must_use]
     pub fn is_short(self) -> bool {
         self == Status::SHORT_HEADER || self.0 >= 48
