@@ -42,8 +42,8 @@ def on_one_line(text):
 
 
 class Item:
-    """An item: its comments, what it derives, its kind, name and signature, its clauses, what is in its braces, and what
-    its source has before these."""
+    """An item: its comments, what it derives, its kind, name and signature, its clauses, what is in its braces, and its
+    source before these."""
 
     def __init__(self, before, header, clauses, body):
         self.doc = re.findall(r"(?m)^\s*///(.*)$", before)

@@ -15,8 +15,8 @@ int plain_write(const void *buf, size_t len, uint32_t order, void *out, size_t r
 /* The bounds of the input's geometry. Returns 1, or 0 if the input is rejected. -0 and +0 are equal here. */
 int plain_bounds(const void *buf, size_t len, wkb_box *box);
 
-/* Fills OUT with the coordinates of all rows, in the levels of wkb_coordinates. Returns 1 if all rows were read. Returns
- * 0 at the first row that can't be read: it has a fault, lacks room, or holds a geometry of another dimension. Offsets
+/* Fills OUT with the coordinates of all rows, in the levels of wkb_coordinates. Returns 1 if all rows were read, or 0
+ * at the first row that can't be read: it has a fault, lacks room, or holds a geometry of another dimension. Offsets
  * are int64_t. */
 int plain_column_coordinates(const wkb_column *column, uint32_t dimension, wkb_coordinates *out);
 

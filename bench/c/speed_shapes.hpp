@@ -19,7 +19,7 @@ using row = std::vector<std::byte>;
 
 inline std::mt19937_64 random_numbers(7);
 
-// The encoding of a geometry that is one, by a call that throws nothing: so an earlier library needs no texts of faults.
+// The encoding of a geometry that is one, by a call that throws nothing: an earlier library needs no texts of faults.
 inline row written(const row &input, const wkb_options &options) {
   row out;
   if (!wkb::try_write(input, options, out)) std::abort();
