@@ -19,6 +19,9 @@ fail() {
   exit 1
 }
 
+# listed FOLDER: the paths of the files below it, in order.
+listed() { (cd "$1" && find . ! -type d | LC_ALL=C sort); }
+
 # lacks PART PROGRAM..: whether a program isn't here that a part needs, which then is left out.
 lacks() {
   local program
