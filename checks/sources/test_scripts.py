@@ -1,4 +1,6 @@
-"""The linters have no warning about a script, and REUSE's finds the licence of each file."""
+"""The linters have no warning about a script, and REUSE's finds the licence of each file. With --help a script says
+what it is for."""
+import os
 import re
 import subprocess
 import unittest
@@ -25,7 +27,7 @@ def sources_in(*languages):
 
 
 class Linters(unittest.TestCase):
-    """Each linter ends well."""
+    """Each linter ends well, and so does each script that is asked for help."""
 
     def test_each(self):
         for command, languages in LINTERS:
@@ -34,3 +36,9 @@ class Linters(unittest.TestCase):
                 paths = [it for it in sources_in(*languages) if it not in NAMES]
                 ran = subprocess.run([*command, *paths], cwd=ROOT, capture_output=True, text=True)
                 self.assertEqual(ran.returncode, 0, ran.stdout + ran.stderr)
+
+    def test_help(self):
+        for path in sources_in("bash", "sh", "python"):
+            if os.access(ROOT / path, os.X_OK):
+                ran = subprocess.run([ROOT / path, "--help"], cwd=ROOT, capture_output=True, text=True, timeout=60)
+                self.assertTrue(ran.returncode == 0 and ran.stdout, f"{path} --help: {ran.stderr}")
