@@ -8,7 +8,7 @@ macro_rules! println {
     ($rt:ident; $($words:tt)*) => { $rt.print(std::format!($($words)*)) };
 }
 
-/// A text, which may take memory.
+/// A text, which may allocate.
 macro_rules! format {
     ($($words:tt)*) => { Ok::<_, crate::rt::AllocError>(crate::rt::String(std::format!($($words)*))) };
 }

@@ -82,7 +82,7 @@ pub mod check {
     pub use crate::wkb::check::{bounds, check, Bounds, Cause, Range, Refused, Summary, WkbType};
 }
 
-/// A walk over all coordinates of a geometry of any kind, at every level and in order. It takes no memory.
+/// A walk over all coordinates of a geometry of any kind, at every level and in order. It allocates nothing.
 ///
 /// ```
 /// use porchsorrel_wkb::coordinates::{visit_coordinates, Visitor};

@@ -70,7 +70,8 @@ impl Part {
 ///
 /// # Errors
 ///
-/// As [`read_wkb`](crate::reader::read_wkb) rejects the bytes; or memory is refused. [`check`] says where the fault is.
+/// As [`read_wkb`](crate::reader::read_wkb) rejects the bytes; or an allocation fails. [`check`] says where the fault
+/// is.
 pub fn parts(bytes: &[u8]) -> WkbResult<Vec<Part>> {
     let found = check(bytes)?;
     let mut entries = try_filled(Entry::of(&Piece::outermost(bytes, &found), 0, 1), found.parts)?;
@@ -96,7 +97,7 @@ pub fn parts(bytes: &[u8]) -> WkbResult<Vec<Part>> {
 ///
 /// # Errors
 ///
-/// Memory is refused.
+/// An allocation fails.
 pub fn parts_before(bytes: &[u8], refused: &Refused) -> Result<Vec<Part>, AllocError> {
     let mut found = Vec::try_with_room(refused.part)?;
     let mut next = NextPiece { at: 0, rings: 0, order: Endianness::BigEndian, dimension: Dimension::Xy };

@@ -17,13 +17,13 @@ impl fmt::Display for AllocError {
     }
 }
 
-/// A copy, which may take memory.
+/// A copy, which may allocate.
 pub trait TryClone: Sized {
     /// Copies it.
     ///
     /// # Errors
     ///
-    /// Memory is refused.
+    /// An allocation fails.
     fn try_clone(&self) -> Result<Self, AllocError>;
 }
 
@@ -43,7 +43,7 @@ impl TryClone for usize {
     }
 }
 
-/// The calls of a vector that take memory.
+/// The calls of a vector that allocate.
 pub trait TryVec<T>: Sized {
     fn try_with_room(n: usize) -> Result<Self, AllocError>;
     fn try_push(&mut self, item: T) -> Result<(), AllocError>;

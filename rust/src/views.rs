@@ -46,7 +46,7 @@ parts! {
 
 macro_rules! clones {
     ($($view:ident)*) => {$(
-        /// As `try_clone`; but if memory is refused, the process ends, as it does at the clone of a `Vec`.
+        /// As `try_clone`; but if an allocation fails, the process ends, as it does at the clone of a `Vec`.
         impl Clone for $view<'_> {
             fn clone(&self) -> Self {
                 self.try_clone().unwrap_or_else(|_| handle_alloc_error(Layout::new::<Self>()))

@@ -13,8 +13,8 @@
 //! # Ok::<(), porchsorrel_wkb::error::WkbError>(())
 //! ```
 //!
-//! A writer takes a `Vec<u8>`, a file or any other [`Write`](std::io::Write). [`to_vec`] and a [`VecSink`] answer where
-//! memory is refused, as a `Vec` by itself doesn't.
+//! A writer takes a `Vec<u8>`, a file or any other [`Write`](std::io::Write). If an allocation fails, [`to_vec`] and a
+//! [`VecSink`] return an error, as a `Vec` by itself doesn't.
 pub use crate::wkb::writer::{
     geometry_collection_wkb_size, geometry_wkb_size, geometry_wkb_size_with, line_string_wkb_size, line_wkb_size,
     multi_line_string_wkb_size, multi_point_wkb_size, multi_polygon_wkb_size, point_wkb_size, polygon_wkb_size,

@@ -1,6 +1,5 @@
 // SPDX-License-Identifier: MIT OR Apache-2.0
-//! Each allocation of the calls that take memory fails in turn, and each time the answer says so; and what is taken for
-//! hostile inputs.
+//! Each allocation of each call fails in turn, and each time the answer says so; and what hostile inputs allocate.
 use porchsorrel_wkb::canon::{canonical, canonical_into, canonical_with_srid};
 use porchsorrel_wkb::check::{check, WkbType};
 use porchsorrel_wkb::columns::{Facts, Levels, NotCollected, Rows};

@@ -26,7 +26,7 @@ pub enum NotCollected {
     BadOffsets(usize),
     /// The row is no geometry, or another one than the whole takes. Part and offset count from the row's own start.
     Refused(usize, Refused),
-    /// Memory is refused.
+    /// An allocation failed.
     Memory(AllocError),
 }
 
@@ -55,7 +55,7 @@ impl Column<'_> {
     ///
     /// # Errors
     ///
-    /// The first row that can't be a member, and why; or memory is refused.
+    /// The first row that can't be a member, and why; or an allocation fails.
     ///
     /// # Panics
     ///

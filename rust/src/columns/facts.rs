@@ -73,7 +73,7 @@ impl Facts {
 }
 
 impl Column<'_> {
-    /// Finds what occurs in the rows. Memory is taken for the types and the SRIDs that occur.
+    /// Finds what occurs in the rows. It allocates only the lists of types and SRIDs.
     pub fn facts(&self) -> Result<Facts, AllocError> {
         let mut facts = Facts { rows: self.len(), ..Facts::default() };
         for row in self.rows() {

@@ -24,9 +24,8 @@
 //! # Ok::<(), NotCollected>(())
 //! ```
 //!
-//! Bytes, offsets and validity bitmaps are taken where they are. Memory is taken for results alone, by their own rows,
-//! and for a copy of the words of [`Levels`]; where it is refused, the call returns an
-//! [`AllocError`](crate::AllocError).
+//! Bytes, offsets and validity bitmaps are read where they are. Only results are allocated, by their own rows, and a
+//! copy of the words of [`Levels`]; if that fails, the call returns an [`AllocError`](crate::AllocError).
 #![allow(clippy::missing_errors_doc)] // An `AllocError` needs no more than that.
 
 mod collect;
