@@ -1,6 +1,8 @@
 //! A multi polygon.
 
-ghost use Rattle.std.specs.Prelude.{◌≡◌, ◌+◌, length, ◌≤◌, IfOk, []};
+ghost use Rattle.std.specs.Prelude.{◌≡◌, ◌≢◌, ◌+◌, length, ◌≤◌, IfOk, IfSome, Ok, [], true, false};
+ghost use Rattle.wkb_geom.specs.Codes.{ewkb_code};
+ghost use Rattle.wkb_geom.specs.Reading.{laid, member_layout};
 ghost use Rattle.wkb_view.specs.Prelude.{as_dimensions, body_start, member_at};
 ghost use Rattle.wkb_view.specs.Outcome.{TakesAtLeast, CanCount, RefusesWithoutSlots};
 ghost use Rattle.wkb_view.specs.Members.{members_behind, AreOfDimension};
@@ -19,11 +21,11 @@ use crate::reserved::{Reserved, counted_list};
 use std::alloc::{AllocError, Global};
 use std::marker::Model;
 use wkb_geom::code::{POLYGON, WkbType};
-use wkb_geom::header::MIN_MEMBER_SIZE;
-use wkb_geom::words::COUNT_SIZE;
+use wkb_geom::header::{MEMBER_HEADER_SIZE, MIN_MEMBER_SIZE};
+use wkb_geom::words::{COUNT_SIZE, u32_at};
 use wkb_geom::{
     Dimension, Dimensioned, Dimensions, Endianness, Form, GeometryTrait, GeometryType, Layout,
-    MultiPolygonTrait, ReadError,
+    MultiPolygonTrait, ReadError, by_order,
 };
 
 /// A multi polygon.
@@ -112,8 +114,67 @@ impl<'a> MultiPolygon<'a> {
     }
 }
 
+/// The order of the polygon of this dimension at the start of the bytes, if its code is one that ISO or EWKB writes of
+/// it without an SRID.
+#[inline(always)]
+fn order_of_plain(dimension: Dimension, bytes: &[u8]) -> Option<Endianness>
+    ensures { IfSome result (λ order. member_layout POLYGON dimension bytes.now ≡
+        Ok (laid order dimension false)) }
+{
+    if bytes.len() < MEMBER_HEADER_SIZE {
+        return None;
+    }
+    let order = Endianness::of_byte(bytes[0])?;
+    let code = u32_at(bytes, 1, order);
+    if code != WkbType::Polygon(dimension).iso_code() && !has_flags(dimension, code) {
+        return None;
+    }
+    Some(order)
+}
+
+/// Whether a code is the one that EWKB writes of a polygon of this dimension without an SRID. It isn't inlined, so that
+/// the code isn't kept through a loop over members that have ISO's.
+#[inline(never)]
+fn has_flags(dimension: Dimension, code: u32) -> bool
+    ensures has { result ≡ true → code ≡ ewkb_code POLYGON dimension false }
+    ensures has_not { result ≡ false → code ≢ ewkb_code POLYGON dimension false }
+{
+    code == WkbType::Polygon(dimension).ewkb_code(false)
+}
+
 /// The polygon of this dimension at the start of the bytes, and the bytes after it.
 fn read_member<'a>(
+    alloc: Global,
+    dimension: Dimension,
+    bytes: &'a [u8],
+    counts: &mut Counts,
+) -> Result<(Polygon<'a>, &'a [u8]), ReadError>
+    requires fits { CanCount counts.old (member_at POLYGON dimension bytes.now).0 }
+    ensures dimension { IfOk result (λ x. x.0.dimension ≡ dimension) }
+    ensures answer { ReadsMember dimension bytes.now result counts.old counts.new }
+    ensures shorter { IfOk result (TakesAtLeast MIN_MEMBER_SIZE bytes.now) }
+    ensures no_memory { RefusesWithoutSlots (member_at POLYGON dimension bytes.now) result }
+{
+    // Most members are plain. Of these the order and the lack of an SRID are constants in what follows.
+    match order_of_plain(dimension, bytes) {
+        Some(order) => by_order!(
+            order,
+            {
+                let layout = Layout {
+                    order,
+                    dimension,
+                    has_srid: false,
+                };
+                Polygon::read(alloc, layout, bytes, counts)
+            }
+        ),
+        None => read_other(alloc, dimension, bytes, counts),
+    }
+}
+
+/// As `read_member`, with any header. It isn't inlined, so that plain members don't pay for its frame.
+#[inline(never)]
+fn read_other<'a>(
     alloc: Global,
     dimension: Dimension,
     bytes: &'a [u8],
