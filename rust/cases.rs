@@ -34,6 +34,10 @@ mod cases {
 
 #[path = "cases/clients.rs"]
 mod clients;
+#[path = "cases/program.rs"]
+mod program;
+#[path = "cases/reading.rs"]
+mod reading;
 #[path = "cases/writing.rs"]
 mod writing;
 

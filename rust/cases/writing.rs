@@ -1,11 +1,11 @@
 //! A caller's own geometries, as bytes, and what can't be written: then nothing is, and no sink has failed.
 
-use crate::rt::Fail;
+use crate::rt::{io, Fail};
 use crate::wkb::error::{General, WkbError, WkbResult};
 use crate::wkb::geom::*;
 use crate::wkb::writer::*;
 use crate::wkb::Endianness;
-use crate::wkb_cases::reading::{answer_to, Outcome};
+use crate::wkb_cases::reading::{answer_to, read, Outcome};
 use crate::wkb_cases::spelled::{bytes, Spelled};
 use crate::wkb_cases::support::*;
 use crate::wkb_tests::kinds::{LITTLE, RECT};
@@ -21,8 +21,10 @@ fn empty_point(dim: Dimensions) -> Point<'static> {
 }
 
 /// The encoding of a geometry, which is as long as its size function says.
-fn encoding_of(geometry: &Geometry<'_>) -> Result<Vec<u8>, Fail> {
-    let encoding = written(geometry)?;
+pub fn encoding_of<G: GeometryTrait>(geometry: &G) -> Result<Vec<u8>, Fail> {
+    let mut sink = VecSink::new();
+    write_geometry(&mut sink, geometry, &LITTLE)?;
+    let encoding = sink.into_vec();
     assert_eq!(geometry_wkb_size_with(geometry, &LITTLE)?, encoding.len());
     Ok(encoding)
 }
@@ -127,5 +129,53 @@ fn unknown_dimensions() -> Result<(), Fail> {
     let mut sink = VecSink::new();
     assert!(is_refused(write_geometry(&mut sink, &both, &LITTLE)));
     assert!(!sink.failed() && sink.into_vec().is_empty());
+    Ok(())
+}
+
+// Each put of `Out` is one write, of which a few bytes are taken, or none if it is interrupted.
+#[test]
+fn one_write_a_put() -> Result<(), Fail> {
+    let mut out = Out::new(LimitedWriter::new(3, Some(3)));
+    assert_eq!((out.put(&[1, 2])?, out.put(&[3, 4, 5, 6, 7])?), (2, 3));
+    assert!(matches!(out.put(&[8]), Err(why) if why.kind() == io::ErrorKind::Interrupted));
+    assert!(out.failed());
+    let writer = out.into_inner();
+    assert_eq!((writer.writes, writer.taken.as_slice()), (3, &[1, 2, 3, 4, 5][..]));
+    Ok(())
+}
+
+/// Headers of each kind that has parts, with a count of seventy, and one of those parts: longer than any block.
+const SEVENTY: [(&str, &str); 6] = [
+    ("01 02000000 46000000", "P"),
+    ("01 03000000 46000000", "01000000 P"),
+    ("01 04000000 46000000", "01 01000000 P"),
+    ("01 05000000 46000000", "01 02000000 01000000 P"),
+    ("01 06000000 46000000", "01 03000000 01000000 01000000 P"),
+    ("01 07000000 46000000", "01 01000000 P"),
+];
+
+/// Whether a sink that fails at its second put takes the whole geometry.
+fn is_one_put<G: GeometryTrait>(geometry: &G, encoding: &[u8]) -> bool {
+    let mut sink = LimitedSink::new(Limits { puts: 1, most: usize::MAX, room: usize::MAX });
+    write_geometry(&mut sink, geometry, &LITTLE).is_ok() && sink.taken.as_slice() == encoding
+}
+
+// What was read in the form that is written is lent to the sink as it stands, and not written by its parts; the view of
+// its kind, too, if that can lend its bytes.
+#[test]
+fn lent_in_one_put() -> Result<(), Fail> {
+    for (header, part) in SEVENTY {
+        let input = bytes(&(header.to_owned() + &part.repeat(70)))?;
+        let (wkb, encoding) = (read(input.as_slice())?, input.as_slice());
+        assert!(is_one_put(&wkb, encoding), "{header}");
+        let is_lent = match wkb.as_type() {
+            GeometryType::LineString(view) => is_one_put(view, encoding),
+            GeometryType::MultiPoint(view) => is_one_put(view, encoding),
+            GeometryType::MultiLineString(view) => is_one_put(view, encoding),
+            GeometryType::MultiPolygon(view) => is_one_put(view, encoding),
+            _ => true,
+        };
+        assert!(is_lent, "{header}");
+    }
     Ok(())
 }

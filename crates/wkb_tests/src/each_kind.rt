@@ -4,11 +4,10 @@
 use crate::kinds::{ENCODINGS, Kind, put_kind, put_point};
 use crate::sinks::LimitedWriter;
 use std::alloc::Global;
-use std::io;
 use std::test::Fail;
 use wkb::Endianness;
 use wkb::geom::Dimensions;
-use wkb::writer::{Out, Sink, SliceSink, VecSink};
+use wkb::writer::{Out, SliceSink, VecSink};
 use wkb_cases::spelled::{Spelled, bytes};
 use wkb_cases::support::{ONE, TWO, iso, point_of};
 
@@ -65,19 +64,5 @@ fn point_in_each_sink(rt: HostRuntime) -> Result<(), Fail> {
     put_point(&mut sink, &point, &iso(Endianness::BigEndian))?;
     assert!(rt; sink.written() == expected.as_slice());
     assert!(rt; slice.as_slice() == expected.as_slice());
-    Ok(())
-}
-
-// Each put of `Out` is one write, of which a few bytes are taken, or none if it is interrupted.
-#[test]
-fn one_write_a_put(rt: HostRuntime) -> Result<(), Fail> {
-    let mut out = Out::new(LimitedWriter::new(3, Some(3)));
-    assert!(rt; out.put(&[1, 2])? == 2);
-    assert!(rt; out.put(&[3, 4, 5, 6, 7])? == 3);
-    let answer = out.put(&[8]);
-    assert!(rt; matches!(&answer, Err(error) if error.kind() == io::ErrorKind::Interrupted));
-    assert!(rt; out.failed());
-    let writer = out.into_inner();
-    assert!(rt; writer.writes == 3 && writer.taken.as_slice() == [1, 2, 3, 4, 5].as_slice());
     Ok(())
 }

@@ -1,6 +1,6 @@
-//! What can't be a row of the worked cases, as tests of public calls: what outlives a geometry, printed texts, sinks and
-//! writers, and the program over readers and writers that fail. The bytes and numbers that they expect were written down
-//! before the program ran. Tests that need no proof are in rust/cases.
+//! What can't be a row of the worked cases, as tests of public calls: printed texts, sinks, what allocates, and the
+//! arguments of the program. The bytes and numbers that they expect were written down before the program ran. Tests that
+//! need no proof are in rust/cases.
 //!
 //! The inputs of the calls that allocate are made without an allocation, so that only those of the call under test can
 //! fail, each in turn: `checks/memory/run wkb_tests` does that. A test in which an allocation failed ends with that
@@ -30,9 +30,5 @@ mod program;
 mod reading;
 #[cfg(test)]
 pub mod sinks;
-#[cfg(test)]
-mod views;
-#[cfg(test)]
-mod whole;
 #[cfg(test)]
 mod without_memory;

@@ -72,8 +72,6 @@ impl Sink for LimitedSink {
 pub struct LimitedWriter {
     pub taken: Spelled,
     pub writes: usize,
-    /// The first byte that the last write was given.
-    pub offered: Option<u8>,
     most: usize,
     interrupted_at: Option<usize>,
 }
@@ -84,26 +82,15 @@ impl LimitedWriter {
         LimitedWriter {
             taken: Spelled::new(),
             writes: 0,
-            offered: None,
             most,
             interrupted_at,
         }
-    }
-
-    /// Whether the first byte that it was given is this.
-    pub fn begins_with(&self, byte: u8) -> bool {
-        let first = match self.taken.as_slice().first() {
-            Some(first) => Some(*first),
-            None => self.offered,
-        };
-        first == Some(byte)
     }
 }
 
 impl Write for LimitedWriter {
     fn write(&mut self, bytes: &[u8]) -> io::Result<usize> {
         self.writes = self.writes.saturating_add(1);
-        self.offered = bytes.first().copied();
         if self.interrupted_at == Some(self.writes) {
             return Err(io::Error::from(io::ErrorKind::Interrupted));
         }
