@@ -3,15 +3,13 @@
 use super::{Column, Status};
 use crate::canon::lay;
 use crate::check::{Cause, Refused, Summary, WkbType};
-use crate::rt::try_filled;
+use crate::rt::{try_filled, AllocError, Vec};
 use crate::wkb_check::check_member;
 use crate::wkb_geom::code::{GEOMETRY_COLLECTION, MULTI_POINT};
 use crate::wkb_geom::header::MAX_HEADER_SIZE;
 use crate::wkb_geom::words::COUNT_SIZE;
 use crate::wkb_sink::block::{lay_count, lay_header};
 use crate::writer::WriteOptions;
-use crate::AllocError;
-use alloc::vec::Vec;
 use core::fmt;
 
 /// Why the rows could not be collected: the first row that can't be a member, counted from 0.

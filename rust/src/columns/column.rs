@@ -4,15 +4,14 @@ use super::{Coordinates, Status};
 use crate::canon::lay;
 use crate::check::{Bounds, Summary};
 use crate::reader::Dimension;
-use crate::rt::{try_filled, TryCopy};
+use crate::rt::{try_filled, AllocError, TryCopy, Vec};
 use crate::wkb_abi::column::{found_in, Column as Raw};
 use crate::wkb_abi::level_slices::LevelSlices;
 use crate::wkb_abi::totals::Totals;
 use crate::wkb_c::{wkb_raw_column_bounds, wkb_raw_column_check, wkb_raw_column_coordinates};
 use crate::wkb_geom::header::SRID_SIZE;
 use crate::writer::{Form, WriteOptions};
-use crate::{AllocError, Endianness};
-use alloc::vec::Vec;
+use crate::Endianness;
 use core::ops::Range;
 
 /// A column as Arrow has it: row i has the bytes of the data from offset i up to offset i + 1. Offsets and validity may

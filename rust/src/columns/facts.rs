@@ -2,9 +2,7 @@
 //! What occurs in the rows of a column.
 use super::{column::geometry, Column, Status};
 use crate::check::{bounds, Bounds, WkbType};
-use crate::rt::TryVec;
-use crate::AllocError;
-use alloc::vec::Vec;
+use crate::rt::{AllocError, TryVec, Vec};
 
 /// What occurs in the rows of a column. Of rows that are no geometries only the numbers are kept.
 #[derive(Clone, Debug, Default, PartialEq, Eq, Hash)]

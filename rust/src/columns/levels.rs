@@ -2,11 +2,9 @@
 //! Coordinates of rows, and rows of coordinates.
 use super::{Encodings, Status};
 use crate::check::WkbType;
-use crate::rt::try_filled;
+use crate::rt::{try_filled, AllocError, Vec};
 use crate::wkb_levels::{self as proved, Ends, Kind, Place};
 use crate::writer::WriteOptions;
-use crate::AllocError;
-use alloc::vec::Vec;
 
 /// The coordinates of rows, in levels as GeoArrow has them: a row has singles (points, line strings and polygons), a
 /// single has rings, a ring has coordinates. Each end counts from the start of the column.
