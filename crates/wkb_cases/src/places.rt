@@ -11,7 +11,7 @@ use wkb::geom::{CoordTrait, Dimensioned, Dimensions, PointTrait};
 use wkb::writer::{VecSink, WriteOptions, write_point};
 
 /// A place on the map, in the words of its two numbers.
-#[derive(Debug, Clone, Copy)]
+#[derive(Clone, Copy)]
 pub struct Place {
     pub longitude: u64,
     pub latitude: u64,

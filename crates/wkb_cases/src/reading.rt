@@ -5,12 +5,12 @@ use std::io;
 use wkb::Endianness;
 use wkb::canon::{canonical, canonical_with_srid, same};
 use wkb::error::{General, WkbError, WkbResult};
-use wkb::geom::{CoordTrait, GeometryTrait, GeometryType};
+use wkb::geom::{GeometryTrait, GeometryType};
 use wkb::reader::{Wkb, read_wkb, read_wkb_counted};
 use wkb::writer::WriteOptions;
 
 /// How a reading ended.
-#[derive(Debug, Clone, Copy, PartialEq)]
+#[derive(Clone, Copy, PartialEq)]
 pub enum Outcome {
     /// Accepted, with the size that the view of the whole geometry returns.
     Accepted(u64),
@@ -97,9 +97,4 @@ pub fn with_own_srid(alloc: Global, input: &[u8], order: Endianness) -> WkbResul
 /// Whether two inputs have equal values.
 pub fn are_same(alloc: Global, first: &[u8], second: &[u8]) -> WkbResult<bool> {
     same(alloc, first, second)
-}
-
-/// The first three words of a coordinate.
-pub fn words<C: CoordTrait>(coord: &C) -> (Option<u64>, Option<u64>, Option<u64>) {
-    (coord.nth(0), coord.nth(1), coord.nth(2))
 }

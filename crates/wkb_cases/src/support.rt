@@ -3,12 +3,11 @@
 use std::alloc::Global;
 use std::test::Fail;
 use wkb::Endianness;
-use wkb::error::WkbResult;
 use wkb::geom::{
-    Coord, Dimensions, Geometry, GeometryCollection, GeometryTrait, Line, LineString,
-    MultiLineString, MultiPoint, MultiPolygon, Point, Polygon, Rect, Triangle,
+    Coord, Dimensions, Geometry, GeometryCollection, Line, LineString, MultiLineString, MultiPoint,
+    MultiPolygon, Point, Polygon, Rect, Triangle,
 };
-use wkb::writer::{Form, VecSink, WriteOptions, write_geometry};
+use wkb::writer::{Form, WriteOptions};
 
 pub const ONE: u64 = 0x3ff0_0000_0000_0000;
 
@@ -90,11 +89,4 @@ pub fn collection_of_two<'w>(
     members.push(first)?;
     members.push(second)?;
     Ok(Geometry::GeometryCollection(GeometryCollection::new(dim, members)))
-}
-
-/// The little endian ISO text of a geometry.
-pub fn written<G: GeometryTrait>(alloc: Global, geometry: &G) -> WkbResult<Vec<u8>> {
-    let mut sink = VecSink::new(alloc);
-    write_geometry(&mut sink, geometry, &iso(Endianness::LittleEndian))?;
-    Ok(sink.into_vec())
 }
