@@ -18,7 +18,7 @@ pub use Rattle.wkb_levels.specs.Columns.{AreItems, SpansSingles, SpansRings, Spa
 pub use Rattle.wkb_levels.specs.Columns.{IsLevelFloor, IsFloor}
 pub use Rattle.wkb_levels.specs.RowsLeft.{AreAllRows, IsPast, GivesRow}
 pub use Rattle.wkb_levels.specs.Columns.{spanned, AreFromLast}
-pub use Rattle.wkb_levels.specs.Scans.{no_item_twice}
+pub use Rattle.wkb_levels.proofs.Scans.{no_item_twice}
 pub use Rattle.wkb_levels.specs.Meant.{single_dimensions, single_meant, row_meant, rings_meant, kind_meant, IsLevelRow}
 pub use Rattle.wkb_levels.specs.Meant.{HasNoLevelRow, FindsRow}
 pub use Rattle.wkb_levels.specs.RowWrites.{HasRowEncoding, IsRowWrite}

@@ -5,3 +5,4 @@ pub mod PolygonLaws
 pub mod ColumnLaws
 pub mod Floors
 pub mod RowWrites
+pub mod Scans

@@ -8,4 +8,3 @@ pub mod Meant
 pub mod Lawful
 pub mod RowWrites
 pub mod RowsLeft
-pub mod Scans
