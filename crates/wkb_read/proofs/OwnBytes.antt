@@ -1,6 +1,6 @@
 -- What the reader returns for bytes that begin with a geometry, and what its refusals say of other bytes.
 use Rattle.wkb_view.proofs.Fronts.{memory_left, one_geometry}
-use Rattle.wkb_view.proofs.Listed.{unlisted, among_members, one_of, no_member_listed}
+use Rattle.wkb_view.proofs.Places.{unlisted, among_members, one_of, no_member_listed}
 use Rattle.wkb_read.specs.Reads.{BeginsAt, Reads}
 use Rattle.wkb_read.proofs.Prelude.{◌≡◌, ℕ, List, Some, None, Result, Ok, Err, sym, subst, drop, WkbError, Value, Item}
 use Rattle.wkb_read.proofs.Prelude.{spellings, IfRefused, IsRefusal, IsFront, HasNoFront, IsNotMemory, Wkb, IsOnlyFront}

@@ -16,7 +16,5 @@ pub mod Sizes
 pub mod CoordCounts
 pub mod ViewLaws
 pub mod MembersFall
-pub mod Standing
-pub mod Listed
 pub mod Places
 pub mod Fronts
