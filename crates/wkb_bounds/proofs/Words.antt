@@ -16,8 +16,7 @@ use Rattle.wkb_bounds.specs.Ranges.{widened, range_of, no_numbers}
 use Rattle.wkb_bounds.specs.Ordinates.{Axis, axis_place, word_at, words_of_each, words_in, words_on, words_on_each}
 use Rattle.wkb_bounds.specs.Bounded.{on, nothing, AreBounds, bounds_by}
 use Rattle.wkb_bounds.specs.Walking.{piece_words, CountsUpTo, WidensByPiece, HasWidened}
-use Rattle.wkb_check.specs.Pieces.{pieces_of, piece_of, own_end, IsNext, Steps, OnlyMember}
-use Rattle.wkb_check.specs.Pieces.{HasAll, HasAhead, IsBehind, TakesOrStays}
+use Rattle.wkb_check.specs.Pieces.{pieces_of, piece_of, own_end, IsNext, Steps, OnlyMember, HasAll, HasAhead, IsBehind}
 use Rattle.wkb_bounds.proofs.Widening.{widened-append}
 use Rattle.wkb_check.proofs.Placing.{only_piece}
 use Rattle.wkb_check.proofs.Subjects.{ArePiecesOf, pieces_match}
@@ -155,10 +154,6 @@ pub all_widened : (buf : List ℕ) (b : Bounds) (ps : List Piece) (g : HasGeomet
 all_widened buf b ps g all widens = λ a. rw (widens a, on_nothing a, ← all) (all_words a buf g)
 
 -- ---- a walk over the pieces
-
--- a piece that was taken came by a step
-pub stepped : {old new : Pieces} {p : Piece} → TakesOrStays old (Some p) new → Steps old (Some p) new
-stepped t = record { steps = t.takes.steps; inside = t.takes.inside; further = t.further; same = t.same }
 
 none_few : (n : ℕ) (k : AxisExtremes) → bounds_by k ≡ nothing → CountsUpTo n k
 none_few n k none a = omega (arith, ap (λ b. (on a b).count) none, none_counted a)

@@ -6,7 +6,7 @@ use Rattle.std.specs.Iterator.{MakesProgress, Yields, at_most}
 use Rattle.wkb_laws.specs.Prelude.{Endianness, Dimension, number, any}
 use Rattle.wkb_check.specs.Prelude.{HasGeometry, decoded_rings, subjects, subjects_of_rings, subjects_of_each, Piece}
 use Rattle.wkb_check.specs.Pieces.{Ahead, own_end, ring_piece, last_end, subject_pieces, pieces_of, first_rings}
-use Rattle.wkb_check.specs.Pieces.{IsPieceAt, IsInside, IsAhead, HasAhead, Takes, Steps, bytes_left}
+use Rattle.wkb_check.specs.Pieces.{IsPieceAt, IsInside, IsAhead, HasAhead, Takes, TakesOrStays, Steps, bytes_left}
 use Rattle.wkb_check.specs.Pieces.{piece_of, OnlyMember}
 use Rattle.wkb_check.specs.declared.pieces.Pieces.{Pieces}
 use Rattle.wkb_check.proofs.Placing.{First, alone, first_one, Inside, leaf_inside, rings_inside, members_inside, inner}
@@ -179,6 +179,10 @@ goes w now p h t =
     let x = t.steps h.pieces h.are in
     let can : HasAhead now = record { pieces = x.rest; are = x.ahead } in
     grind arith
+
+-- a piece that was taken came by a step
+pub stepped : {old new : Pieces} {p : Piece} → TakesOrStays old (Some p) new → Steps old (Some p) new
+stepped t = record { steps = t.takes.steps; inside = t.takes.inside; further = t.further; same = t.same }
 
 -- fewer bytes are left after a piece
 pub fewer_left : {old new : Pieces} {p : Piece} → Steps old (Some p) new → bytes_left new < bytes_left old

@@ -3,7 +3,7 @@ use Rattle.std.proofs.Common.{◌≡◌, ℕ, ◌≤◌, List, [], ◌∷◌, le
 use Rattle.std.proofs.Common.{subst, arith, ◌↔◌, IsTrue, is_some, Bool, true, false, not}
 use Rattle.wkb_check.specs.Prelude.{HasGeometry}
 use Rattle.wkb_check.specs.declared.{pieces.Piece.Piece, pieces.Pieces.Pieces}
-use Rattle.wkb_check.specs.Pieces.{own_end, pieces_of, IsAhead, HasAhead, IsNext, Steps, TakesOrStays}
+use Rattle.wkb_check.specs.Pieces.{own_end, pieces_of, IsAhead, HasAhead, IsNext, Steps}
 use Rattle.wkb_rewrite.specs.Shares.{Share, share_in}
 use Rattle.wkb_rewrite.proofs.ValueShares.{shares_of}
 use Rattle.wkb_rewrite.proofs.Spelled.{pieces_say}
@@ -39,10 +39,6 @@ next_taken {buf = buf} r s =
       first = sym r.say ∙ ap (map (share_in buf)) one.first;
       left = record { pieces = one.rest; ahead = one.ahead; bytes = s.same ∙ r.bytes; say = refl };
     }
-
--- a piece that was taken came by a step
-pub stepped : {old new : Pieces} {p : Piece} → TakesOrStays old (Some p) new → Steps old (Some p) new
-stepped t = record { steps = t.takes.steps; inside = t.takes.inside; further = t.further; same = t.same }
 
 pub nothing_ahead : {old new : Pieces} {ps : List Piece} {r : Option Piece} → IsAhead old ps → r ≡ None
     → Steps old r new → ps ≡ []

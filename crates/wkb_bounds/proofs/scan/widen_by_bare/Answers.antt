@@ -1,6 +1,6 @@
 use Rattle.std.proofs.Common.{arith}
-use Rattle.wkb_check.proofs.Following.{fewer_left}
-use Rattle.wkb_bounds.proofs.Words.{stepped, walk_ahead, walk_goes, walk_stays}
+use Rattle.wkb_check.proofs.Following.{fewer_left, stepped}
+use Rattle.wkb_bounds.proofs.Words.{walk_ahead, walk_goes, walk_stays}
 use Rattle.wkb_bounds.proofs.scan.widen_by_bare.Goals as goal
 
 -- ---- a point with a plain header

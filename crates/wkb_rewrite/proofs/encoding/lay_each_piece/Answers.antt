@@ -1,7 +1,7 @@
 use Rattle.std.proofs.Common.{arith, ◌∙◌}
-use Rattle.wkb_check.proofs.Following.{fewer_left}
+use Rattle.wkb_check.proofs.Following.{fewer_left, stepped}
 use Rattle.wkb_rewrite.proofs.Encodings.{inner_again}
-use Rattle.wkb_rewrite.proofs.Walks.{none_taken, some_ahead, stepped}
+use Rattle.wkb_rewrite.proofs.Walks.{none_taken, some_ahead}
 use Rattle.wkb_rewrite.proofs.Encoded.{left_inside, left_none, left_still, next_fits, first_room, first_left}
 use Rattle.wkb_rewrite.proofs.encoding.lay_each_piece.Goals as goal
 
