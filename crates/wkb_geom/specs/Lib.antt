@@ -13,9 +13,7 @@ pub mod Errors
 pub mod Reading
 pub mod Parts
 pub mod Sizes
-pub mod Lawful
 pub mod Meanings
-pub mod Items
 pub mod Stored
 pub mod Found
 pub mod Counted

@@ -7,7 +7,7 @@ use Rattle.byteorder.specs.Numbers.{big_from-append, little_from-append}
 use Rattle.wkb_laws.specs.Prelude.{Then, Endianness, BigEndian, LittleEndian, IsNumber, number, IsEach, Begins}
 use Rattle.wkb_laws.specs.Prelude.{Dimension, Header, IsHeader, srid_size, Opens, Coordinate, SpellsCoordinate}
 use Rattle.wkb_laws.specs.Prelude.{coordinate, consumed}
-use Rattle.wkb_geom.specs.Items.{number-take}
+use Rattle.wkb_geom.proofs.Items.{number-take}
 pub use Rattle.wkb_geom.specs.Reading.{items}
 
 -- how long an encoding of two parts is, and what it is in front of others

@@ -50,7 +50,7 @@ unfoldable pub use Rattle.wkb_geom.specs.Reading.{repeated, geometry_at, point_a
 unfoldable pub use Rattle.wkb_geom.specs.Reading.{line_string_at, multi_line_string_at, multi_point_at, head_at}
 unfoldable pub use Rattle.wkb_geom.specs.Reading.{meaning_of, multi_polygon_at, polygon_at, by_type}
 pub use Rattle.wkb_geom.specs.Sizes.{byte_size, byte_sizes}
-pub use Rattle.wkb_geom.specs.Items.{length-items}
+pub use Rattle.wkb_geom.proofs.Items.{length-items}
 pub use Rattle.wkb_geom.specs.declared.error.Fault.{Fault}
 pub use Rattle.wkb_geom.specs.declared.error.Fault.TheVariants.{UnsupportedDimensions as unsupported_dimensions}
 pub use Rattle.wkb_geom.specs.declared.error.Fault.TheVariants.{Count as count_overflow}

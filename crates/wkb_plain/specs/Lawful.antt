@@ -1,6 +1,6 @@
 -- Lemmas, which the laws of the traits cite: each plain kind is lawful.
 use Rattle.std.proofs.Common.{◌≡◌, ℕ, zero, suc, ◌*◌, ◌/◌, ◌≤◌, List, length, take, drop, All, arith, length-drop}
-use Rattle.std.proofs.Common.{length-take}
+use Rattle.std.proofs.Common.{length-take, subst}
 use Rattle.std.proofs.Math.Nat.{div-mul-le_self}
 use Rattle.std.proofs.lemmas.List.Elements.{All-take, All-drop, recursion_from_All}
 use Rattle.std.specs.List.{AllByRecursion}
@@ -8,7 +8,7 @@ use Rattle.wkb_geom.specs.Numbers.{IsWord}
 use Rattle.wkb_geom.specs.declared.common.Dimensions.{Dimensions}
 use Rattle.wkb_geom.specs.Dimensions.{size}
 use Rattle.wkb_geom.specs.Geometries.{IsCoordinate, IsPoint, AreCoordinates}
-use Rattle.wkb_geom.specs.Lawful.{lawful_coordinate, lawful_point, each_part, at_dimension}
+use Rattle.wkb_geom.proofs.Lawful.{lawful_coordinate, lawful_point, each_part}
 use Rattle.wkb_plain.specs.declared.{multi_line_string.MultiLineString.MultiLineString, triangle.Triangle.Triangle}
 use Rattle.wkb_plain.specs.declared.{line_string.LineString.LineString, multi_polygon.MultiPolygon.MultiPolygon}
 use Rattle.wkb_plain.specs.declared.{coord.Coord.Coord, multi_point.MultiPoint.MultiPoint, polygon.Polygon.Polygon}
@@ -44,7 +44,7 @@ coord_lawful c = lawful_coordinate c.dim c.words.now c.as_many_words c.in_range
 
 -- a coordinate beside another one of these dimensions has them, too
 coord_lawful_beside : (d : Dimensions) (c : Coord) → coord_dimensions c ≡ d → IsCoordinate d (coord_words c)
-coord_lawful_beside d c is = at_dimension c.dim d c.words.now (coord_lawful c) is
+coord_lawful_beside d c is = subst (λ e. IsCoordinate e (coord_words c)) is (coord_lawful c)
 
 -- a point is empty, or has a coordinate of its dimension
 pub point_lawful : (p : Point) → IsPoint (point_dimensions p) (point_coordinate p)

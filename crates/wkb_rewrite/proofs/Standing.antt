@@ -7,7 +7,7 @@ use Rattle.wkb_laws.specs.Prelude.{Spells, width, number, number_bytes, order_by
 use Rattle.wkb_geom.specs.Encodings.{type_code}
 use Rattle.wkb_geom.specs.Refusals.{srid_size}
 use Rattle.wkb_geom.specs.Reading.{ring_in}
-use Rattle.wkb_geom.specs.Items.{length-items}
+use Rattle.wkb_geom.proofs.Items.{length-items}
 use Rattle.wkb_check.specs.Prelude.{HasGeometry, subjects_of_each}
 use Rattle.wkb_check.specs.declared.pieces.Piece.{Piece}
 use Rattle.wkb_check.specs.Pieces.{own_end, count_of, piece_of, subject_pieces, ring_piece, Ahead}

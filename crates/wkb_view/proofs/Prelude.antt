@@ -9,6 +9,7 @@ pub use Rattle.std.specs.Borrow.{Bor}
 pub use Rattle.std.specs.List.{each_same}
 pub use Rattle.std.specs.Prelude.{slice_get, option_map, IfSome}
 pub use Rattle.wkb_geom.specs.Encodings.{fault}
+pub use Rattle.wkb_geom.proofs.Items.{number-take, length-items}
 pub use Rattle.wkb_geom.specs.Geometries.{geometry_of}
 pub use Rattle.wkb_geom.specs.Sizes.{rings_size}
 pub use Rattle.wkb_geom.specs.Values.{polygon, line_string, point}
@@ -26,7 +27,7 @@ pub use Rattle.wkb_view.specs.Members.{members_behind, multi_polygon_seen, AreOf
 pub use Rattle.wkb_view.specs.Outcome.{Spent, CanCount, Stops, next_turn, cost_of}
 pub use Rattle.wkb_view.specs.Pieces.{pieces, Passed}
 pub use Rattle.wkb_view.specs.Prelude.{as_dimensions, coordinates, list_of_spellings, multi_point_end, multi_point_with}
-pub use Rattle.wkb_view.specs.Prelude.{Coordinate, number-take, length-items, member_layout, slots_asked, parts_start}
+pub use Rattle.wkb_view.specs.Prelude.{Coordinate, member_layout, slots_asked, parts_start}
 pub use Rattle.wkb_view.specs.Prelude.{one_turn, BytesSpell, body_start, Endianness, coordinate, point_item, polygon_of}
 pub use Rattle.wkb_view.specs.Prelude.{done, and_then, ReadError, Dimension, spellings, member_at, then_body, list_item}
 pub use Rattle.wkb_view.specs.Prelude.{Reading, AreBytes, ring_in, Spelling, all_nan, point_of, consumed, count_in}

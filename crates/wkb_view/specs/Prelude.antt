@@ -10,7 +10,6 @@ pub use Rattle.wkb_geom.specs.declared.error.ReadError.TheVariants as read_error
 unfoldable pub use Rattle.wkb_geom.specs.Numbers.{number}
 pub use Rattle.wkb_geom.specs.Numbers.{is_nan, all_nan, AreBytes, IsWord}
 pub use Rattle.wkb_geom.specs.Dimensions.{width, size, as_dimensions}
-pub use Rattle.wkb_geom.specs.Items.{number-take, length-items}
 pub use Rattle.wkb_geom.specs.Refusals.{point_end, line_string_end, multi_point_end, ring_end, slots_asked}
 pub use Rattle.wkb_geom.specs.Values.{Coordinate}
 pub use Rattle.wkb_geom.specs.Spellings.{Spelling, Spellings, no_spellings}
