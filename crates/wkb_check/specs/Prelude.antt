@@ -6,8 +6,8 @@ pub use Rattle.wkb_check.specs.Known.{HasGeometry, HasGeometries, AreWhole, deco
 pub use Rattle.wkb_check.specs.Passes.{open_counts, IsFollowed, Passes, tally, weight}
 pub use Rattle.wkb_check.specs.Pieces.{count_of, leading, IsPieceAt, own_end, piece_of, ring_piece, piece_at, last_end}
 pub use Rattle.wkb_check.specs.Pieces.{first_rings, Steps, subject_pieces, IsAhead, IsTaken, OnlyMember, HeaderIs}
-pub use Rattle.wkb_check.specs.Pieces.{bytes_left, pieces_of, IsRing, IsNext, HasAhead, AreRings, Ahead, IsInside}
-pub use Rattle.wkb_check.specs.Public.{DescribesFront, Checks, member_room}
+pub use Rattle.wkb_check.specs.Pieces.{bytes_left, pieces_of, IsInside}
+pub use Rattle.wkb_check.specs.Public.{DescribesFront, Checks}
 pub use Rattle.wkb_check.specs.Subjects.{Subject, whole, ring, dimension_in, subject_coordinates, subjects, order_in}
 pub use Rattle.wkb_check.specs.Subjects.{SpellsSubject, subjects_of_each, subjects_of_rings, rings_of}
 pub use Rattle.wkb_check.specs.Walked.{inside_walked, Tally, onward, ahead_of, Walked, walked, coordinates_by}

@@ -10,7 +10,7 @@ pub use Rattle.wkb_geom.specs.declared.error.General.TheVariants.{InvalidByteOrd
 pub use Rattle.wkb_geom.specs.declared.error.General.TheVariants.{ShortLinearRing, ShortMultiPoint}
 pub use Rattle.wkb_geom.specs.Numbers.{AreBytes, IsNumber, IsWord, order_byte, all_nan, empty_word}
 unfoldable pub use Rattle.wkb_geom.specs.Numbers.{number, number_bytes}
-pub use Rattle.wkb_geom.specs.Dimensions.{width, size, named, as_dimensions, written_dimension, has_z, has_m}
+pub use Rattle.wkb_geom.specs.Dimensions.{width, size, named, as_dimensions, written_dimension}
 pub use Rattle.wkb_geom.specs.Codes.{Code, thousands}
 pub use Rattle.wkb_geom.specs.Grammar.{Then, Begins, IsEach, IsCounted}
 pub use Rattle.wkb_geom.specs.Values.{Coordinate, Value, point, line_string, polygon, multi_point, multi_line_string}
@@ -38,19 +38,13 @@ unfoldable pub use Rattle.wkb_geom.specs.Encodings.{size_fault, point_words, sri
 unfoldable pub use Rattle.wkb_geom.specs.Encodings.{words_encoding, coordinates_encoding, point_encoding}
 unfoldable pub use Rattle.wkb_geom.specs.Encodings.{line_string_encoding, polygon_encoding, members_encoding}
 pub use Rattle.wkb_geom.specs.Reading.{Cost, Reading, rejection, Item, type_kind, type_dimension, type_of, layout_of}
-pub use Rattle.wkb_geom.specs.Reading.{laid, free, body_start, parts_start, count_in, head_by_code, ring_part}
-pub use Rattle.wkb_geom.specs.Reading.{at_no_cost, list_item, polygon_item, spellings, values, and_then, costs, done}
-pub use Rattle.wkb_geom.specs.Reading.{line_string_of, one_turn, point_of, polygon_of, slots_of, spelled_in, consumed}
-pub use Rattle.wkb_geom.specs.Reading.{with_count, ◌⊕◌, body_at, collection_within, parts_body, coordinate, coordinates}
-pub use Rattle.wkb_geom.specs.Reading.{ring_in, items, line_string_body, line_string_item, point_item, point_item_of}
-pub use Rattle.wkb_geom.specs.Reading.{srid_in, head_by_order, meaning, then_body, member_body, layout_wanted}
-pub use Rattle.wkb_geom.specs.Reading.{is_member, member_at, refused, collection_with, multi_line_string_with}
-pub use Rattle.wkb_geom.specs.Reading.{multi_point_with, multi_polygon_with}
-unfoldable pub use Rattle.wkb_geom.specs.Reading.{repeated, geometry_at, point_at, ring_at, collection_at}
-unfoldable pub use Rattle.wkb_geom.specs.Reading.{line_string_at, multi_line_string_at, multi_point_at, head_at}
-unfoldable pub use Rattle.wkb_geom.specs.Reading.{meaning_of, multi_polygon_at, polygon_at, by_type}
+pub use Rattle.wkb_geom.specs.Reading.{laid, free, body_start, parts_start, count_in, head_by_code, at_no_cost}
+pub use Rattle.wkb_geom.specs.Reading.{list_item, polygon_item, spellings, values, done, line_string_of, point_of}
+pub use Rattle.wkb_geom.specs.Reading.{polygon_of, spelled_in, consumed, parts_body, coordinate, coordinates, ring_in}
+pub use Rattle.wkb_geom.specs.Reading.{items, line_string_item, point_item, point_item_of, srid_in, head_by_order}
+pub use Rattle.wkb_geom.specs.Reading.{meaning, layout_wanted, is_member, refused, collection_with}
+pub use Rattle.wkb_geom.specs.Reading.{multi_line_string_with, multi_point_with, multi_polygon_with}
+unfoldable pub use Rattle.wkb_geom.specs.Reading.{repeated, geometry_at, line_string_at, head_at, meaning_of}
 pub use Rattle.wkb_geom.specs.Sizes.{byte_size, byte_sizes}
 pub use Rattle.wkb_geom.proofs.Items.{length-items}
 pub use Rattle.wkb_geom.specs.declared.error.Fault.{Fault}
-pub use Rattle.wkb_geom.specs.declared.error.Fault.TheVariants.{UnsupportedDimensions as unsupported_dimensions}
-pub use Rattle.wkb_geom.specs.declared.error.Fault.TheVariants.{Count as count_overflow}

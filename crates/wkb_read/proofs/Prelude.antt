@@ -13,13 +13,13 @@ pub use Rattle.std.proofs.Props.{props}
 pub use Rattle.wkb_geom.specs.declared.common.Endianness.TheVariants.{LittleEndian}
 pub use Rattle.wkb_geom.specs.Reading.{◌⊕◌, slots_of, then_body, cause_of, geometry_inside}
 pub use Rattle.wkb_read.specs.Prelude.{WkbType, Endianness, Cause, ReadError, WkbError, Head, Layout, max_nesting}
-pub use Rattle.wkb_read.specs.Prelude.{Geometry, geometries, geometry_of, geometries_of, IsGeometry, number, Item, Cost}
-pub use Rattle.wkb_read.specs.Prelude.{one_turn, Outcome, Reading, costs, done, list_item, collection_with}
-pub use Rattle.wkb_read.specs.Prelude.{collection_within, layout_of, laid, at_no_cost, and_then, consumed, body_start}
-pub use Rattle.wkb_read.specs.Prelude.{parts_start, type_kind, type_dimension, body_at, values, spellings, Refuses, any}
-pub use Rattle.wkb_read.specs.Prelude.{Listed, Tells, TellsReadError, Coordinate, Value, Values, collection}
-pub use Rattle.wkb_read.specs.Prelude.{member_count, listed_count, Counts, HasHead, IsCause, Spent, AtMost, CanCount}
-pub use Rattle.wkb_read.specs.Prelude.{Stops, BytesSpell, cost_of, nest, nest_each}
+pub use Rattle.wkb_read.specs.Prelude.{geometry_of, geometries_of, number, Item, Cost, one_turn, Outcome, Reading}
+pub use Rattle.wkb_read.specs.Prelude.{costs, done, list_item, collection_with, collection_within, layout_of, laid}
+pub use Rattle.wkb_read.specs.Prelude.{at_no_cost, and_then, consumed, body_start, parts_start, type_kind}
+pub use Rattle.wkb_read.specs.Prelude.{type_dimension, body_at, values, spellings, Refuses, any, Listed, Tells}
+pub use Rattle.wkb_read.specs.Prelude.{TellsReadError, Coordinate, Value, Values, collection, member_count}
+pub use Rattle.wkb_read.specs.Prelude.{listed_count, Counts, HasHead, IsCause, Spent, AtMost, CanCount, Stops}
+pub use Rattle.wkb_read.specs.Prelude.{BytesSpell, cost_of, nest, nest_each}
 unfoldable pub use Rattle.wkb_read.specs.Prelude.{repeated, head_at, geometry_at}
 pub use Rattle.wkb_laws.specs.Laws.{Agrees}
 pub use Rattle.wkb_laws.proofs.GeometryAt.{geometry_agrees_lem}

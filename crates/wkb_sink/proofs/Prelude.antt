@@ -1,5 +1,5 @@
 -- The words that the proofs of this crate share, passed on from one place. Declares nothing.
-pub use Rattle.std.proofs.Common.{◌≡◌, ℕ, ◌≤◌, List, [], ◌++◌, length, take, drop, Option, Some, None, sym, ap, ◌∙◌}
+pub use Rattle.std.proofs.Common.{◌≡◌, ℕ, ◌≤◌, List, [], ◌++◌, length, take, drop, Option, Some, sym, ap, ◌∙◌}
 pub use Rattle.std.proofs.Common.{append_assoc, append-nil, arith, length-drop, take_all, take-append-drop, ◌-◌, ◌+◌}
 pub use Rattle.std.proofs.Common.{refl, replicate, ◌*◌, ◌<◌, ◌∷◌, Result, zero, suc, slice_get, subst, length-append}
 pub use Rattle.std.proofs.Common.{Bool, true, false, Ok, Err, add-one, ◌/◌, slice_index, rules}
@@ -12,6 +12,6 @@ pub use Rattle.wkb_geom.specs.Numbers.{number_bytes, empty_word}
 unfoldable pub use Rattle.wkb_geom.specs.Encodings.{words_encoding, header_encoding, srid_encoding}
 pub use Rattle.wkb_sink.specs.Blocks.{LaysAt, Waiting, block_size}
 pub use Rattle.wkb_sink.specs.Progress.{Progress, Moves, RunsOut, Advances, IsReady, IsLaid, IsShort, IsBroken, IsCut}
-pub use Rattle.wkb_sink.specs.Progress.{held, progress}
+pub use Rattle.wkb_sink.specs.Progress.{progress}
 pub use Rattle.wkb_sink.specs.declared.{block.TheConstants.MIN_BLOCK, buffered.Stopped.Stopped}
 pub use Rattle.wkb_sink.specs.Sinks.{IsWritten, IsBegun}

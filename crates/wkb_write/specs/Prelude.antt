@@ -8,7 +8,6 @@ pub use Rattle.wkb_geom.specs.Parts.{triangle_meant, line_meant}
 pub use Rattle.wkb_geom.specs.Encodings.{dimensions_fault, fault, inner, form_with_flags, IsForm}
 pub use Rattle.wkb_geom.specs.declared.common.Form.TheVariants.{Iso}
 pub use Rattle.wkb_sink.specs.Progress.{Lays}
-pub use Rattle.wkb_sink.specs.Puts.{PutsTo}
 pub use Rattle.wkb_sink.specs.Runs.{uncounted_encoding}
 pub use Rattle.wkb_sink.specs.Sinks.{TellsFailure}
 pub use Rattle.wkb_sink.specs.declared.block.TheConstants.{MIN_BLOCK}
