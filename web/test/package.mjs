@@ -15,7 +15,6 @@ import * as wkb from '../out/package/wkb.js';
 const { DIMENSIONS, bytesOf } = wkb;
 const ORDERS = ['big', 'little'];
 const HEX = '0101000000000000000000f03f0000000000000040';
-const BIG_HEX = '00000000013ff00000000000004000000000000000';
 const POINT = bytesOf(HEX);
 const [PACKAGE, DESK] = ['wkb', 'desk'].map((it) => new URL(`../out/package/${it}.js`, import.meta.url).href);
 const file = readFileSync(new URL('../../c/test/lasting.rows', import.meta.url), 'utf8');
@@ -344,31 +343,8 @@ test('texts', () => {
   assert.deepEqual(files.map(textOf), [null, HEX, HEX, HEX]);
 });
 
-const ONE = '000000000000f03f';
-// Rejected bytes, and of each part there is: kind, depth, where it begins, order, and how many whole coordinates it
-// has, or members or rings it claims.
-const REJECTED = {
-  [`010400000003000000${HEX}${BIG_HEX}01010000000000`]: [['MultiPoint', 0, 0, 'little', 3],
-    ['Point', 1, 9, 'little', 1], ['Point', 1, 30, 'big', 1], ['Point', 1, 51, 'little', 0]],
-  [`000000000400000003${HEX}00`]: [['MultiPoint', 0, 0, 'big', 3], ['Point', 1, 9, 'little', 1],
-    [undefined, 1, 30, undefined, 0]],
-  [`000000000200000003${'3ff0000000000000'.repeat(3)}`]: [['LineString', 0, 0, 'big', 1]],
-  [`01030000000200000001000000${ONE.repeat(2)}010000`]: [['Polygon', 0, 0, 'little', 2], ['Ring', 1, 9, 'little', 1],
-    ['Ring', 1, 29, 'little', 0]],
-  '0100000000': [[undefined, 0, 0, undefined, 0]],
-  '01e8030000': [[undefined, 0, 0, undefined, 0]],
-};
-test('what there is of rejected parts', () => {
-  for (const [hex, all] of Object.entries(REJECTED)) {
-    const { parts, error } = readParts(bytesOf(hex), 0);
-    assert.deepEqual(parts.map((it) => [it.kind, it.depth, it.begin, it.byteOrder, it.count]), all);
-    assert.deepEqual([parts.at(-1).error, parts[0].claims], [error, /^0[01]0+4/.test(hex) ? error : undefined]);
-    if (all[0][0] === undefined) assert.match(rowsOf(bytesOf(hex), 0, parts[0], 1)[1].text, /^code 1?0+, which no/);
-  }
-});
-
 test('the header of a blob of a GeoPackage', () => {
-  const { size, rows, header } = readFront(bytesOf(`47500003e6100000${`${ONE}0000000000000040`.repeat(2)}`));
+  const { size, rows, header } = readFront(bytesOf(`47500003e6100000${'000000000000f03f0000000000000040'.repeat(2)}`));
   assert.equal(size, 40);
   assert.deepEqual(header, { size, srsId: 4326, isEmpty: false, axes: 'xy', envelope: [[1, 2], [1, 2]] });
   const { srsId, isEmpty } = readFront(bytesOf('47500010ffffffff')).header;

@@ -39,7 +39,8 @@ const read = () => run(() => {
   const ids = '#verdict, #facts, #drawn, #source, #count, #summary, #compared, #row, #example';
   const texts = Object.fromEntries(all(ids, (it) => [it.id, it.value ?? it.textContent]));
   return { ...texts, isHidden: document.getElementById('found').hidden,
-    rows: all('#bytes tr').length, parts: all('#parts label').length, isWhole: document.getElementById('more').hidden,
+    rows: all('#bytes tr').length, parts: all('#parts label').length, names: all('#bytes [colspan]').join(),
+    end: all('#bytes tbody:last-child td:last-child').join(), isWhole: document.getElementById('more').hidden,
     bad: all('#bytes td.bad:last-child', (it) => `${it.parentNode.cells[0].textContent} ${it.textContent}`).join('\n'),
     shapes: all('.shapes path[d*=" "]', (it) => it.getAttribute('class')).join(), forms: all('.form code').join('\n'),
     hex: all('#bytes .span').join(' '), differing: all('.differs').length };
@@ -82,8 +83,9 @@ const [ONE, NAN, LEAST, MOST] = ['000000000000f03f', '000000000000f87f', 'ffffff
 // Inputs, and of what is shown the verdict, the rows that are marked, and more. Of accepted ones each byte is shown.
 const CASES = [
   [POINT, 'Point, xy, little endian, 21 bytes.', '', { shapes: 'point,vertex', drawn: /: 1 coordinate\.$/,
-    facts: /Coordinates1Least x1Greatest x1Least y2Greatest y2$/,
+    facts: /Coordinates1Least x1Greatest x1Least y2Greatest y2$/, end: 'the end',
     forms: [POINT, BIG_POINT, POINT, BIG_POINT, '{"type":"Point","coordinates":[1,2]}'].join('\n') }],
+  [`${POINT}00`, /^Point.* 21 bytes/, '', { end: '1 byte behind the geometry', facts: /it1 more byteL/ }],
   [`47500001e6100000${POINT}`, /^Point, xy/, ''],
   ['01eb03000000000000', /^Polygon, xyz/, '', { facts: /xno numberyno numberzno number$/ }],
   [`0102000000020000000000000000000000${ONE}${ONE}${NAN}`, /^Line/, '', { shapes: 'line,vertex',
@@ -92,6 +94,7 @@ const CASES = [
   [`0101000000${NAN.repeat(2)}`, /^Point/, '', { shapes: '', drawn: 'There is no coordinate to draw.' }],
   [`010400000088130000${POINT.repeat(5000)}`, /^MultiPoint/, '', { shapes: 'point', isWhole: false,
     drawn: 'A sample: 2,500 of 5,000 coordinates.' }],
+  ['01e8030000', /^Rejected: unknown geometry type code 1000, in/, '1 code 1000, which no geometry here has'],
   ['0010000001', /^Rejected: unknown geometry type code 268435457, in the part at byte 0/, /^1 code .*no geometry/],
   ['01e90300000000000000f87f000000000000f87f000000000000f87f', /^Rejected: the input ends inside a point, in/,
     '21 cut off: 7 of 8 bytes'],
@@ -99,10 +102,15 @@ const CASES = [
   ['01', /^Rejected: the input ends inside a header/, '1 the input ends here'],
   ['0102000000ffffffff', /^Rejected: .* line string/, /^5 4,294,967,295 coordinates: .* 68,719,476,729 bytes/],
   ['0104000000010000000102000000', /^Rejected: the input ends inside a multi point/, /^5 1 member/],
-  [`010400000003000000${POINT.repeat(2)}${POINT.slice(0, 40)}`, /^Rejected/, /\n64 cut off: 7 of 8 bytes$/,
-    { shapes: 'point,point,vertex', drawn: / 2 coordinates, before the fault\.$/ }],
+  [`010400000003000000${POINT}${BIG_POINT}${POINT.slice(0, 40)}`, /^Rejected/, /\n64 cut off: 7 of 8 bytes$/,
+    { names: 'MultiPoint,member 0: Point,member 1: Point,member 2: Point', shapes: 'point,point,vertex',
+      drawn: / 2 coordinates, before the fault\.$/ }],
+  [`000000000400000003${POINT}00`, /^Rejected/, /^5 3 members: .*\n31 the input ends here$/,
+    { names: 'MultiPoint,member 0: Point,member 1: rejected part' }],
+  [`000000000200000003${'3ff0000000000000'.repeat(3)}`, /^Rejected/, /^5 3 coord.*\n33 the input ends here$/,
+    { shapes: 'line bad,vertex', drawn: / 1 coordinate, before the fault\.$/ }],
   [`01030000000200000001000000${ONE.repeat(2)}0100`, /^Rejected/, /^29 cut off/,
-    { shapes: 'area,vertex', drawn: / 1 coordinate, before the fault\.$/ }],
+    { names: 'Polygon,exterior ring,interior ring 1', shapes: 'area,vertex', drawn: / 1 coordinate, before/ }],
   [`010500000001000000${POINT}`, /^Rejected: a member has the wrong kind/, /^10 code 1: Point/],
   ['0107000000ffffffff'.repeat(129), /^Rejected: a collection is inside 128 others/, /^1,153 code 7/,
     { isWhole: false }],
@@ -131,9 +139,12 @@ for (const [from, to, ...words] of [['100', '110', '0000000000005940', '00000000
   ['1.00e+8', '2.00e+8', '0000000084d79741', '0000000084d7a741']]) {
   test(`the axes of a drawing from ${from} to ${to} say where that is`, async () => {
     await shown('010200000002000000' + words.map((it) => it.repeat(2)).join(''));
-    const [d, ...ticks] = await run(() => [document.querySelector('.line').getAttribute('d'),
+    const [d, isGrid, ...ticks] = await run(() => [document.querySelector('.line').getAttribute('d'),
+      Array.from(document.querySelectorAll('.axes line'), (it) => it.getBBox()).every(({ x, y, width, height }) =>
+        x >= 66 && y >= 14 && width + height > 99),
       ...Array.from(document.querySelectorAll('.axes text'), (it) =>
         [it.textContent, it.getAttribute('x'), it.getAttribute('y')])]);
+    assert.ok(isGrid);
     const place = (label) => [0, 1].map((axis) => ticks.filter((it) => it[0] === label)[axis][axis + 1] - 4 * axis);
     const [[left, bottom], [right, top]] = [place(from), place(to)];
     assert.deepEqual(d.match(/[\d.]+/g).map(Number), [left, bottom, right, top].map((it) => Number(it.toFixed(2))));
@@ -188,7 +199,7 @@ test('a link', async () => {
   assert.equal(await run(() => location.hash), `#hex=${POINT}`);
   expect(await read(), { count: '2' });
   for (const [hex, verdict] of [[`%30${POINT.slice(1, 20)}`, /^Rejected: the input ends inside a point/],
-    [`${POINT}%zz`, 'No bytes: neither hex nor base64: hex has no "%", the digit 43']]) {
+    [`${POINT}%ag`, 'No bytes: neither hex nor base64: hex has no "%", the digit 43']]) {
     await go(`#hex=${hex}`);
     expect(await read(), { verdict });
     await call('POST', '/refresh', {});
