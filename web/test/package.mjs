@@ -232,7 +232,7 @@ test('wrong arguments', () => {
     [TypeError, wkb.fromGeoJSON, null, {}, { type: 'FeatureCollection' }, of('Ring', [])],
     [TypeError, (it) => wkb.fromGeoJSON(of('Point', it)), [1], [1, '2'], ['1', '2'], [null, null], [[1, 2]], [1, , 3]],
     [TypeError, (it) => wkb.fromGeoJSON(of('LineString', it)), [[1, 2], [1, 2, 3]], ['ab'], [1, 2], [null]],
-    [TypeError, (it) => new wkb.Column(POINT, it), [0, 21]],
+    [TypeError, (it) => new wkb.Column(POINT, it), [0, 21], new Float64Array(2)],
     [RangeError, (first) => new wkb.Column(POINT, Int32Array.of(0, 21), { validity, first }).check(), -1, 0.5, 8],
     [TypeError, (it) => wkb.Column.of([POINT]).coordinates(it), 'zm'],
     [TypeError, (it) => wkb.Column.of([POINT]).geoArrow(it), 'zm'],
