@@ -193,7 +193,8 @@ static void options_are_unknown(void) {
   uint8_t bytes[84], out[64], before[64];
   const size_t len = spelled(POINTS, bytes);
   static const double WORDS[2] = {1, 2};
-  const wkb_levels levels = {WORDS, 2, NULL, 1, NULL, 1, NULL, 1, NULL, 0};
+  const wkb_levels levels = {WORDS, 2, NULL, 1, NULL, 1, NULL, 1, NULL, 0}, one = wkb_one_point(WORDS, 2);
+  expect(memcmp(&one, &levels, sizeof one) == 0, "the levels of one point", "");
   memset(out, UNTOUCHED, sizeof out), memset(before, UNTOUCHED, sizeof before);
   for (int i = 0; i < 2; i++) {
     size_t size = 77;
