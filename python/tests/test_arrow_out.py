@@ -136,8 +136,10 @@ class Encodings(unittest.TestCase):
     def test_forms(self):
         """GeoArrow's type has no SRIDs, so that EWKB is binary alone."""
         for form in Form:
-            it = Column.of([POLYGON]).write(form=form, srid=7 if form == Form.EWKB_WITH_SRID else None)
-            self.assertEqual(read(it)[2], "geoarrow.wkb" if form == Form.ISO else None)
+            options = {"form": form, "srid": 7 if form == Form.EWKB_WITH_SRID else None}
+            levels = column_from_coordinates(Kind.POINT, array.array("d", [1, 2]), **options)
+            self.assertEqual([read(it)[2] for it in (Column.of([POLYGON]).write(**options), levels)],
+                             2 * ["geoarrow.wkb" if form == Form.ISO else None])
 
     def test_wide(self):
         """From so many bytes, or items of any level, on an end doesn't fit 32 bits: here 21 bytes, or 2 items."""

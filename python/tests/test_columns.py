@@ -153,7 +153,7 @@ class Taken(unittest.TestCase):
         data, offsets = rows_of(*[POINT] * 3)
         raw = struct.pack("=4q", *offsets)
         for text, offsets, options in (
-            ("first=0 and rows=-7 can't be negative", offsets, {"rows": -7}),
+            ("first=0 and rows=-1 can't be negative", offsets, {"rows": -1}),
             ("first=-1 and rows=None can't be negative", offsets, {"first": -1}),
             *((f"not {rows} from row {first} on", offsets, {"first": first, "rows": rows})
               for first, rows in ((4, 0), (2**62, 0), (0, 2**62))),
