@@ -57,13 +57,12 @@ const isList = (it) => Array.isArray(it) || ArrayBuffer.isView(it);
 /** How many numbers the first position of a geometry or in a list has, if there is one. */
 function widthOf(it) {
   const list = it?.geometries ?? it?.coordinates ?? it;
-  if (!isList(list)) return undefined;
+  if (!isList(list)) return;
   if (typeof list[0] === 'number') return list.length;
   for (const item of list) {
     const width = widthOf(item);
     if (width) return width;
   }
-  return undefined;
 }
 
 /** Lays ISO WKB in little endian, which `write` checks. */
