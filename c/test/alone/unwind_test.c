@@ -2,7 +2,7 @@
  * unwound by the tables of the library's code to the function that has called, which goes on with the registers that it
  * had, as the tables say. Each call faults. */
 #include "../every.h"
-#include "../shared.h"
+#include "test/shared.h"
 #include <windows.h>
 
 static int faults[EVERY_LEVELS + 1], deepest, calling;
