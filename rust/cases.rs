@@ -91,16 +91,12 @@ mod rt {
             self.0.push_str(text);
             Ok(())
         }
-
-        pub fn as_str(&self) -> &str {
-            self
-        }
     }
 
     impl Deref for String {
-        type Target = str;
+        type Target = std::string::String;
 
-        fn deref(&self) -> &str {
+        fn deref(&self) -> &std::string::String {
             &self.0
         }
     }

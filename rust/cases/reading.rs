@@ -10,46 +10,32 @@ use crate::wkb_cases::texts::{MULTI_LINE_TWO, POLYGON_HOLE};
 use crate::wkb_command::calls::{rewrite_hex_with_srid, same_hex, srid_hex};
 use crate::writing::encoding_of;
 
-/// Whether each call on a coordinate of two words returns 1.0 and 2.0.
-fn is_one_and_two<C: CoordTrait>(coord: &C) -> bool {
-    coord.dim().size() == 2
-        && [0, 1, 2].map(|n| coord.nth_word(n)) == [Some(ONE), Some(TWO), None]
-        && (coord.word_at(0), coord.word_at(1)) == (ONE, TWO)
-        && (coord.x_word(), coord.y_word()) == (ONE, TWO)
-        && coord.x_y_words() == (ONE, TWO)
+/// The part that a view of this kind returns of a geometry, which is dropped then.
+macro_rules! kept {
+    ($kind:ident($view:ident) of $geometry:expr, $part:expr) => {
+        match $geometry.as_type() {
+            GeometryType::$kind($view) => $part,
+            _ => None,
+        }
+    };
 }
 
 // The cases kept-parts, point-lifetime and line-lifetime. A ring is a geometry too: a line string.
 #[test]
 fn kept_parts() -> Result<(), Fail> {
     let input = bytes("01 01000000 P")?;
-    let coord = match read(input.as_slice())?.as_type() {
-        GeometryType::Point(point) => match point.as_type() {
-            GeometryType::Point(again) => again.coord(),
-            _ => None,
-        },
-        _ => None,
-    };
-    assert!(is_one_and_two(&coord.unwrap()));
+    let coord = kept!(Point(view) of read(input.as_slice())?, kept!(Point(again) of view, again.coord()));
+    assert_eq!(coord.unwrap().x_y_words(), (ONE, TWO));
     let input = bytes("01 02000000 02000000 P P")?;
-    let coord = match read(input.as_slice())?.as_type() {
-        GeometryType::LineString(view) => view.coord(0),
-        _ => None,
-    };
-    assert!(is_one_and_two(&coord.unwrap()));
+    let coord = kept!(LineString(view) of read(input.as_slice())?, view.coord(0));
+    assert_eq!(coord.unwrap().x_y_words(), (ONE, TWO));
     let input = bytes(POLYGON_HOLE)?;
-    let ring = match read(input.as_slice())?.as_type() {
-        GeometryType::Polygon(view) => view.exterior(),
-        _ => None,
-    };
-    assert!(is_one_and_two(&ring.unwrap().coord(0).unwrap()));
-    assert_eq!(encoding_of(&ring.unwrap())?, bytes("01 02000000 01000000 P")?.as_slice());
+    let ring = kept!(Polygon(view) of read(input.as_slice())?, view.exterior()).unwrap();
+    assert_eq!(ring.coord(0).unwrap().x_y_words(), (ONE, TWO));
+    assert_eq!(encoding_of(&ring)?, bytes("01 02000000 01000000 P")?.as_slice());
     let input = bytes(MULTI_LINE_TWO)?;
-    let line_string = match read(input.as_slice())?.as_type() {
-        GeometryType::MultiLineString(view) => view.line_string(0),
-        _ => None,
-    };
-    assert!(is_one_and_two(&line_string.unwrap().coord(0).unwrap()));
+    let line_string = kept!(MultiLineString(view) of read(input.as_slice())?, view.line_string(0)).unwrap();
+    assert_eq!(line_string.coord(0).unwrap().x_y_words(), (ONE, TWO));
     Ok(())
 }
 

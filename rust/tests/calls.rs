@@ -131,23 +131,6 @@ fn texts_of_inputs() {
     assert!(refused >= 35 && numbers >= 10, "{refused} texts, {numbers} numbers");
 }
 
-/// What the reader says is what the crate `wkb` says.
-#[test]
-fn texts_of_the_reader() {
-    let text = |bytes: &[u8]| read_wkb(bytes).unwrap_err().to_string();
-    assert_eq!(text(&[1]), "unexpected end of file");
-    assert_eq!(text(&[2]), "General error: Invalid byte order");
-    assert_eq!(text(&[1, 8, 0, 0, 0]), "General error: WKB type code out of range. Got: 8");
-    let deep: Vec<u8> = [1, 7, 0, 0, 0, 1, 0, 0, 0].repeat(129);
-    assert_eq!(text(&deep), "WKB nesting depth exceeds the maximum of 128");
-    let short = "Invalid buffer length for Point: geometry would end at byte 21, but buffer length is 5.";
-    assert_eq!(text(&[1, 1, 0, 0, 0]), format!("General error: {short}"));
-    assert_eq!(
-        text(&[1, 4, 0, 0, 0, 1, 0, 0, 0, 1, 2, 0, 0, 0, 0, 0, 0, 0, 0, 0, 0, 0, 0, 0, 0, 0, 0, 0, 0, 0]),
-        "Incorrect type passed to operation: multi geometry member"
-    );
-}
-
 #[test]
 fn classes_of_statuses() {
     assert!(Status::OK.is_ok() && !Status::OK.is_refusal());
