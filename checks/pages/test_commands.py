@@ -41,6 +41,8 @@ SOURCES = {
 SKETCHED = ["crates/wkb/src/check.rt", "crates/wkb/src/lib.rt"]
 # The program as such commands run it.
 RUNS = re.compile(r"\./wkb_hex (\S+) < (\S+)$")
+# A command of ours or of the kit, and its words.
+COMMAND = re.compile(rf"(?:.* )?({OURS}/(?!out)[\w./]+|make|rt)((?: .*)?)$")
 # With the kit these commands build and test everything, and README names them.
 KIT = "./wkb_hex be < examples/point.hex", "rt ci"
 
@@ -137,6 +139,10 @@ def lost_examples():
                 yield f"{name}: no proved code has\n{example}"
 
 
+def is_crate(name):
+    return (ROOT / "crates" / name).is_dir()
+
+
 def flat(text):
     return re.sub(r"(?m)^ +", "", text)
 
@@ -161,31 +167,20 @@ def said_of_kit():
 
 
 def lost_words(page):
-    """The words of commands of ours and of the kit's, also of those in sentences, that no script, no Makefile and no
-    help takes."""
-    makefiles = text_of("c/Makefile") + text_of("postgres/Makefile")
+    """The flags, variables and first words of commands of ours and of the kit's, also of those in sentences, that no
+    script, no Makefile and no help has."""
+    goals = re.findall(r"(?m)^\.?[\w. -]+:|\b[A-Z_]{3,}\b", text_of("c/Makefile") + text_of("postgres/Makefile"))
     every = [command for _, command, _ in commands(page)]
     every += [span for _, line in lines_of(page) for span in spans(line)]
-    for words in (part.split() for command in every for part in re.split(r"[|;&()]+ ?", command)):
-        own = [at for at, it in enumerate(words) if re.match(rf"{OURS}/[\w./]+$", it)]
-        first = words[own[0]] if own else ""
-        if words[:1] == ["make"]:
-            for it in re.findall(r" ([A-Z_]{3,}(?==))|^make (?:-C \w+ )?([a-z][a-z0-9-]*)\b", " ".join(words)):
-                if not re.search(rf"\b{it[0]}\b" if it[0] else rf"(?m)^\.?[\w ]*\b{it[1]}\b[\w ]*:", makefiles):
-                    yield f"{page}: no Makefile has {''.join(it)}"
-        elif words[:1] == ["rt"] and said_of_kit():
-            options = " ".join(words).split(" -- ")[0]
-            yield from (f"{page}: rt has no {it}" for it in re.findall(r"(?<=^rt )[a-z-]+|--[a-z-]+", options)
-                        if not re.search(rf"(?<![\w-]){it}(?![\w-])", said_of_kit()))
-        elif first == "checks/edits/run":
-            yield from (f"{page}: no edit is {it}" for it in words[own[0] + 1 :] if re.match("[a-z]", it)
-                        if not (ROOT / "crates" / it).is_dir() and not (ROOT / f"checks/edits/{it}.edit").is_file())
-        elif own and (ROOT / first).is_file():
-            more = words[own[0] + 1 :]
-            flags = {it.partition("=")[0] for it in more if re.match("--[a-z]", it)}
-            verbs = {it for it in more[:1] if re.fullmatch("[a-z]+", it) and not (ROOT / "crates" / it).is_dir()}
-            yield from (f"{page}: {first} has no {it}" for it in flags | verbs if own[0] == 0 or it in flags
-                        if not re.search(rf"(?<![\w-]){it}(?![\w-])", text_of(first)))
+    for part in (part for command in every for part in re.split(r"[|;&()]+ ?", command)):
+        name, words = COMMAND.match(part).groups() if COMMAND.match(part) else ("", "")
+        text = {"make": " ".join(goals), "rt": said_of_kit()}.get(name) or (ROOT / name).is_file() and text_of(name)
+        asked = re.findall(r" (--[a-z-]+|[A-Z_]{3,}(?==))|^(?: -C \w+)? ([a-z-]+)(?= |$)", words)
+        yield from (f"{page}: {name} has no {it}" for it in map("".join, asked) if text and not is_crate(it)
+                    and not re.search(rf"(?<![\w-]){it}(?![\w-])", text))
+        edits = re.findall(r" ([a-z][\w/]*)", words) if name == "checks/edits/run" else ()
+        yield from (f"{page}: no edit is {it}" for it in edits
+                    if not is_crate(it) and not (ROOT / f"checks/edits/{it}.edit").is_file())
 
 
 class Shown(judge.Judge):
