@@ -14,11 +14,12 @@ constexpr wkb_options LITTLE{WKB_ORDER_LITTLE, WKB_FORM_ISO, 0}, BIG{WKB_ORDER_B
 constexpr wkb_kind ANY = WKB_KIND_GEOMETRY_COLLECTION;
 std::vector<std::byte> out;
 
-struct call_of_one {
+template <class given>
+struct call {
   const char *name;
-  void (*run)(wkb::bytes);
+  void (*run)(given);
 };
-const call_of_one OF_ONE[] = {
+const call<wkb::bytes> OF_ONE[] = {
     {"check", [](wkb::bytes it) { (void)wkb::check(it); }},
     {"bounds", [](wkb::bytes it) { (void)wkb::try_bounds(it); }},
     {"write", [](wkb::bytes it) { (void)wkb::try_write(it, LITTLE, out); }},
@@ -26,11 +27,7 @@ const call_of_one OF_ONE[] = {
     {"same", [](wkb::bytes it) { (void)wkb::try_same(it, it); }},
     {"parts", [](wkb::bytes it) { wkb::reader all; if (auto of = all.try_read(it)) sum_of(*of); }}};
 
-struct call_of_rows {
-  const char *name;
-  void (*run)(const wkb_column &);
-};
-const call_of_rows OF_ROWS[] = {
+const call<const wkb_column &> OF_ROWS[] = {
     {"check_rows", [](const wkb_column &it) { (void)wkb::check_rows(it); }},
     {"facts_of_rows", [](const wkb_column &it) { (void)wkb::facts_of_rows(it); }},
     {"parts_of_rows", [](const wkb_column &it) { (void)wkb::parts_of_rows(it); }},
