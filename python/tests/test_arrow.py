@@ -326,8 +326,9 @@ class FromArrow(unittest.TestCase):
         for ends in itertools.product((-(2**31), -1, 0, 7, 21, 42, 2**31 - 1), repeat=3):
             source = Arrow(rows=[BIG_POINT, POINT, POINT], offset=1, length=2)
             source.memory[1][4:] = struct.pack("=3i", *ends[:2], min(ends[2], 63))
-            column = Column.from_arrow(source)
-            self.assertEqual(statuses(pickle.loads(pickle.dumps(column))), statuses(column), ends)
+            whole = Column.from_arrow(source)
+            for column in (whole, whole[:1], whole[1:]):
+                self.assertEqual(statuses(pickle.loads(pickle.dumps(column))), statuses(column), ends)
 
 
 class FromChunks(unittest.TestCase):

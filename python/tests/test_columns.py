@@ -90,9 +90,14 @@ class Split(unittest.TestCase):
         self.assertEqual([*column.check()], [Status.CODE_OUT_OF_RANGE, Status.BAD_OFFSETS, Status.BAD_OFFSETS])
 
     def test_slices(self):
-        column = Column.of([POINT, None, LINE, b"", POLYGON])
-        for some in (slice(1, 3), slice(None), slice(-2, None), slice(3, 1), slice(9, 99), slice(0, 0)):
-            self.assertEqual(statuses(column[some]), statuses(column)[some])
+        """Of memory of its own, of Arrow and of others; what is pickled has the bytes of the slice alone."""
+        data, offsets = rows_of(POINT, LINE, 1000 * b"\2", POLYGON)
+        for column in (Column.of([POINT, None, LINE, b"", POLYGON]), Column.from_arrow(Column.of(3 * [POINT]).write()),
+                       Column(memoryview(data), memoryview(offsets), memoryview(b"\5"))):
+            for some in (slice(1, 3), slice(None), slice(-2, None), slice(3, 1), slice(9, 99), slice(0, 0)):
+                self.assertEqual(statuses(column[some]), statuses(column)[some])
+                self.assertEqual(statuses(pickle.loads(pickle.dumps(column[some]))), statuses(column)[some])
+        self.assertLess(len(pickle.dumps(column[:2])), 1000)
         self.assertRaisesRegex(ValueError, "every 2", lambda: column[::2])
         for wrong in (lambda: column[0], lambda: list(column), lambda: column["a"]):
             self.assertRaisesRegex(TypeError, "column of one", wrong)

@@ -108,21 +108,20 @@ class Column:
         return column
 
     def __getstate__(self) -> Dict[str, Any]:
-        """Return what is pickled: of memory that is someone else's, a copy of what the rows have there."""
-        state = dict(self.__dict__, _owner=None)
-        if self._owner is not None and self._rows:
-            state.update(self._copied())
+        """Return what is pickled: copies of what the rows have, behind up to seven rows without bytes, since a byte of
+        validity has the bits of eight.
+        """
+        before, end = self._first % 8, self._first + self._rows
+        with Inputs() as inputs:
+            data, offsets = self._shown(inputs)
+            least = min(max(min(offsets), 0), data.nbytes)  # where one is negative all stay as they are
+            own = bytes(data[least : max(max(offsets), least)])
+            lowered = array.array(offsets.format, before * [0] + [it - least for it in offsets]).tobytes()
+            state = dict(self.__dict__, _owner=None, _data=own, _offsets=lowered, _first=before)
+            if self._validity is not None:
+                bits = flat(inputs.view(self._validity))
+                state["_validity"] = bytes(bits[self._first // 8 : (end + 7) // 8])
         return state
-
-    def _copied(self) -> Dict[str, Any]:
-        """Return the rows alone, but for up to seven before them, since a byte of validity has the bits of eight."""
-        size, before = self._offset_size, self._first % 8
-        begin, end = self._first - before, self._first + self._rows
-        offsets = view_of(self._offsets).cast("B")[begin * size : (end + 1) * size].cast("i" if size == 4 else "q")
-        least = max(min(offsets), 0)  # where one is negative all stay as they are
-        lowered = array.array(offsets.format, [it - least for it in offsets]).tobytes()
-        bits = None if self._validity is None else bytes(view_of(self._validity)[begin // 8 : (end + 7) // 8])
-        return {"_data": bytes(view_of(self._data)[least:]), "_offsets": lowered, "_validity": bits, "_first": before}
 
     def __len__(self) -> int:
         return self._rows
