@@ -101,11 +101,12 @@ class GeoParquet(unittest.TestCase):
                 wkb.geoparquet(column, covering="bbox")
 
     def test_without_coordinates(self):
-        """There is no box unless there are numbers in x and in y."""
+        """There is no box unless there are numbers in x and in y, all of which JSON has."""
         x_alone, y_alone = (struct.pack("<BI2d", 1, 1, *words) for words in ((1, math.nan), (math.nan, 1)))
         x_and_z, y_and_z = (struct.pack("<BI3d", 1, 1001, *words) for words in ((1, math.nan, 3), (math.nan, 1, 3)))
+        far = struct.pack("<BI2d", 1, 1, 1, math.inf)
         for rows in ([], [None], [EMPTY_POINT], [geometry(2)[:5] + bytes(4)], [x_alone], [y_alone], [x_and_z],
-                     [y_and_z]):
+                     [y_and_z], [far]):
             self.assertNotIn("bbox", wkb.geoparquet(Column.of(rows)).metadata["columns"]["geometry"])
 
     def test_refused(self):

@@ -69,8 +69,9 @@ class Metadata(unittest.TestCase):
         column = Column.of([POINT])
         column.metadata = '{"crs": "S\u00e3o \u6771"}'
         for wrong, error in (({"crs": 1}, TypeError), (CRS, TypeError), ("EPSG:4326", ValueError), ("", ValueError),
-                             ("[]", ValueError), ("null", ValueError)):
-            with self.subTest(wrong), self.assertRaisesRegex(error, "metadata is"):
+                             ("[]", ValueError), ("null", ValueError), ('{"crs": NaN}', ValueError),
+                             (10**5 * "[", ValueError)):
+            with self.subTest(str(wrong)[:20]), self.assertRaisesRegex(error, "metadata is"):
                 column.metadata = wrong
         self.assertEqual(metadata_of(column.write()), ("geoarrow.wkb", '{"crs": "S\u00e3o \u6771"}'))
         self.assertEqual(Column.from_arrow(column.write()).metadata, column.metadata)

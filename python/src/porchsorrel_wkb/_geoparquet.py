@@ -1,5 +1,6 @@
 # SPDX-License-Identifier: MIT OR Apache-2.0
 """What GeoParquet says of a column of geometries."""
+import math
 from typing import Any, Dict, List, NamedTuple, Optional
 
 from ._buffers import Inputs, many
@@ -37,7 +38,7 @@ def geoparquet(column: Column, name: str = "geometry", covering: Optional[str] =
     that has none, the file says that none is known. A null row counts as none. Raise `ValueError` where the file would
     not be GeoParquet: a row is rejected, has an m, is EWKB or has bytes behind its geometry, or the CRS isn't PROJJSON.
     Where edges are spherical, lines and polygons may leave the boxes of their coordinates: then nothing is said of
-    bounds, and a covering is a `ValueError`.
+    bounds, and a covering is a `ValueError`. Nor is anything said of bounds that are infinite, which JSON can't have.
     """
     facts = column.facts()
     _expect_rows(column, facts)
@@ -50,7 +51,7 @@ def geoparquet(column: Column, name: str = "geometry", covering: Optional[str] =
     has_arcs = about.get("edges") == "spherical" and any(kind not in POINTS for kind, _ in facts.types)
     if has_arcs and covering is not None:
         raise ValueError("edges are spherical, and an arc leaves the box of its ends: lines have no covering")
-    if all(it.count for it in ranges) and not has_arcs:
+    if all(math.isfinite(end) for it in ranges for end in it[:2]) and not has_arcs:
         about["bbox"] = [it.least for it in ranges] + [it.greatest for it in ranges]
     if covering is not None:
         axes = "xy" + "z" * bool(facts.box.z.count)

@@ -80,8 +80,8 @@ def _joined(rows: List[Any]) -> Tuple[bytes, bytes]:
 def object_of(metadata: str) -> Dict[str, Any]:
     """Return the JSON object that the metadata is."""
     try:
-        found = json.loads(metadata)
-    except ValueError as error:
+        found = json.loads(metadata, parse_constant=int)  # NaN and Infinity, which are no JSON, are no integers
+    except (ValueError, RecursionError) as error:
         raise ValueError(f"column.metadata is not JSON: {error}") from None
     if not isinstance(found, dict):
         raise ValueError(f'column.metadata is a JSON object such as {{"crs": ..}}, and not {metadata}')
