@@ -259,6 +259,7 @@ class Wrong(unittest.TestCase):
         for error, text, call, *arguments in (
             (ValueError, r"no column 'x', but \['', 'shape'\]", Column.from_arrow, records(Arrow()), "x"),
             (ValueError, r"no column 'x', but \[\]", Column.from_arrow, Arrow(), "x"),
+            (ValueError, r"no column 1, but \['', 'shape'\]", Column.from_arrow, records(Arrow()), 1),
             (TypeError, "list has no method __arrow_c_array__$", Column.from_arrow, ROWS),
             (TypeError, "list has no method __arrow_c_stream__$", chunks, ROWS),
             (TypeError, "from_arrow takes", chunks, Arrow()),

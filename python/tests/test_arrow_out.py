@@ -274,7 +274,8 @@ class FromGeoArrow(unittest.TestCase):
 
     def test_arguments(self):
         make = lambda: Lists([(0, 2)], [(1.0, 2.0, 3.0, 4.0)])
-        for given in ({"ring_offsets": array.array("q", [0])}, {"validity": b"\1"}, {"offset_size": 4}):
+        for given in ({"ring_offsets": array.array("q", [0])}, {"validity": b"\1"}, {"offset_size": 4},
+                      {"validity_offset": 1}):
             with self.assertRaisesRegex(TypeError, "has its own offsets"):
                 column_from_coordinates(Kind.LINE_STRING, make(), **given)
         for other in [it for it in Dimension if it != Dimension.XYZ]:

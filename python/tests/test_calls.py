@@ -76,7 +76,8 @@ class Calls(unittest.TestCase):
         for options in ((2,), (2**32,), (-1,), (0, 4), (0, 2, -1), (0, 2, 2**32)):
             self.assertRaises(ValueError, wkb.write, POINT, *options)
             self.assertRaises(ValueError, wkb.Column(*rows_of(POINT)).write, *options)
-        self.assertRaises(TypeError, wkb.write, POINT, 0, 2, 4326.0)
+        for srid in (4326.0, 0.0, ""):
+            self.assertRaises(TypeError, wkb.write, POINT, 0, 2, srid)
         self.assertRaisesRegex(ValueError, "from 0 to 4294967295", wkb.write, POINT, srid=-1)
         for form in Form:
             srid = None if form == Form.EWKB_WITH_SRID else 4326
@@ -118,13 +119,15 @@ class Calls(unittest.TestCase):
         self.assertEqual(wkb.status_text(99), wkb.status_text(100))
         for other in ("32", None, 1.0):
             self.assertRaises(TypeError, wkb.status_text, other)
+        for other in (-1, 256, 2**32):
+            self.assertRaises(ValueError, wkb.status_text, other)
 
     def test_statuses(self):
         """A status that a later version has is of a class too, and has a name."""
         self.assertEqual([it for it in Status if wkb.is_refusal(it)], list(Status)[8:])
         self.assertEqual([it for it in Status if wkb.is_early_end(it)], [32, 48, 49, 50, 51])
         self.assertTrue(wkb.is_early_end(Status(255)) and not wkb.is_early_end(Status(47)))
-        later = Status(52)
+        later = Status(numpy.uint8(52) if numpy else 52)
         self.assertEqual((later.name, later, wkb.is_refusal(later)), ("STATUS_52", 52, True))
         self.assertEqual((Status(19).name, pickle.loads(pickle.dumps(later))), ("STATUS_19", later))
         for number in (-1, 256, "ok"):

@@ -44,8 +44,9 @@ class Of(unittest.TestCase):
             text = f"row 1 is neither bytes nor None: .*, not .{type(row).__name__}.: "
             with self.assertRaisesRegex(TypeError, text):
                 Column.of([POINT, row])
-        for whole in (POINT, bytearray(POINT), memoryview(POINT), "text"):
+        for whole in (POINT, bytearray(POINT), memoryview(POINT), "text", array.array("B", POINT), mmap.mmap(-1, 21)):
             self.assertRaisesRegex(TypeError, "this is one", Column.of, whole)
+        self.assertRaisesRegex(TypeError, "which from_arrow takes", Column.of, Column.of([POINT]).write())
         self.assertRaises(TypeError, Column.of, 5)
 
     @unittest.skipUnless(pandas and numpy, "pandas or numpy is not here")
@@ -62,6 +63,10 @@ class Of(unittest.TestCase):
         self.is_right(numpy.array(ROWS, dtype=object))
         self.assertRaisesRegex(TypeError, "type S drops the zeros", Column.of, numpy.array([POINT, b"\1\0"]))
         self.assertRaisesRegex(TypeError, "of 2 dimensions", Column.of, numpy.array([[POINT]], dtype=object))
+        masked = numpy.ma.array([POINT, POINT], mask=[False, True], dtype=object)
+        for row, numbers in ((0, numpy.array([1.0])), (1, masked), (1, [POINT, numpy.float64("nan")])):
+            self.assertRaisesRegex(TypeError, f"row {row} .* one number of numpy's", Column.of, numbers)
+        self.assertEqual(len(Column.of(numpy.array([]))), 0)
 
 
 class Split(unittest.TestCase):
@@ -226,6 +231,7 @@ class Levels(unittest.TestCase):
             (ValueError, "no row of kind GEOMETRY_COLLECTION", (Kind.GEOMETRY_COLLECTION, numbers), {}),
             (ValueError, "8 is not a valid Kind", (8, numbers), {}),
             (ValueError, "4 is not a valid Dimension", (1, numbers), {"dimension": 4}),
+            (ValueError, "'' is not a valid Dimension", (1, numbers), {"dimension": ""}),
             (ValueError, "2 is not a valid Order", (1, numbers), {"order": 2}),
             (ValueError, "no other form", (1, numbers), {"srid": 4326}),
             (ValueError, "3 numbers are not 2 for each", (1, array.array("d", [1, 2, 3])), {}),

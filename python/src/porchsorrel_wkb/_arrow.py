@@ -230,7 +230,7 @@ def check_array(it: Array, children: int, buffers: range) -> None:
 
 def _number_of(name: str, schema: Schema) -> int:
     """Return which child of records has this name. None is looked at that comes after it."""
-    names, most = [], max(4 * len(name) + 1, SHOWN)  # a character has at most four bytes
+    names, most = [], max(4 * len(str(name)) + 1, SHOWN)  # a character has at most four bytes
     if schema.format == b"+s" and not schema.dictionary:
         for number in range(schema.n_children):
             found = schema.child(number).name(most)

@@ -31,11 +31,12 @@ class Status(enum.IntEnum):
     SHORT_LINEAR_RING = 51
 
     @classmethod
-    def _missing_(cls, value: object) -> Any:
-        if not isinstance(value, int) or not 0 <= value < 256:
+    def _missing_(cls, value: Any) -> Any:
+        number = operator.index(value) if hasattr(value, "__index__") else -1
+        if not 0 <= number < 256:
             return None
-        status = int.__new__(cls, value)
-        status._name_, status._value_ = f"STATUS_{value}", value
+        status = int.__new__(cls, number)
+        status._name_, status._value_ = f"STATUS_{number}", number
         return status
 
     def __reduce_ex__(self, protocol: Any) -> Any:
@@ -111,7 +112,7 @@ def make_options(order: Order, form: Optional[Form], srid: Optional[int]) -> Tup
         form = ISO if srid is None else WITH_SRID
     if (srid is not None) != (form == WITH_SRID):
         raise ValueError("an SRID is written in Form.EWKB_WITH_SRID, and in no other form")
-    number = operator.index(srid or 0)
+    number = 0 if srid is None else operator.index(srid)
     if not 0 <= number < 2**32:
         raise ValueError(f"SRID {number} is not from 0 to 4294967295")
     return order if isinstance(order, Order) else Order(order), form if isinstance(form, Form) else Form(form), number

@@ -106,12 +106,12 @@ def column_from_coordinates(
         raise ValueError(f"validity_offset={first_bit} can't be negative")
     given, options = (ring_offsets, single_offsets, row_offsets), make_options(order, form, srid)
     if hasattr(coordinates, "__arrow_c_array__"):
-        if any(it is not None for it in (*given, validity, offset_size)):
+        if first_bit or any(it is not None for it in (*given, validity, offset_size)):
             raise TypeError("an Arrow array has its own offsets and validity: no others are taken")
         levels = levels_of_arrow(coordinates, kind)
         if dimension not in (None, levels.dimension):
             raise ValueError(f"the Arrow array has coordinates of {levels.dimension.name}, and not {dimension!r}")
         return _write(kind, options, levels)
     rings, singles, rows = (_level(it, offset_size) for it in given)
-    dimension = Dimension(dimension or Dimension.XY)
+    dimension = Dimension.XY if dimension is None else Dimension(dimension)
     return _write(kind, options, Levels(coordinates, (rings, singles, rows), validity, first_bit, dimension))

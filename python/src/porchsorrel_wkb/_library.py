@@ -7,6 +7,8 @@ import pathlib
 import sys
 from typing import Any, Tuple
 
+from ._enums import Status
+
 _NAME = {"win32": "libwkb.dll", "darwin": "libwkb.dylib"}.get(sys.platform, "libwkb.so")
 _PATH = str(pathlib.Path(__file__).with_name(_NAME))
 # The library twice: calls by the first keep the interpreter's lock, and calls by the second give it back.
@@ -129,5 +131,5 @@ def version() -> Tuple[int, int, int]:
 
 def status_text(status: int) -> str:
     """Return what a status says, in one line."""
-    text: bytes = STATUS_TEXT.locked(operator.index(status))
+    text: bytes = STATUS_TEXT.locked(Status(operator.index(status)))
     return text.decode()

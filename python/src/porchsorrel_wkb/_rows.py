@@ -6,7 +6,7 @@ import json
 import struct
 from typing import Any, Dict, Iterable, List, NamedTuple, Optional, Tuple
 
-from ._buffers import Buffer, view_of
+from ._buffers import BYTES, Buffer, code_of, view_of
 
 
 class Pieces(NamedTuple):
@@ -24,9 +24,20 @@ class Pieces(NamedTuple):
 
 def _bytes_of_row(i: int, row: Any) -> bytes:
     try:
-        return bytes(view_of(row))
+        view = view_of(row)
+        if view.ndim == 0 and len(view.format) == 1:
+            raise TypeError("it is one number of numpy's")
+        return bytes(view)
     except TypeError as error:
         raise TypeError(f"row {i} is neither bytes nor None: {error}") from None
+
+
+def _is_blob(rows: Any) -> bool:
+    """Return whether this is one buffer of bytes."""
+    try:
+        return code_of(memoryview(rows)) in BYTES
+    except (TypeError, ValueError):  # such as an array of numpy's dates
+        return False
 
 
 # The digit of a status in a bitmap.
@@ -44,8 +55,10 @@ def pieces_of(rows: Iterable[Optional[Buffer]]) -> Pieces:
     """Return the rows in one piece of memory."""
     column: Any = rows
     metadata = _metadata_of(getattr(column, "crs", None))
-    if isinstance(column, (str, bytes, bytearray, memoryview)):
+    if isinstance(column, str) or _is_blob(column):
         raise TypeError(f"a column is made of many rows, and this is one {type(column).__name__}")
+    if hasattr(column, "__arrow_c_array__"):
+        raise TypeError(f"a {type(column).__name__} is an Arrow array, which from_arrow takes")
     if getattr(column, "ndim", 1) != 1:
         raise TypeError(f"a {type(column).__name__} of {column.ndim} dimensions is not one column")
     if getattr(getattr(column, "dtype", None), "kind", "O") == "S":
