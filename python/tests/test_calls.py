@@ -191,7 +191,7 @@ class Buffers(unittest.TestCase):
         self.addCleanup(gc.enable)
         of = lambda data: (
             *calls(data, Column(data, array.array("q", [0, len(data)])), array.array("d", [1, 2])),
-            lambda: wkb.coordinates(data, wkb.parts(data)[0]),
+            lambda: wkb.coordinates(data, wkb.parts(data)[0]), lambda: numpy and wkb.view(data, wkb.parts(POLYGON)[0]),
             lambda: Column(data, b"\0" * 7, offset_size=4),
             lambda: Column(b"", bytes(16), data, first=10**6, offset_size=8),
             lambda: Column(data, data[:16], data, offset_size=8).check(),

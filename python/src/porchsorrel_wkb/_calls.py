@@ -146,10 +146,10 @@ def view(data: Buffer, part: Union[Part, Found]) -> Numbers:
     """
     import numpy
 
-    view = flat(view_of(data))
-    place = _words_of(data, view, part)
-    order = ">" if part.order == Order.BIG else "<"
-    return numpy.frombuffer(view[slice(*place)], order + "f8").reshape(-1, part.dimension.width)
+    with flat(view_of(data)) as view:
+        begin, end = _words_of(data, view, part)
+        order = ">" if part.order == Order.BIG else "<"
+        return numpy.frombuffer(view[begin:end], order + "f8").reshape(-1, part.dimension.width)
 
 
 def geopackage_header(data: Buffer) -> Optional[GeoPackageHeader]:
