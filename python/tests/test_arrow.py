@@ -187,19 +187,28 @@ def cases():
         yield some, WRONG, lambda: changed(make, 0, lambda it: it, array, *some)
     for to, take, expected in ((lambda it: it, array, GONE), (records, array, GONE), (lambda it: it, stream, [])):
         yield "released already", expected, lambda: changed(Arrow, 0, to, take, ("array.release", None))
-    words = [(1.0, 2.0, 3.0, 4.0)]
-    for error, text, make, *kind in (
-        (TypeError, "'[+]w:2' is not a list", lambda: Lists([], words)),
-        (TypeError, "'[+]l' has no coordinates", lambda: Lists([(0, 1)], words), Kind.POINT),
-        (TypeError, "'z' is not a list", Arrow),
-        (TypeError, "'Z' has no coordinates", lambda: Arrow(b"Z"), Kind.POINT),
-        (TypeError, "coordinates of 'yx'", lambda: Lists([], [(1.0,), (2.0,)], "yx"), Kind.POINT),
-        (ValueError, "lists from item 0 to -1", lambda: Lists([(0, -1)], words)),
-        (ValueError, "lists from item -1 to 1", lambda: Lists([(-1, 1)], words)),
-        (ValueError, "lists from item 2 to 1", lambda: Lists([(2, 1)], words)),
-        (ValueError, "fewer items", lambda: Lists([(0, 3)], words)),
+    words, is_stream = [(1.0, 2.0, 3.0, 4.0)], type("Chunked", (), {"__arrow_c_stream__": None})()
+    for error, text, take, source, *more in (
+        (TypeError, "'[+]w:2' is not a list", coordinates, Lists([], words)),
+        (TypeError, "'[+]l' has no coordinates", coordinates, Lists([(0, 1)], words), Kind.POINT),
+        (TypeError, "'z' is not a list", coordinates, Arrow()),
+        (TypeError, "'Z' has no coordinates", coordinates, Arrow(b"Z"), Kind.POINT),
+        (TypeError, "coordinates of 'yx'", coordinates, Lists([], [(1.0,), (2.0,)], "yx"), Kind.POINT),
+        (ValueError, "lists from item 0 to -1", coordinates, Lists([(0, -1)], words)),
+        (ValueError, "lists from item -1 to 1", coordinates, Lists([(-1, 1)], words)),
+        (ValueError, "lists from item 2 to 1", coordinates, Lists([(2, 1)], words)),
+        (ValueError, "fewer items", coordinates, Lists([(0, 3)], words)),
+        (ValueError, r"no column 'x', but \['', 'shape'\]", Column.from_arrow, records(Arrow()), "x"),
+        (ValueError, r"no column 'x', but \[\]", Column.from_arrow, Arrow(), "x"),
+        (ValueError, r"no column 1, but \['', 'shape'\]", Column.from_arrow, records(Arrow()), 1),
+        (TypeError, "list has no method __arrow_c_array__$", Column.from_arrow, ROWS),
+        (TypeError, "list has no method __arrow_c_stream__$", Column.chunks_from_arrow, ROWS),
+        (TypeError, "from_arrow takes", Column.chunks_from_arrow, Arrow()),
+        (TypeError, "chunks_from_arrow takes", Column.from_arrow, is_stream),
+        # The type of a stream is looked at before an array is asked for.
+        (TypeError, "binary", Column.chunks_from_arrow, Stream(Arrow(b"u"), [])),
     ):
-        yield text, (error, text), lambda: changed(make, 0, lambda it: it, lambda it: coordinates(it, *kind))
+        yield text, (error, text), lambda: take(source, *more)
     yield from stream_cases()
     yield from second_cases()
 
@@ -252,21 +261,6 @@ class Wrong(unittest.TestCase):
                 with contextlib.nullcontext() if is_right else self.assertRaisesRegex(*expected):
                     self.assertEqual([int(it) for column in call() for it in column.write().statuses], expected)
         self.assertGreater(count, 1000)
-
-    def test_names(self):
-        """A column that isn't there, and what has no such method. The type of a stream is looked at first."""
-        is_stream, chunks = type("Chunked", (), {"__arrow_c_stream__": None})(), Column.chunks_from_arrow
-        for error, text, call, *arguments in (
-            (ValueError, r"no column 'x', but \['', 'shape'\]", Column.from_arrow, records(Arrow()), "x"),
-            (ValueError, r"no column 'x', but \[\]", Column.from_arrow, Arrow(), "x"),
-            (ValueError, r"no column 1, but \['', 'shape'\]", Column.from_arrow, records(Arrow()), 1),
-            (TypeError, "list has no method __arrow_c_array__$", Column.from_arrow, ROWS),
-            (TypeError, "list has no method __arrow_c_stream__$", chunks, ROWS),
-            (TypeError, "from_arrow takes", chunks, Arrow()),
-            (TypeError, "chunks_from_arrow takes", Column.from_arrow, is_stream),
-            (TypeError, "binary", chunks, Stream(Arrow(b"u"), [])),
-        ):
-            self.assertRaisesRegex(error, text, call, *arguments)
 
 
 class FromArrow(unittest.TestCase):

@@ -70,23 +70,6 @@ class Of(unittest.TestCase):
 
 
 class Split(unittest.TestCase):
-    def test_rows(self):
-        """All rows are in one of the columns, whatever the slice and the count are."""
-        rows = [POINT if i % 3 else None for i in range(20)]
-        data, offsets = rows_of(*(row or b"" for row in rows))
-        bits = sum((row is not None) << i for i, row in enumerate(rows)).to_bytes(3, "little")
-        for first, count in ((0, 20), (3, 9), (7, 1), (20, 0), (11, None)):
-            column = Column(data, offsets, bits, first=first, rows=count)
-            column.metadata = "{}"
-            for parts in (1, 2, 3, 7, 30):
-                columns = column.split(parts)
-                self.assertEqual([it.metadata for it in columns], ["{}"] * parts)
-                self.assertEqual(sum(map(statuses, columns), []), statuses(column))
-                self.assertEqual(sum((list(it.write().rows) for it in columns), []), rows[first:][:count])
-                self.assertLess(max(map(len, columns)) - min(map(len, columns)), 2)
-        for count in (0, -1):
-            self.assertRaises(ValueError, column.split, count)
-
     def test_faults(self):
         """What a row with bad offsets has is no fault."""
         for data, offsets in ((POINT, [0, 99]), (bytes(range(20)), [0, 10, 5, 20])):
@@ -97,12 +80,21 @@ class Split(unittest.TestCase):
     def test_slices(self):
         """Of memory of its own, of Arrow and of others; what is pickled has the bytes of the slice alone."""
         data, offsets = rows_of(POINT, LINE, 1000 * b"\2", POLYGON)
+        whole = Column(memoryview(data), memoryview(offsets), memoryview(b"\5"))
         for column in (Column.of([POINT, None, LINE, b"", POLYGON]), Column.from_arrow(Column.of(3 * [POINT]).write()),
-                       Column(memoryview(data), memoryview(offsets), memoryview(b"\5"))):
+                       whole, whole[1:]):
             for some in (slice(1, 3), slice(None), slice(-2, None), slice(3, 1), slice(9, 99), slice(0, 0)):
                 self.assertEqual(statuses(column[some]), statuses(column)[some])
                 self.assertEqual(statuses(pickle.loads(pickle.dumps(column[some]))), statuses(column)[some])
-        self.assertLess(len(pickle.dumps(column[:2])), 1000)
+            for count in (1, 2, 4, 9):
+                columns = column.split(count)
+                self.assertEqual(([it.metadata for it in columns], sum(map(statuses, columns), [])),
+                                 ([column.metadata] * count, statuses(column)))
+                self.assertLess(max(map(len, columns)) - min(map(len, columns)), 2)
+            for count in (0, -1):
+                self.assertRaises(ValueError, column.split, count)
+        self.assertEqual(statuses(Column(data, offsets, b"\5", first=1, rows=2)), statuses(whole[1:3]))
+        self.assertLess(len(pickle.dumps(whole[:2])), 1000)
         self.assertRaisesRegex(ValueError, "every 2", lambda: column[::2])
         for wrong in (lambda: column[0], lambda: list(column), lambda: column["a"]):
             self.assertRaisesRegex(TypeError, "column of one", wrong)
@@ -203,14 +195,11 @@ class Results(unittest.TestCase):
         if numpy:
             self.assertEqual(it.coordinates.shape, (4, 2))
             self.assertEqual(it.ring_offsets[it.single_offsets[it.row_offsets]].tolist(), [0, 2, 3, 4])
-            tables = column.bounds().boxes, column.parts().parts, column.found().found
-            boxes, parts, found = map(numpy.asarray, tables)
-            self.assertEqual((boxes["x"]["count"].tolist(), boxes["y"]["least"][0]), ([1, 0, 1], 2.0))
-            self.assertEqual(parts["kind"].tolist(), [4, 1, 1, 1, 3, 0])
-            self.assertEqual(parts["end"].tolist(), [51, 30, 51, 21, 33, 33])
+            table = column.found().found
+            found = numpy.asarray(table)
             self.assertEqual((found["kind"].tolist(), found["srid"].tolist()), ([4, 1, 3], [0, 0, 4326]))
-            self.assertTrue(numpy.shares_memory(found, tables[2].__array__()))
-            self.assertFalse(numpy.shares_memory(found, tables[2].__array__(copy=True)))
+            self.assertTrue(numpy.shares_memory(found, table.__array__()))
+            self.assertFalse(numpy.shares_memory(found, table.__array__(copy=True)))
 
 
 class Levels(unittest.TestCase):

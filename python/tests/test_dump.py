@@ -2,7 +2,6 @@
 import contextlib
 import pathlib
 import re
-import struct
 import subprocess
 import sys
 import unittest
@@ -46,10 +45,6 @@ class Dump(unittest.TestCase):
         for items, lines in ((-1, 0), (2**32, 0), (0, -1), (0, 2**64)):
             self.assertRaisesRegex(ValueError, "are not from 0", wkb.dump, POINT, items, lines)
         self.assertRaises(TypeError, wkb.dump, None)
-
-    def test_envelope(self):
-        blob = b"GP\0\3" + struct.pack("<i4d", 4326, 1, 3, 2, 4) + POINT
-        self.assertEqual(wkb.geopackage_header(blob), (40, 4326, "xy", (1.0, 3.0, 2.0, 4.0)))
 
 
 class Program(unittest.TestCase):

@@ -113,7 +113,7 @@ class GeoParquet(unittest.TestCase):
         inside = struct.pack("<BII", 1, 1007, 1) + geometry(1, 1, form=0)
         for row, text in (
             (b"\2", r"row 1 is rejected: a byte order is neither 0 nor 1, at byte 0 \(part 0\)"),
-            (POLYGON, "row 1 has SRID 4326"), (geometry(1, 2), "a POINT is XYM"),
+            (POLYGON, "row 1 is EWKB"), (geometry(1, 2), "a POINT is XYM"),
             (geometry(7, 3), "a GEOMETRY_COLLECTION is XYZM"), (geometry(1, 1, form=0), "row 1 is EWKB"),
             (geometry(5, 1, ">", form=0), "row 1 is EWKB"), (inside, "row 1 is EWKB"),
             (BIG_POINT + b"\0", "row 1 .*bytes"),

@@ -12,7 +12,6 @@ from ._results import ColumnBounds, Facts
 from ._rows import object_of
 
 VERSION = "1.1.0"
-WAY_OUT = "Column.from_arrow(column.write()) is a column of ISO WKB alone"
 # What a dimension adds to the name of a kind, as MultiPoint; those with an m are left out.
 SIGNS = {Dimension.XY: "", Dimension.XYZ: " Z"}
 # Kinds without edges.
@@ -66,9 +65,6 @@ def _expect_rows(column: Column, facts: Facts) -> None:
     for i, status in enumerate(bytes(column.check()) if facts.accepted + facts.nulls < facts.rows else b""):
         if status not in (Status.OK, Status.NULL_ROW):
             raise ValueError(f"row {i} is rejected: {column.faults().get(i) or status_text(status)}")
-    for i, found in enumerate(column.found().found if facts.srids - {None} else ()):
-        if found.srid is not None:
-            raise ValueError(f"row {i} has SRID {found.srid}, and GeoParquet takes none: {WAY_OUT}")
     for kind, dimension in facts.types:
         if dimension not in SIGNS:
             raise ValueError(f"a {kind.name} is {dimension.name}, and GeoParquet {VERSION} has no m")
@@ -81,7 +77,8 @@ def _expect_rows(column: Column, facts: Facts) -> None:
             return
         for i, (begin, end, row) in enumerate(zip(offsets, offsets[1:], written.rows)):
             if row is not None and data[begin:end] != row and not _is_iso(bytes(data[begin:end])):
-                raise ValueError(f"row {i} is EWKB, or has bytes behind its geometry: {WAY_OUT}")
+                raise ValueError(f"row {i} is EWKB, or has bytes behind its geometry: "
+                                 "Column.from_arrow(column.write()) is a column of ISO WKB alone")
 
 
 def _is_iso(row: bytes) -> bool:
