@@ -128,7 +128,7 @@ fn texts_of_inputs() {
         }
         (refused, numbers) = (refused + usize::from(why.is_some()), numbers + said.len());
     }
-    assert!(refused >= 35 && numbers >= 10, "{refused} texts, {numbers} numbers");
+    assert!(refused >= 34 && numbers >= 10, "{refused} texts, {numbers} numbers");
 }
 
 #[test]
