@@ -1,11 +1,6 @@
 /* Each call of wkb.h, for the tests that make all of them. */
 #include "every.h"
 
-const char *const EVERY_NAMES[] = {
-    "check", "bounds", "write", "same", "parts", "column_check", "column_found", "column_bounds", "column_parts",
-    "column_write", "collect", "column_coordinates", "column_from_coordinates", "words", "fault_text", "next_part",
-    "nothing"};
-
 static void put_coordinates(every *to, const wkb_column *column) {
   wkb_coordinates levels = {to->words, 2 * EVERY_ROOM, to->ring_ends, EVERY_ROOM, to->single_ends, EVERY_ROOM,
                             &to->row_end, 0, 0, 0};

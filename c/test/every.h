@@ -22,9 +22,6 @@ typedef struct every {
   uint8_t out[EVERY_BYTES], row;
 } every;
 
-/* Their names. */
-extern const char *const EVERY_NAMES[EVERY_COUNT + 1];
-
 /* Makes a call over an input, or over a column of it alone, and returns its status. A number past the last is none. */
 wkb_status every_call(int which, const uint8_t *bytes, size_t len, every *to);
 

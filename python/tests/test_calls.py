@@ -139,8 +139,8 @@ class Calls(unittest.TestCase):
         calls = wkb.check, wkb.bounds, wkb.parts, wkb.write, wkb.well_formed, lambda it: wkb.same(POINT, it)
         for call in (*calls, lambda it: wkb.Column.of([it])):
             self.assertRaisesRegex(TypeError, "attribute wkb has the bytes", call, Geometry())
-            self.assertRaisesRegex(TypeError, "bytes", call, 1)
-            self.assertRaisesRegex(TypeError, "bytes.fromhex", call, POINT.hex())
+            for wrong in (1, [1.0, 2.0], POINT.hex()):
+                self.assertRaisesRegex(TypeError, "bytes.fromhex .*numpy.asarray or array.array", call, wrong)
 
 
 class Parts(unittest.TestCase):
@@ -200,13 +200,6 @@ class Buffers(unittest.TestCase):
             del kept
         del result
 
-    def test_lists(self):
-        """A list has no buffer, and the error says what makes one of it."""
-        for call in (lambda: wkb.column_from_coordinates(wkb.Kind.POINT, [[1.0, 2.0]]), lambda: Column(POINT, [0, 21]),
-                     lambda: wkb.column_from_coordinates(wkb.Kind.LINE_STRING, array.array("d", [1, 2]), [0, 1])):
-            self.assertRaisesRegex(TypeError, "numpy.asarray or array.array", call)
-        self.assertRaisesRegex(TypeError, "bytes.fromhex", Column, POINT.hex(), array.array("q", [0, 42]))
-
     def test_column_keeps_no_export(self):
         data, offsets, validity = bytearray(POINT), array.array("q", [0, 21]), bytearray(b"\1")
         column = Column(data, offsets, validity)
@@ -235,5 +228,3 @@ class Buffers(unittest.TestCase):
             self.assertEqual(raised.exception.status, Status.SHORT_HEADER)
             self.assertEqual(list(Column(none, bytes(8), offset_size=4).check()), [Status.SHORT_HEADER])
             self.assertRaisesRegex(ValueError, "other bytes", wkb.coordinates, none, wkb.check(POINT))
-        for wrong in ("0101", None, 1, [1, 2]):
-            self.assertRaises(TypeError, wkb.check, wrong)

@@ -13,15 +13,11 @@ class NotArrow:
         return 0
 
 
-class Arrow:
-    """An Arrow array, as pyarrow and others have them."""
+class Stream:
+    """Arrow arrays one after another, and by itself one, as pyarrow and others have them."""
 
     def __arrow_c_array__(self, requested_schema: Optional[object] = None) -> Tuple[Any, Any]:
         raise NotImplementedError
-
-
-class Stream:
-    """Arrow arrays one after another, as tables of pyarrow and others have them."""
 
     def __arrow_c_stream__(self, requested_schema: Optional[object] = None) -> Any:
         raise NotImplementedError
@@ -43,7 +39,7 @@ def wrong(part: wkb.Part, column: wkb.Column) -> None:
     wkb.Column.of("text")  # type: ignore[arg-type]
     wkb.Column.from_arrow([b""])  # type: ignore[arg-type]
     wkb.Column.from_arrow(NotArrow())  # type: ignore[arg-type]
-    wkb.Column.chunks_from_arrow(Arrow())  # type: ignore[arg-type]
+    wkb.Column.chunks_from_arrow(NotArrow())  # type: ignore[arg-type]
     wkb.column_from_coordinates(1, b"")  # type: ignore[arg-type]
     wkb.column_from_coordinates(wkb.Kind.POINT, [1.0, 2.0])  # type: ignore[arg-type]
     column.coordinates(3)  # type: ignore[arg-type]
@@ -58,7 +54,7 @@ def right(data: bytes, mapped: mmap.mmap, rows: List[Optional[bytes]]) -> List[w
     """No line is rejected."""
     wkb.Column(memoryview(data), array.array("q"), bytearray(data))
     wkb.Column.of(rows)
-    wkb.Column.from_arrow(Arrow())
+    wkb.Column.from_arrow(Stream())
     for column in wkb.Column.chunks_from_arrow(Stream(), "geometry"):
         column.check()
     wkb.column_from_coordinates(wkb.Kind.LINE_STRING, array.array("d"), array.array("i"))
