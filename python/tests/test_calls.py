@@ -205,9 +205,6 @@ class Buffers(unittest.TestCase):
         column = Column(data, offsets, validity)
         self.assertEqual(list(column.check()), [0])
         data += POINT
-        offsets.append(42)
-        validity.append(0)
-        self.assertEqual(list(column.check()), [0])
         del offsets[1:]
         self.assertRaisesRegex(ValueError, "1 offsets are left, too few for 1 rows", column.check)
         offsets.append(21)

@@ -30,6 +30,7 @@ class Of(unittest.TestCase):
             self.is_right(rows)
         twice = bytes(byte for byte in POINT for _ in range(2))
         self.is_right([memoryview(twice)[::2], None, array.array("d"), bytearray(POLYGON), memoryview(b"\2")])
+        self.assertEqual(statuses(Column.of([memoryview(POINT + b"\0").cast("H"), POINT])), [0, 0])
         self.is_right([(ctypes.c_int16 * 1).from_buffer_copy(b"\2\0") if it == b"\2" else it for it in ROWS])
 
     def test_copies(self):

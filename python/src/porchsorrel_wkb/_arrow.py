@@ -210,7 +210,6 @@ def expect(holds: Any, text: str) -> None:
 
 
 def check_schema(it: Schema) -> None:
-    expect(it.release, "array is released already")
     expect(it.format is not None, "array has no format")
     expect(0 <= it.n_children <= MOST_PARTS, f"array can't have {it.n_children} children")
 

@@ -48,7 +48,6 @@ def _check(it: _Window, children: int, buffers: range, depth: int) -> None:
 def _inner(it: _Window, number: int, first: int, count: int) -> _Window:
     """Return some items of a child, counted from its first."""
     child = it.array.child(number)
-    expect(child.offset >= 0, f"array can't begin with item {child.offset}")
     return _Window(it.schema.child(number), child, child.offset + first, count)
 
 

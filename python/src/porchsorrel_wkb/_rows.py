@@ -1,5 +1,6 @@
 # SPDX-License-Identifier: MIT OR Apache-2.0
 """Columns of rows that aren't in one piece."""
+import contextlib
 import io
 import itertools
 import json
@@ -32,14 +33,6 @@ def _bytes_of_row(i: int, row: Any) -> bytes:
         raise TypeError(f"row {i} is neither bytes nor None: {error}") from None
 
 
-def _is_blob(rows: Any) -> bool:
-    """Return whether this is one buffer of bytes."""
-    try:
-        return code_of(memoryview(rows)) in BYTES
-    except (TypeError, ValueError):  # such as an array of numpy's dates
-        return False
-
-
 # The digit of a status in a bitmap.
 _DIGITS = b"1".ljust(256, b"0")
 
@@ -55,7 +48,10 @@ def pieces_of(rows: Iterable[Optional[Buffer]]) -> Pieces:
     """Return the rows in one piece of memory."""
     column: Any = rows
     metadata = _metadata_of(getattr(column, "crs", None))
-    if isinstance(column, str) or _is_blob(column):
+    is_one = isinstance(column, str)
+    with contextlib.suppress(TypeError, ValueError):  # of no buffer, and of an array of numpy's dates
+        is_one = is_one or code_of(memoryview(column)) in BYTES
+    if is_one:
         raise TypeError(f"a column is made of many rows, and this is one {type(column).__name__}")
     if hasattr(column, "__arrow_c_array__"):
         raise TypeError(f"a {type(column).__name__} is an Arrow array, which from_arrow takes")
