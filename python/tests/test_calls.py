@@ -59,7 +59,8 @@ class Calls(unittest.TestCase):
         for srid, word in ((2**32 - 1, b"\xff\xff\xff\xff"), (2**31, b"\0\0\0\x80")):
             row = b"\1\1\0\0\x20" + word + POINT[5:]
             self.assertEqual([wkb.write(POINT, form=Form.EWKB_WITH_SRID, srid=srid), wkb.write(POINT, srid=srid),
-                              wkb.Column.of([POINT]).write(srid=srid).rows[0]], 3 * [row])
+                              wkb.column_from_coordinates(1, array.array("d", [1, 2]), srid=srid).rows[0],
+                              wkb.Column.of([POINT]).write(srid=srid).rows[0]], 4 * [row])
             self.assertEqual((wkb.check(row).srid, wkb.parts(row)[0].srid), (srid, srid))
 
     def test_write_large(self):

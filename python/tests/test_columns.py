@@ -10,7 +10,7 @@ import unittest
 from samples import (
     BIG_POINT, EMPTY_POINT, ISO_POLYGON, LINE, POINT, POINTS, POLYGON, ROWS, STATUSES, numpy, rows_of, statuses,
 )
-from porchsorrel_wkb import Column, Dimension, Kind, Refused, Status, check, collect, column_from_coordinates
+from porchsorrel_wkb import Column, Dimension, Form, Kind, Refused, Status, check, collect, column_from_coordinates
 
 try:
     import pandas
@@ -222,7 +222,7 @@ class Levels(unittest.TestCase):
             (ValueError, "4 is not a valid Dimension", (1, numbers), {"dimension": 4}),
             (ValueError, "'' is not a valid Dimension", (1, numbers), {"dimension": ""}),
             (ValueError, "2 is not a valid Order", (1, numbers), {"order": 2}),
-            (ValueError, "no other form", (1, numbers), {"srid": 4326}),
+            (ValueError, "no other form", (1, numbers), {"srid": 4326, "form": Form.ISO}),
             (ValueError, "3 numbers are not 2 for each", (1, array.array("d", [1, 2, 3])), {}),
             (TypeError, "format 'f' are not 64-bit floats", (1, array.array("f", numbers)), {}),
             (TypeError, "format 'B' are not 64-bit floats", (1, bytes(16)), {}),

@@ -75,7 +75,7 @@ def column_from_coordinates(
     *,
     dimension: Optional[Dimension] = None,
     order: Order = Order.LITTLE,
-    form: Form = Form.ISO,
+    form: Optional[Form] = None,
     srid: Optional[int] = None,
     validity: Optional[Buffer] = None,
     validity_offset: int = 0,
@@ -97,7 +97,8 @@ def column_from_coordinates(
     64 bits that begin with 0. It is rejected as `Column.from_arrow` rejects arrays.
 
     No row stops the call: where the offsets don't fit the kind or each other, the row is BAD_LEVELS and has no bytes.
-    `Column(it.data, it.offsets, validity)` is a column of the result. It has no SRIDs but `srid`.
+    `Column(it.data, it.offsets, validity)` is a column of the result. It has no SRIDs but `srid`, which makes it EWKB,
+    as that of `wkb.write` does.
     """
     kind, first_bit = Kind(kind), operator.index(validity_offset)
     if kind in (Kind.RING, Kind.GEOMETRY_COLLECTION):
