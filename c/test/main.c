@@ -7,14 +7,10 @@
 
 int main(void) {
   calls_are_right();
-  printf("the calls return what they must\n");
   texts_are_right();
-  printf("texts, classes and the version are right\n");
   levels_are_right();
-  printf("levels are written as they must\n");
   what_lasts_is_as_it_was();
   what_lasts_is_as_it_was_in_columns();
   little_stack_is_taken();
-  printf("calls take little stack\n");
   return 0;
 }

@@ -264,10 +264,9 @@ class Collected(unittest.TestCase):
 
     def test_arguments(self):
         column = Column.of([POINT])
-        for kind in (0, 1, 2, Kind.POLYGON):
-            self.assertRaisesRegex(ValueError, "has no geometries as members", collect, column, kind)
-        for kind in (8, -1):
-            self.assertRaises(ValueError, collect, column, kind)
+        for kind in (0, 1, 2, Kind.POLYGON, 8, -1):
+            text = "is not a valid Kind" if kind in (8, -1) else "has no geometries as members"
+            self.assertRaisesRegex(ValueError, text, collect, column, kind)
         for arguments in ((4,), (-1,), (0, 2), (0, 1, 4), (0, 1, 2), (0, 1, 0, 7), (0, 1, 2, 2**32)):
             self.assertRaises(ValueError, collect, column, Kind.MULTI_POINT, *arguments)
         self.assertRaisesRegex(TypeError, "made of many rows", collect, POINT, Kind.MULTI_POINT)
