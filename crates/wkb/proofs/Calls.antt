@@ -1,7 +1,6 @@
 -- Lemmas: what the clauses of several calls say together.
 use Rattle.std.proofs.Common.{◌≡◌, ◌≤◌, ℕ, List, [], ◌++◌, Option, Some, None, Result, Ok, Err, Bool, true, false, ◌⊎◌}
 use Rattle.std.proofs.Common.{IfOk, IfErr, MatchBool, Vec, Global, ◌∙◌, arith, append-nil, inl, inr, sym, subst}
-use Rattle.std.proofs.lemmas.Result.{IfOk-at_ok}
 use Rattle.std.specs.Io.KnownBytes.{Appends}
 use Rattle.std.specs.declared.io.Error.{Error}
 use Rattle.wkb.specs.Prelude.{WkbError, IsMemory, Endianness, Tells}
@@ -9,7 +8,7 @@ use Rattle.wkb.specs.Spellings.{Spelling, Front, max_nesting, HasOptions}
 use Rattle.wkb.specs.Values.{nest}
 use Rattle.wkb.specs.Geometries.{Geometry, IsGeometry, geometry_of, normal}
 use Rattle.wkb.specs.Encodings.{Fault, IsForm, IsRewritingWithSrid, encoding_of, fault_of}
-use Rattle.wkb.specs.Writes.{WriteOptions, Writes, IsSpelled, IsEncodingOf, own_options}
+use Rattle.wkb.specs.Writes.{WriteOptions, Writes, IsEncodingOf, own_options}
 use Rattle.wkb.specs.Reads.{Item, IsFront, IsOnlyFront, IsNotMemory, IsRefusal}
 use Rattle.wkb.specs.Canonical.{HaveOneValue, HaveTwoValues, IsRewritingUnder, IsRefusedUnder, IsPairRefusal, IsSize}
 use Rattle.wkb.specs.Checks.{Refused, IsRefusedFor}
@@ -45,10 +44,7 @@ module _ {o : WriteOptions} {g : Geometry} {x : Unit {0}} {untouched : Type 0} {
   -- Read again before any rest, it is the value that the geometry stands for.
   pub read_before : (rest : List ℕ) {r : Result (Unit {0}) WkbError} {old new : List ℕ} → old ≡ []
       → Writes o g r untouched (Some old) (Some new) failed fails_by → r ≡ Ok x → IsReadBefore rest o g (new ++ rest)
-  read_before rest {old = old} {new = new} empty w is shallow =
-      let h : IsSpelled o (normal g) (Some old) (Some new) =
-      IfOk-at_ok (λ _. IsSpelled o (normal g) (Some old) (Some new)) is w.spelled in
-      grind arith
+  read_before rest {old = old} {new = new} empty w is shallow = grind arith
 
   -- The encoding that a writer wrote into an empty sink is read again, with nothing after it.
   pub read_again : {r : Result (Unit {0}) WkbError} {old new : List ℕ} → old ≡ []

@@ -17,12 +17,10 @@ use Rattle.wkb.specs.Canonical.{HaveOneValue, HaveTwoValues}
 laid_over : (x old new items : List ℕ) (len : ℕ) → length old ≡ len → length x ≤ len → new ≡ sets old 0 x
     → take len (new ++ drop (length new) items) ≡ x ++ drop (length x) old
 laid_over x old new items len long fits laid =
-    let new_is : new ≡ x ++ drop (length x) old =
-    laid ∙ sets-eq x old 0 (omega (arith, long, fits)) ∙ ap (λ n. x ++ drop n old) (omega arith) in
+    let new_is : new ≡ x ++ drop (length x) old = grind (arith, sets-eq) in
     let whole : len ≡ length new =
     omega (arith, ap length new_is, length-append x (drop (length x) old), length-drop (length x) old, long, fits) in
-    ap (λ n. take n (new ++ drop (length new) items)) whole
-    ∙ take-append_seam new (drop (length new) items) ∙ new_is
+    grind (arith, take-append_seam)
 
 -- of a list of as many bytes it is all
 pub filled : (x old new items : List ℕ) (len : ℕ) → length old ≡ len → len ≡ length x → new ≡ sets old 0 x

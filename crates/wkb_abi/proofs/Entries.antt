@@ -1,6 +1,6 @@
 -- The entries of a table: of rings one after another, and of geometries and what is inside each.
 use Rattle.wkb_abi.proofs.Common.{◌≡◌, ℕ, suc, ◌+◌, ◌-◌, ◌<◌, ◌≤◌, ◌^◌, List, [], ◌∷◌, ◌++◌, length, drop, set, refl}
-use Rattle.wkb_abi.proofs.Common.{sym, ap, ◌∙◌, arith, length-append, sets, length-sets, width, number, Piece}
+use Rattle.wkb_abi.proofs.Common.{ap, arith, length-append, sets, length-sets, width, number, Piece}
 use Rattle.wkb_abi.proofs.Common.{Dimension, Endianness, Spelling, Value, Subject, subjects, subjects_of_each}
 use Rattle.std.proofs.Common.{add-one, get_or, length-set}
 use Rattle.std.proofs.lemmas.List.{set_comm, set-set}
@@ -8,7 +8,7 @@ use lib.Seq.{get_or-set_same}
 use Rattle.wkb_check.specs.Prelude.{AreWhole, HasGeometry, HasGeometries, ring, subjects_of_rings}
 use Rattle.wkb_check.specs.Pieces.{own_end, piece_of, piece_at, ring_piece, last_end, first_rings}
 use Rattle.wkb_check.proofs.Placing.{inner, itself_first, sets_after, end_append, end_onward, first_one, begun_at}
-use Rattle.wkb_check.proofs.Placing.{behind_geometry, inner_end}
+use Rattle.wkb_check.proofs.Placing.{behind_geometry}
 use Rattle.wkb_check.proofs.Rings.{next_ring}
 use Rattle.wkb_abi.specs.declared.{parts.Part.Part, parts.PartPlace.PartPlace}
 use Rattle.wkb_abi.specs.Tables.{entry_of, entry_at, entries_from, geometry_entries, EndsPart}
@@ -56,8 +56,7 @@ pub ring_laid : {buf : List ℕ} {order : Endianness} {d : Dimension} {n m index
     → RingsLeft buf order d m (index + 1) next (set parts index p) all first start before
 ring_laid {buf} {order} {d} {n} {m} {index} {at} {parts} l e p next ends is =
     let r = next_ring buf order d n m at next l.whole e ends in
-    let entry : p ≡ entry_at index at (ring order d r.ring) =
-    is ∙ (λ i. entry_of (ring_piece order d at (sym r.many i)) (r.next_is i) (index + 1)) in
+    let entry : p ≡ entry_at index at (ring order d r.ring) = grind arith in
     record {
       whole = r.whole;
       indices = omega (arith, l.indices, e);
@@ -142,20 +141,8 @@ pub item_laid : (buf : List ℕ) (at : ℕ) (g : HasGeometry (drop at buf)) (p :
 item_laid buf at g p is {parts} {with} {ended} {index} {from} {after} ends e e-is inside ends_part =
     let own = inner g.spelled g.value in
     let behind = sets parts (index + 1) (entries_from (index + 1) from own) in
-    let first : with ≡ set behind index e =
-    inside.laid ∙ sym (set_first parts index (index + 1) e (entries_from (index + 1) from own) (omega arith)) in
-    let to : after.byte ≡ last_end at (subjects g.spelled g.value) =
-    inside.byte_is ∙ inner_end buf at g p is from ends in
-    record {
-      laid =
-          ends_part behind p from (index + 1) (first ∙ ap (set behind index) e-is)
-          ∙ laid_first parts behind index (entry_of p after.byte after.index) (entries_from (index + 1) from own) refl
-          ∙ (λ j. sets parts index (entry_of (is j) (to j) (inside.index_is j)
-          ∷ entries_from (index + 1) ((ends ∙ ap own_end is) j) own))
-          ∙ ap (λ xs. sets parts index (entries_from index at xs)) (sym (itself_first g.spelled g.value));
-      next_is = inside.index_is;
-      to_is = to;
-    }
+    let first : with ≡ set behind index e = grind (arith, set_first) in
+    grind (arith, laid_first, itself_first)
 
 -- ---- the loop over geometries
 

@@ -3,7 +3,7 @@ use Rattle.wkb_abi.proofs.Common.{[], length-append, multi_line_string, multi_po
 use Rattle.wkb_abi.proofs.Common.{length, no_spellings, SpellsEach, line_string, multi_point, member_count, HasGeometry}
 use Rattle.wkb_abi.proofs.Common.{Dimension, Spelling, Spellings, spelling, Coordinate, polygon, collection, Endianness}
 use Rattle.wkb_abi.proofs.Common.{List, arith, Option, Spells, Wanted, Value, point, Summary, Totals, Subject, subjects}
-use Rattle.wkb_abi.proofs.Common.{◌≡◌, ℕ, ◌+◌, ◌<◌, ◌∷◌, ◌++◌, refl, sym, ap, ◌∙◌, node, subst, Piece}
+use Rattle.wkb_abi.proofs.Common.{◌≡◌, ℕ, ◌+◌, ◌<◌, ◌∷◌, ◌++◌, refl, sym, ◌∙◌, node, subst, Piece}
 use Rattle.std.proofs.lemmas.Grind.{flat_map-append}
 use Rattle.std.proofs.lemmas.List.Sums.{sum_by-cons, sum_by-append}
 use Rattle.std.proofs.Common.{rules, sum, sum_by}
@@ -99,10 +99,4 @@ totals_found input d at g small coordinates_is rings_is singles_is =
     d.front.spelled g.begins.first (sym d.front.whole ∙ g.begins.whole) in
     let counts = kind_counts 0 g.spelled g.value g.begins.front g.begins.first
     (subst (λ (p : Piece). p.kind < 7) (at g) small) in
-    let parts = d.described.parts ∙ ap (λ t. 1 + member_count t) same.value in
-    record {
-      coordinates_are = coordinates_is ∙ d.described.coordinates ∙ ap coordinate_count same.value
-          ∙ counts.coordinates_are;
-      rings_are = rings_is ∙ (λ i. ring_number (at g i) (parts i)) ∙ counts.rings_are;
-      singles_are = singles_is ∙ ap single_number (at g) ∙ counts.singles_are;
-    }
+    grind arith

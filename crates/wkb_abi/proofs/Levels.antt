@@ -20,7 +20,6 @@ use Rattle.wkb_abi.specs.Coordinates.{LevelLists, with_levels, HasRoomUpTo}
 use Rattle.wkb_abi.specs.LevelLists.{AreSameSlices, HasRoomFor, LaysLevels}
 use Rattle.wkb_abi.specs.declared.level_slices.LevelSlices.{LevelSlices}
 use Rattle.wkb_abi.specs.PieceLevels.{ring_sizes, single_sizes, piece_words, PieceFits, with_piece, totals_with}
-use Rattle.wkb_abi.specs.RowItems.{end_of}
 use Rattle.wkb_check.proofs.Subjects.{ArePlaced, all_placed, says}
 use Rattle.wkb_check.specs.Subjects.{whole, subjects_of_rings, rings_of}
 
@@ -57,16 +56,7 @@ pub plain_next : {order : Endianness} {row all : List ℕ} {n m from to at next 
     → new ≡ set out at (number order 8 (drop from row)) → PlainLeft order row all m to next new
 plain_next {order} {row} {m = m} {from} {to} {at} {next} {out} left some to_is next_is new_is =
     let behind : drop 8 (drop from row) ≡ drop to row = drop-drop 8 from row ∙ ap (λ k. drop k row) (sym to_is) in
-    let first : items 8 (number order 8) (suc m) (drop from row)
-    ≡ number order 8 (drop from row) ∷ items 8 (number order 8) m (drop to row) =
-    ap (λ ys. number order 8 (drop from row) ∷ items 8 (number order 8) m ys) behind in
-    let further : next ≡ suc at = omega (arith, next_is) in
-    record {
-      inside = omega arith;
-      room = omega (arith, ap length new_is, length-set out at (number order 8 (drop from row)));
-      written = (λ i. sets (new_is i) (further i) (items 8 (number order 8) m (drop to row)))
-          ∙ ap (sets out at) (sym (ap (λ k. items 8 (number order 8) k (drop from row)) some ∙ first)) ∙ left.written;
-    }
+    let further : next ≡ suc at = omega (arith, next_is) in grind (arith, length-set, number)
 
 items_append : (order : Endianness) (m n : ℕ) (bytes : List ℕ)
     → items 8 (number order 8) m bytes ++ items 8 (number order 8) n (drop (8 * m) bytes)
@@ -253,13 +243,7 @@ module _ (asked : Dimension) (input : List ℕ) (all : LevelLists) where
       ∙ words_if asked p.dimension (nat_lt p.kind 3) _ in
       let long : length (piece_words asked input p) ≡ width asked * sum (ring_sizes p) =
       sym (ap length words) ∙ subject_words asked x ∙ ap (λ ns. width asked * sum ns) (sym own.0) in
-      let fits : PieceFits asked input p at out = record {
-        inside = piece.inside;
-        words_fit = omega (arith, length-append {A = ℕ}, ap length words);
-        ring_ends_fit = omega (arith, ends_length, ap length own.0, length-append {A = ℕ});
-        single_ends_fit = omega (arith, ends_length, ap length own.1, length-append {A = ℕ});
-        small = omega arith;
-      } in
+      let fits : PieceFits asked input p at out = grind (arith, length-append, ends_length) in
       let c : to.coordinates ≡ at.coordinates + sum (ring_sizes p) =
       omega (arith, wide_enough asked (at.coordinates + sum (ring_sizes p))) in
       let k : to.rings ≡ at.rings + length (ring_sizes p) = omega arith in (
@@ -305,20 +289,10 @@ module _ (asked : Dimension) (row : List ℕ) (from : Totals) (before : LevelSli
       let rings = flat_map ring_counts xs in
       let singles : single_ends from.rings xs ≡ ends from.rings (flat_map single_counts xs) =
       rw (append-nil xs) at (geometry_ends g.spelled g.value [] (λ at. refl) from.rings) in
-      let to : from.coordinates + sum rings ≡ end_of from.coordinates (sum rings) =
-      omega (arith, wide_enough asked (end_of from.coordinates (sum rings))) in
       fill asked row _ 0 xs from (levels_of before) (all_placed row 0 g.spelled g.value g.begins)
-      (record {
-        short = short;
-        room = omega (arith, ap (λ n. width asked * n) to, subjects_words asked xs);
-        written = refl;
-      })
+      (grind (arith, width, subjects_words))
       (record { short = short'; room = omega (arith, ends_length from.coordinates rings); written = refl })
-      (record {
-        short = short'';
-        room = omega (arith, ap length singles, ends_length);
-        written = ap (sets before.single_ends.now from.singles) singles;
-      })
+      (grind (arith, singles, ends_length))
 
   -- which fits
   pub first_fits : {first : Piece} → IsPieceAt row 0 first → HasGeometry row
@@ -385,11 +359,7 @@ module _ {buf bytes : List ℕ} (g : HasGeometry buf) (only : OnlyMember g.spell
       → with_levels asked its from out ≡ with_levels asked (subjects g.spelled g.value) from out
   member_levels out =
       let words = all_its (asked_subject_words asked) (nothing_own asked g.spelled g.value only.high).2 in
-      λ i. record {
-        words = sets out.words (width asked * from.coordinates) (sym words i);
-        ring_ends = sets out.ring_ends from.rings (ends from.coordinates (sym rings i));
-        single_ends = sets out.single_ends from.singles (ends from.rings (sym singles i));
-      }
+      grind (arith, width, rings, singles)
 
   -- and there is room for the one where there is for the other
   pub member_fits : (out : LevelLists) → HasRoomUpTo asked out (totals_after from (subjects g.spelled g.value))
@@ -398,11 +368,4 @@ module _ {buf bytes : List ℕ} (g : HasGeometry buf) (only : OnlyMember g.spell
       let own = only.member in
       let same = one_spelling own.spelled m.spelled own.value m.value own.begins.front m.begins.front own.rest m.rest
       own.begins.first m.begins.first (sym own.begins.whole ∙ m.begins.whole) in
-      let after : totals_after from (subjects g.spelled g.value) ≡ totals_after from its =
-      λ i. record {
-        coordinates = end_of from.coordinates (sum (rings i));
-        rings = end_of from.rings (length (rings i));
-        singles = end_of from.singles (length (singles i));
-      } in
-      subst (HasRoomUpTo asked out)
-      (after ∙ (λ i. totals_after from (subjects (same.spelling i) (same.value i)))) room
+      let after : totals_after from (subjects g.spelled g.value) ≡ totals_after from its = grind arith in grind arith

@@ -58,7 +58,7 @@ module _ {A : Type 0} where
 -- a number names one dimension
 pub one_dimension : (P : Dimension → Type 0) (n : ℕ) (a b : Dimension) → dimension_of_thousands n ≡ Some a
     → dimension_of_thousands n ≡ Some b → P a → P b
-one_dimension P n a b f g = let same : Some a ≡ Some b = sym f ∙ g in let one : a ≡ b = cc in subst P one
+one_dimension P n a b f g = let one : a ≡ b = cc in subst P one
 
 -- there is room in each list
 room_at : {asked : Dimension} {out : LevelLists} {to : Totals} → HasRoomUpTo asked out to → (k : Level)

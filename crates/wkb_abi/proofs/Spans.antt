@@ -2,7 +2,6 @@
 use Rattle.wkb_abi.proofs.Common.{◌≡◌, ℕ, zero, suc, ◌+◌, ◌<◌, ◌≤◌, ◌⊎◌, inl, inr, List, [], length, ap, arith, ◌-◌}
 use Rattle.wkb_abi.proofs.Common.{Column, IsRow}
 use Rattle.std.proofs.Common.{max, drop, length-take}
-use borrow.Author.Count.{below_more}
 use Rattle.wkb_abi.specs.Columns.{IsSpan, HasNoSpan, EndBy, IsReach, RowsFollow, RowsFit, total_length}
 
 module _ (bytes offsets : List ℕ) (size : ℕ) where
@@ -14,9 +13,7 @@ module _ (bytes offsets : List ℕ) (size : ℕ) where
   pub reached : {i reach start end to : ℕ} → to ≡ max reach end → IsReach bytes offsets size i reach
       → IsSpan bytes offsets size i start end → IsReach bytes offsets size (i + 1) to
   reached {i} {reach} {start} {end} {to} to_is r own = record {
-    enough = λ j s e below is. below_more (λ j. (s e : ℕ) → IsSpan bytes offsets size j s e → e ≤ to) i
-        (λ j above s e is. omega (arith, r.enough j s e above is, to_is))
-        (λ s e is. omega (arith, is.end_is.number_is, own.end_is.number_is, to_is)) j below s e is;
+    enough = grind arith;
     least = λ limit by. omega (arith, r.least limit (fewer i limit by), by i start end (omega arith) own, to_is);
   }
 
@@ -24,8 +21,7 @@ module _ (bytes offsets : List ℕ) (size : ℕ) where
   pub reach_same : {i reach : ℕ} → IsReach bytes offsets size i reach → HasNoSpan bytes offsets size i
       → IsReach bytes offsets size (i + 1) reach
   reach_same {i} {reach} r none = record {
-    enough = λ j s e below is. below_more (λ j. (s e : ℕ) → IsSpan bytes offsets size j s e → e ≤ reach) i
-        (λ j above s e is. r.enough j s e above is) (λ s e is. absurd (none s e is)) j below s e is;
+    enough = grind arith;
     least = λ limit by. r.least limit (fewer i limit by);
   }
 

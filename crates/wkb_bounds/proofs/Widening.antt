@@ -66,16 +66,7 @@ run_next {k} {now} {left = left} l {w} {new} {rest} w-is counts behind =
     (λ i. w-is i
     ∷ words_at (Some k) (rows (behind.order_is i) (behind.size_is i) rest.count (behind.bytes_are i)))
     ∙ sym (first_words left k rest.count (omega arith) l.there) in
-    let more : rest.count < now.count = omega (arith, l.counted) in
-    record {
-      there = omega arith;
-      counted = counts.count rest.count more;
-      goes = λ r is.
-          l.goes r
-          (is ∙ ap (λ q. widened q (words_at (Some k) (run_coordinates rest))) (counts.range rest.count more)
-          ∙ ap (λ n. widened (range_by n now) (w ∷ words_at (Some k) (run_coordinates rest))) (sym behind.count_is)
-          ∙ ap (widened (range_by left.count now)) words);
-    }
+    let more : rest.count < now.count = omega (arith, l.counted) in grind arith
 
 pub run_done : {k : ℕ} {now first : Extremes} {left run : Run} → RunLeft k now left first run → left.count ≡ 0
     → WidensRange first now (words_at (Some k) (run_coordinates run))
@@ -89,10 +80,7 @@ pub run_last : {k : ℕ} {now first : Extremes} {left run : Run} → RunLeft k n
     → WidensRange first new (words_at (Some k) (run_coordinates run))
 run_last {k} {now} {left = left} l one {w} {new} w-is counts =
     let words : (w ∷ []) ≡ words_at (Some k) (run_coordinates left) =
-    (λ i. w-is i ∷ []) ∙ sym (first_words left k 0 one l.there) in
-    l.goes (range_by 0 new)
-    (counts.range 0 (omega (arith, l.counted, one)) ∙ ap (λ n. widened (range_by n now) (w ∷ [])) (sym one)
-    ∙ ap (widened (range_by left.count now)) words)
+    (λ i. w-is i ∷ []) ∙ sym (first_words left k 0 one l.there) in grind arith
 
 pub ruleset run_laws = (run_first, run_done)
 

@@ -182,8 +182,7 @@ module _ {buf : List ℕ} where
       left = taken.rest;
       all = taken.first;
       ahead = taken.ahead;
-      widens = λ a.
-          ap (on a) none ∙ ap (λ ws. widened (on a nothing) (ws ++ [])) (sym (no_words a buf first high));
+      widens = grind (arith, no_words);
     };
     same = behind.same;
     few = none_few w.at k none;

@@ -134,12 +134,7 @@ pub found_written : {target : CollectTarget} {row before after : List ℕ} {f : 
     → WritesRequested (Encoding (inner_of target)) row before after status size
     → WritesMember target before after row size
 found_written {target} {row} {size = size} b d wanted w =
-    let begins : BeginsWithMember (part_of target) row d.value = record {
-      s = d.spelled;
-      rest = d.rest;
-      front = d.front;
-      wanted = rw (d.described.wkb_type, type_kind_is d.value, type_dimension_is d.value) at wanted;
-    } in
+    let begins : BeginsWithMember (part_of target) row d.value = grind (arith, type_kind_is, type_dimension_is) in
     let both = size_and_bytes w (there begins) w.known in
     let o = target.options in
     let long = measured o.endianness (inner o.form) row (accepted_there row (there begins)) b refl in
@@ -178,8 +173,7 @@ pub written_more : {c : Column} {target : CollectTarget} {i reach to at n : ℕ}
 written_more {c} {target} {i} {at = at} {n} {out = out} {new = new} from after m one l long =
     let s = one.is.slice in
     let up : i + 1 ≡ suc i = omega arith in
-    let own : RowHas (BeginsWithMember (part_of target)) c i one.has.t =
-    record { row = one.row; is = one.is; has = one.has.begins } in
+    let own : RowHas (BeginsWithMember (part_of target)) c i one.has.t = grind arith in
     let bytes = encoding_for (inner_of target) one.has.t in
     let least = from.least s.start s.after in
     let enough = after.enough i s.start s.end (omega arith) s.span in
@@ -212,9 +206,7 @@ all_written {c} {target} {at = at} {before} {out} r m all =
         size_is = omega (arith, w.size_is);
         short = omega (arith, m.fits, reach);
       };
-      laid = λ room.
-          w.laid (omega (arith, room, w.size_is)) ∙ sets-eq (inside_of target w.all) before 0 (omega (arith, room))
-          ∙ ap (λ n. inside_of target w.all ++ drop n before) (omega arith);
+      laid = grind (arith, sets-eq);
     }
 
 -- the front of the whole, and its members behind it

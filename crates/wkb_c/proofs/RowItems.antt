@@ -142,10 +142,7 @@ module _ {A : Type 0} {Has : ℕ → List A → Type 0} {Fails : ℕ → ℕ →
         (kept_answer at (done.each j above) (done.below j above) says.long says.front))
         (rw (status_here, end_here, start_kept ends i end i (omega arith), sym done.at_is)
         says.answer);
-    below =
-        below_more (λ j. slice_index (set ends i end) j ≤ end) i
-        (λ j above. omega (arith, end_is, done.fits, end_above j above, done.below j above))
-        (omega (arith, end_here, end_is));
+    below = grind (arith, end_above, end_here);
     kept = λ k far.
         says.behind k (λ ok. omega (arith, far i (omega arith) (status_here ∙ ok), end_here))
         ∙ done.kept k

@@ -1,5 +1,5 @@
 -- Where the parts of a geometry are in its bytes, and what is there.
-use Rattle.wkb_abi.proofs.Common.{◌≡◌, ℕ, suc, ◌+◌, ◌*◌, List, [], ◌∷◌, length, drop, Some, refl, sym, ap, ◌∙◌, arith}
+use Rattle.wkb_abi.proofs.Common.{◌≡◌, ℕ, suc, ◌+◌, ◌*◌, List, [], ◌∷◌, length, drop, Some, refl, ap, ◌∙◌, arith}
 use Rattle.wkb_abi.proofs.Common.{drop-drop, slice_get, width, number, Spelling, node, Spellings, no_spellings}
 use Rattle.wkb_abi.proofs.Common.{spelling, Spells, Wanted, SpellsEach, Coordinate, Value, Values, no_members, member}
 use Rattle.wkb_abi.proofs.Common.{members, member_count, member_count_each, length-append, dimension, Subject, subjects}
@@ -29,9 +29,7 @@ word_read input p true i n w c this that =
     let word_is =
     item_at 8 (number p.order 8) (width p.dimension) n (drop (size * i) x) w (ap (λ z. slice_get z n) found ∙ that) in
     let at : p.offset + 8 * (width p.dimension * i + n) ≡ p.offset + (size * i + 8 * n) = omega arith in
-    ap (λ k. number p.order 8 (drop k input)) at
-    ∙ ap (number p.order 8) (sym (drop-drop (size * i + 8 * n) p.offset input) ∙ sym (drop-drop (8 * n) (size * i) x))
-    ∙ word_is
+    grind (arith, number, drop-drop)
 word_read input p false i n w c this that = absurd (cc)
 
 -- the entry of a piece holds its subject

@@ -147,7 +147,6 @@ module _ (bytes : List ℕ) (begin : ℕ) {k : ℕ} {d : Dimension} {order : End
       (record { kind = k; dimension = d; order = order; srid = srid; count = n; begin = begin; offset = offset })
   counted_piece n size offset differs size_is n_is offset_is = λ g.
       let own = own_says bytes begin g in
-      let other : kind g.value ≢ 1 = λ e. differs ((is g).kind_is ∙ e) in
       let start = body_start (is_some (header g.spelled).srid) in
       let at : begin + 5 + size ≡ begin + start = omega (arith, size_is, srid_long g, own.start_is) in
       grind (arith, piece_is, drop-drop, srid_long, other_leads)

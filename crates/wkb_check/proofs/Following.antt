@@ -46,10 +46,7 @@ module _ (w : Pieces) (ahead : HasAhead w) (some : 0 < w.rings) (p : Piece)
         ∙ ap (λ rs. last_end w.at (subjects_of_rings w.order w.dimension rs)) (sym r.are) in
         record {
           rest = subject_pieces next behind;
-          first =
-              a.are ∙ ap (λ rs. subject_pieces w.at (subjects_of_rings w.order w.dimension rs ++ others)) r.are
-              ∙ (λ i. (ap (ring_piece w.order w.dimension w.at) r.many ∙ sym is) i
-              ∷ subject_pieces (sym r.next_is i) behind);
+          first = grind arith;
           ahead = record {
             more = a.more;
             whole = r.whole;
@@ -104,9 +101,7 @@ module _ (w : Pieces) (ahead : HasAhead w) (none : w.rings ≡ 0) (some : 0 < w.
         x.begins.first (record { all = f.others; are = refl }) (omega (arith, n-is, x.counted)) in
         let own = first_rings o e r (drop next w.bytes.now) in
         let behind = own ++ subjects_of_each j.all.spelled j.all.values in
-        let joins : inner g.spelled g.value ++ others ≡ behind =
-        ap (λ l. l ++ others) i.are ∙ append_assoc own (subjects_of_each x.spelled x.values) others
-        ∙ ap (λ l. own ++ l) (sym j.are) in
+        let joins : inner g.spelled g.value ++ others ≡ behind = grind (arith, append_assoc) in
         record {
           rest = subject_pieces next behind;
           first = grind (arith, itself_first);
@@ -163,7 +158,6 @@ module _ (buf : List ℕ) (g : HasGeometry buf) (p : Piece) (is : p ≡ piece_of
         (λ three. absurd (omega (arith, high, three))) p.order p.dimension in
         let f = first_one p.count 0 _ _ i.all one in
         let none = ap (subjects_of_each f.others.spelled) (none_of f.others.values f.others.counted) in
-        let only = subjects f.geometry.spelled f.geometry.value in
         record {
           high = ap (λ k. nat_lt k 4) (sym (kind_of buf 0 g p is)) ∙ le-ltb p.kind 4 (omega (arith, high));
           member = f.geometry;
@@ -177,7 +171,6 @@ pub goes : (w now : Pieces) (p : Piece) → HasAhead w → Takes w now p
     → MakesProgress HasAhead (λ v. at_most (bytes_left v)) w (Some p) now
 goes w now p h t =
     let x = t.steps h.pieces h.are in
-    let can : HasAhead now = record { pieces = x.rest; are = x.ahead } in
     grind arith
 
 -- a piece that was taken came by a step

@@ -21,5 +21,4 @@ next_ring buf order d (suc r) m at next w e ends =
     let many : ℕ = number order 4 bytes in
     let cs-many = length-items (8 * width d) (coordinate order d) many (drop 4 bytes) in
     let rest : drop (ring_end d many) bytes ≡ drop next buf = grind (arith, drop-drop) in
-    let m-is : r ≡ m = omega (arith, e) in
     grind (arith, length-drop)

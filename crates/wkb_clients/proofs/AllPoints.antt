@@ -65,7 +65,4 @@ module _ (options : WriteOptions) (t : Value) (form : IsForm options.form) (fit 
       let lawful = points_lawful (as_dimensions (dimension t)) (coordinates_of t) fit in
       let many =
       refused_points_are_many options (dimension t) (map (λ c. Some c) (coordinates_of t)) r.fault form lawful r.is in
-      inr (record {
-        many = omega (arith, many, length-map (coordinates_of t) (λ (c : Coordinate). Some c));
-        reports = r;
-      })
+      grind (arith, length-map)

@@ -7,10 +7,10 @@ use Rattle.wkb.specs.Checks.{Range, Bounds, AreBounds, range_of, words_on, x_axi
 use Rattle.wkb.specs.Known.{never_both}
 use Rattle.wkb.specs.Refusals.{no_order_byte}
 use Rattle.wkb.specs.Order.{HasNumbers, range_has_numbers}
-use Rattle.wkb.specs.Prelude.{Endianness, order_byte, number_bytes, is_nan}
+use Rattle.wkb.specs.Prelude.{Endianness, order_byte, number_bytes}
 use Rattle.wkb_clients.specs.Common.{Item, Value, IsFront}
 use Rattle.wkb_clients.specs.declared.geopackage.BlobHeader.{BlobHeader}
-use Rattle.wkb_clients.specs.Geopackage.{IsBlobHeader, HoldsGeometry, order_said, start_behind, is_ewkb, is_around}
+use Rattle.wkb_clients.specs.Geopackage.{IsBlobHeader, HoldsGeometry, order_said, start_behind, is_ewkb}
 use Rattle.wkb_clients.specs.Geopackage.{axis_around, envelope_around, header_bytes, word_or_nan, range_bytes}
 use Rattle.wkb_clients.specs.Geopackage.{envelope_bytes}
 use Rattle.wkb_clients.proofs.Packages.{holds}
@@ -33,20 +33,7 @@ header_is : (h : BlobHeader) (rest : List ℕ) → h.envelope ≤ 1 → h.srs < 
     → start_behind h.envelope ≤ length (header_bytes h ++ rest) → IsBlobHeader (header_bytes h ++ rest) h
 header_is h rest few fits long =
     let order = order_again h.order in
-    let said = says (order_byte h.order) h.envelope h.empty order.0 few in
-    let srs = number_is_read h.order 4 h.srs 4 (header_bytes h ++ rest) rest fits refl in
-    record {
-      g = refl;
-      p = refl;
-      version = refl;
-      clear = said.clear;
-      known = rw said.kind_is (omega (arith, few));
-      whole = rw said.kind_is long;
-      order = sym (ap order_said said.order_is ∙ order.1);
-      envelope = sym said.kind_is;
-      empty = said.empty_is;
-      srs = sym srs.1;
-    }
+    let srs = number_is_read h.order 4 h.srs 4 (header_bytes h ++ rest) rest fits refl in grind arith
 
 -- a range whose ends have 64 bits
 pub record IsOfWords (r : Range) : Type 0 where
@@ -55,10 +42,6 @@ pub record IsOfWords (r : Range) : Type 0 where
 
 fits : (none : Bool) (w : ℕ) → w < 2 ^ 64 → word_or_nan none w < 2 ^ 64
 fits none w h = grind arith
-
-around_own : (none : Bool) (v w : ℕ) → is_nan v ≡ false → is_nan w ≡ false
-    → is_around none (word_or_nan none v) (word_or_nan none w) v w ≡ true
-around_own none v w p q = grind arith
 
 module _ (order : Endianness) (blob : List ℕ) where
   -- the words that are written of an axis are around it
@@ -73,11 +56,7 @@ module _ (order : Endianness) (blob : List ℕ) where
       let numbers = subst HasNumbers (sym of) (range_has_numbers ws) in
       let low = number_is_read order 8 v at blob (number_bytes order 8 w ++ rest) (fits none r.least words.low)
       (is ∙ append_assoc (number_bytes order 8 v) (number_bytes order 8 w) rest) in
-      let high = number_is_read order 8 w (at + 8) blob rest (fits none r.greatest words.high) low.2 in (
-        (λ i. is_around none (low.1 i) (high.1 i) r.least r.greatest)
-            ∙ around_own none r.least r.greatest numbers.least numbers.greatest,
-        high.2,
-      )
+      let high = number_is_read order 8 w (at + 8) blob rest (fits none r.greatest words.high) low.2 in grind arith
 
   envelope_written : (b : Bounds) (t : Value) (body : List ℕ) (kind : ℕ) → IsOfWords b.x → IsOfWords b.y
       → AreBounds b t → kind ≤ 1 → drop 8 blob ≡ envelope_bytes order kind b ++ body

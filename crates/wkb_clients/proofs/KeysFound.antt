@@ -48,8 +48,7 @@ module _ {V : Type 0} (bytes_of : V → List ℕ) where
   judged ks v t true key value all is =
       let k = Any-from_list_any (λ y. bytes_eq (bytes_of y) (bytes_of v)) ks (sym is) in
       let same = (bytes_eq-Decides (bytes_of k.1) (bytes_of v)).0 k.4 in
-      let at : get_or (map value_of ks) k.0 t ≡ t =
-      get_or-map value_of ks k.0 k.1 t k.2 ∙ ap value_of k.3 ∙ ap value_in same ∙ value in
+      let at : get_or (map value_of ks) k.0 t ≡ t = grind (arith, get_or-map) in
       (k.0, omega (arith, k.2, length-map ks value_of), at)
   judged ks v t false key value all is = λ c.
       let below : c.0 < length ks = omega (arith, c.1, length-map ks value_of) in
@@ -65,13 +64,4 @@ module _ {V : Type 0} (bytes_of : V → List ℕ) where
       → map value_of ks ≡ old → was ≡ list_any (λ y. bytes_eq (bytes_of y) (bytes_of v)) ks
       → MatchBool was (new ≡ old) (new ≡ old ++ value_of v ∷ []) → Inserts old new input was
   inserts ks old new input v was bytes k all view is kept =
-      let value = key_read input (bytes_of v) bytes k in
-      record {
-        spelled = k.spelled;
-        value = k.value;
-        rest = k.rest;
-        front = k.front;
-        known = subst (λ l. MatchBool was (Contains l k.value) (Contains l k.value → ⊥)) view
-            (judged ks v k.value was k.is value all is);
-        kept = subst (λ t. MatchBool was (new ≡ old) (new ≡ old ++ t ∷ [])) value kept;
-      }
+      let value = key_read input (bytes_of v) bytes k in grind (arith, judged)

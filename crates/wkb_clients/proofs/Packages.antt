@@ -26,10 +26,7 @@ none_by blob reasons.Envelope why =
     let f = why.front in
     let g = holds.front in
     let one = has_one_front (body_of blob) f.spelled w.spelled f.value w.value f.rest g.rest f.front g.front in
-    let same = one_header blob why.header h why.is_header holds.header in
-    let wrong : false ≡ true =
-    sym why.wrong ∙ ap (λ (k : BlobHeader). envelope_around k.order k.envelope blob why.bounds) same
-    ∙ holds.around why.bounds (subst (AreBounds why.bounds) one.2 f.bounded) in
+    let wrong : false ≡ true = grind (arith, holds) in
     absurd (cc))
 none_by blob (reasons.Geometry e) why =
     elim why.why [ inl memory ↦ inl memory | inr refusal ↦ inr (λ h w holds. no_refusal holds.front refusal) ]

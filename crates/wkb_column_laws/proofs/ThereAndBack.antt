@@ -182,7 +182,6 @@ answered has (no_room items is lacks end_is short) = no_room items (cc) lacks en
 answered has (failed (null_row null is_status) end_is) = absurd cc
 answered has (failed (unknown present none is_status) end_is) = absurd cc
 answered {l} {i = i} {encoding = encoding} has (failed (unfit present t is_asked differ is_status) end_is) =
-    let same : has.target ≡ t = cc in
     absurd (differ encoding (grind arith))
 
 -- both together

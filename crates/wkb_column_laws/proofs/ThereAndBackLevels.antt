@@ -11,7 +11,7 @@ use Rattle.wkb_levels.specs.declared.levels.Levels.{Levels}
 use Rattle.wkb_levels.specs.Columns.{AreRowLevels, SpansCoordinates, column_rings, singles_of, row_begin, row_end}
 use Rattle.wkb_levels.specs.Columns.{rings_begin, rings_end, coordinates_begin, coordinates_end}
 use Rattle.wkb_levels.specs.Cuts.{start_at, AreEnds, pieces_from}
-use Rattle.wkb_levels.specs.EndLists.{start_of, ends_of}
+use Rattle.wkb_levels.specs.EndLists.{ends_of}
 use Rattle.wkb_levels.proofs.Pieces.{length-pieces, start_behind, slice_range-pieces, coordinates_between}
 use Rattle.wkb_abi.specs.Coordinates.{ends}
 use Rattle.wkb_abi.specs.RowItems.{HoldsItems}
@@ -124,8 +124,7 @@ module _ {l : Levels} {d : Dimensions} {i : ℕ} {singles : List (List (List (Li
     many = h.rings;
     within = grind (arith, length-pieces);
     are =
-        sym (slice_range-pieces 0 (coordinates_in d l.words.now) (start_of l.ring_ends) (ends_of l.ring_ends)
-        (rings_begin l i) (rings_end l i) (omega (arith, h.ring_ends.many, h.ring_ends.within)))
+        sym (grind (arith, slice_range-pieces))
         ∙ ap (pieces_from 0 (coordinates_in d l.words.now) (coordinates_begin l i)) h.ring_ends.are
         ∙ pieces_held (joined singles) (coordinates_in d l.words.now) (coordinates_begin l i) (coordinates_end l i)
         coordinates_are;

@@ -36,9 +36,6 @@ no_meaning : (c : ℕ) (z m s : Bool) (a b n : ℕ) → c ≡ flag z 0x80000000 
     → ((d : Dimension) (k : ℕ) → IsIso n d k → ⊥) → HasNoMeaning c
 no_meaning c z m s a b n ea la eb lb en ln none k d srid code =
     let most = thousands-most code.iso in
-    let sum : c
-    ≡ bit code.z * 0x80000000 + bit code.m * 0x40000000 + bit srid * 0x20000000 + (1000 * thousands code.iso + k) =
-    omega (arith, code.sum, flag-bit code.z 0x80000000, flag-bit code.m 0x40000000, flag-bit srid 0x20000000) in
     let rest = 1000 * thousands code.iso + k in
     let flags = below_flags c (bit z) (bit m) (bit s) (bit code.z) (bit code.m) (bit srid) a b n rest in
     let same : n ≡ rest = grind (arith, flags, flag-bit, set_or_below, bit-most) in

@@ -23,7 +23,7 @@ each_long P size one (a ∷ l) x h =
 
 pub coordinates_long : (order : Endianness) (d : Dimension) (cs : List Coordinate) (x : List ℕ)
     → SpellsCoordinates order d cs x → 4 ≤ length x
-coordinates_long order d cs x h = let four = (h.first).len in omega (arith, then_length h)
+coordinates_long order d cs x h = omega (arith, then_length h)
 
 -- how many rings a polygon has
 abbrev pub ring_count : Value → ℕ

@@ -129,12 +129,10 @@ encoding_head : (input x rest : List ℕ) (k : ℕ) (d : Dimension) (l : Layout)
     → body_start l.has_srid ≤ length x → Begins (IsHeader (encoding_header l x) k d) x (drop (body_start l.has_srid) x)
 encoding_head input [] rest k d l o e long = absurd (omega arith)
 encoding_head input (a ∷ y) rest k d l o e long =
-    let both : a ∷ (y ++ rest) ≡ order_byte l.order ∷ o.behind = sym e ∙ o.whole in
     let head : a ≡ order_byte l.order = cc in
     let tail : y ++ rest ≡ o.behind = cc in
     let read = begins_number l.order 4 o.code o.behind (drop 5 input) o.number in
-    let same : o.code ≡ number l.order 4 y =
-    sym read.1 ∙ rw (← tail) (number-more l.order 4 y rest (omega arith)) in
+    let same : o.code ≡ number l.order 4 y = grind (arith, number-more) in
     let field = take (srid_size l.has_srid) (drop 4 y) in
     let cut =
     sym (take-append-drop (srid_size l.has_srid) (drop 4 y))
@@ -142,8 +140,7 @@ encoding_head input (a ∷ y) rest k d l o e long =
     let code = number_begins l.order 4 y (omega arith) in
     record {
       front = order_byte l.order ∷ (code.front ++ field);
-      whole = rw (append_assoc code.front field (drop (body_start l.has_srid) (a ∷ y)), ← cut, head)
-          (ap (λ z. order_byte l.order ∷ z) code.whole);
+      whole = grind (arith, append_assoc);
       first = grind (arith, has_srid_in, srid_is, length-drop);
     }
 

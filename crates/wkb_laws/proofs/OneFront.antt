@@ -19,10 +19,8 @@ one_spelling s u t v x y r q a b e =
     let both : found s t x r ≡ found u v y q =
     sym (front_at room any tt s t x r a (omega arith) tt) ∙ ap (geometry_at room) e
     ∙ front_at room any tt u v y q b (omega arith) tt in
-    let answers : ◌≡◌ {A = reading.Outcome Item} (found s t x r).1 (found u v y q).1 =
-    ap (λ z. z.1) both in
-    let item : ◌≡◌ {A = Item × List ℕ} (record { encoding = x; spelled = s; value = t }, r)
-    (record { encoding = y; spelled = u; value = v }, q) = cc in grind arith
+    let answers : ◌≡◌ {A = reading.Outcome Item} (found s t x r).1 (found u v y q).1 = grind arith in
+    grind arith
 
 pub one_front_lem : HasOneFront
 one_front_lem input s u t v rest more a b = grind (arith, one_spelling)

@@ -17,7 +17,7 @@ module _ (room : ℕ) where
   leaf_has : (w : Wanted) (input : List ℕ) (k : ℕ) (l : Layout) → k ≤ 3 → Opened input k l
       → IsAllowed room w k l.dimension l.has_srid
       → HasPart room w input
-  leaf_has w input zero l few o a = let low = o.meaning.kind.low in absurd (omega arith)
+  leaf_has w input zero l few o a = absurd (omega arith)
   leaf_has w input (suc zero) l few o a = point_has room w input l o a.wanted
   leaf_has w input (suc (suc zero)) l few o a = line_string_has room w input l o a
   leaf_has w input (suc (suc (suc zero))) l few o a = polygon_has room w input l o a

@@ -18,7 +18,6 @@ inner_range : {A : Type 0} (items : List A) (r0 r1 s e : ℕ) → r0 ≤ s → s
     → slice_range (slice_range items r0 r1) (s - r0) (e - r0) ≡ slice_range items (s - 0) (e - 0)
 inner_range items r0 r1 s e a b c =
     let whole : r1 - r0 ≡ s - r0 + (r1 - s) = omega (arith, a, b, c) in
-    let short : e - r0 - (s - r0) ≡ e - s = omega (arith, a, b) in
     let there : r0 + (s - r0) ≡ s = omega (arith, a) in
     grind (arith, drop-take, take-take, drop-drop)
 
@@ -110,10 +109,8 @@ module _ (l : Levels) (d : Dimensions) (i : ℕ) (s : Ends)
             some_words = fit.0;
             order = has.order;
             within = has.within;
-            singles = rw (← has.start, ← has.ends)
-                (up_to _ (length (ends_of l.ring_ends)) s (omega (arith, count_rings rings given, spans.within)) are);
-            rings = rw (← has.start, ← part_last l.single_ends (row_begin l i) (row_end l i) s has)
-                (rw (← spans.start, ← spans.ends) fit.1);
+            singles = grind (arith, up_to, count_rings);
+            rings = grind (arith, part_last);
           },
       λ are.
           to_last (length (ends_of l.ring_ends)) s _ (count_rings rings given)

@@ -1,5 +1,5 @@
 -- How far rows reach.
-use Rattle.std.proofs.Common.{◌≡◌, ℕ, ◌+◌, ◌≤◌, max, subst, ap, arith, ◌⊎◌, inl, inr}
+use Rattle.std.proofs.Common.{◌≡◌, ℕ, ◌+◌, ◌≤◌, max, arith, ◌⊎◌, inl, inr}
 use Rattle.std.proofs.lemmas.Bool.{cases_eq}
 use Rattle.wkb_geom.specs.declared.common.Dimensions.{Dimensions}
 use Rattle.wkb_levels.specs.declared.{levels.Levels.Levels, levels.Place.Place}
@@ -17,10 +17,7 @@ module _ {Spans : ℕ → Type 0} {end : ℕ → ℕ} where
       → IsLevelFloor Spans end (i + 1) next
   floor_next {i} {floor} {next} is (inl (here, moved)) =
       record {
-        enough = λ j h spans. elim (cases_eq j i) [
-          | inl same ↦ let at : end j ≡ end i = ap end same in omega (arith, at, moved)
-          | inr other ↦ omega (arith, is.enough j (omega (arith, h, other)) spans, moved)
-        ];
+        enough = grind (arith, cases_eq);
         least = λ n ends.
             omega (
               arith,
@@ -31,10 +28,7 @@ module _ {Spans : ℕ → Type 0} {end : ℕ → ℕ} where
       }
   floor_next {i} {floor} {next} is (inr (differ, kept)) =
       record {
-        enough = λ j h spans. elim (cases_eq j i) [
-          | inl same ↦ absurd (differ (subst Spans same spans))
-          | inr other ↦ omega (arith, is.enough j (omega (arith, h, other)) spans, kept)
-        ];
+        enough = grind (arith, cases_eq);
         least = λ n ends. omega (arith, kept, is.least n (λ j h spans. ends j (omega (arith, h)) spans));
       }
 

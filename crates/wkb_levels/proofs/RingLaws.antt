@@ -89,8 +89,7 @@ ones_are r w s n (Some l) wide at count ones some is =
     ap (λ c. Some c) (is ∙ ap (λ k. coordinates_in d (slice_range words (k * s) (k * s + k * n))) wide ∙ ap
     (λ k. coordinates_in d (slice_range words (size d * s) k)) (sym (mul-add (size d) s n)) ∙ coordinates_between d
     words s (s + n) r.some_words (omega arith) last ∙ ap (λ k. take k (drop s cs)) (same ∙ count) ∙ ap
-    (λ k. take (length (ends_of r.ends)) (drop k cs)) zero) ∙ sym (ones_only 0 cs (start_of r.ends) (ends_of r.ends)
-    (omega arith) ones (omega (arith, long, last, at, count)))
+    (λ k. take (length (ends_of r.ends)) (drop k cs)) zero) ∙ sym (grind (arith, ones_only))
 
 -- where they aren't, not each has one
 pub not_ones_are : (r : Rings) → (AreOnes (start_of r.ends) (ends_of r.ends) → ⊥) → only_each (rings_rings r) ≡ None

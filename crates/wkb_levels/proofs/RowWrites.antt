@@ -17,8 +17,7 @@ module _ (l : Levels) (kind : Kind) (d : Dimensions) (o : WriteOptions) (i : ℕ
   pub row_put : (g : Geometry) (n : ℕ) → IsLevelRow l kind d i g → fault_of o g ≡ None
       → IsInFront before after (encoding_of o g) n → IsRowWrite l kind d o i before after (written.Whole n)
   row_put g n row fine front =
-      put (encoding_of o g) (record { geometry = g; row = row; writable = fine; is = refl }) (ap (λ k. written.Whole k)
-      front.len) (grind arith)
+      put (encoding_of o g) (record { geometry = g; row = row; writable = fine; is = refl }) (grind arith) (grind arith)
 
   pub row_lacks : (g : Geometry) (n : ℕ) (e : WkbError) → IsLevelRow l kind d i g → IsSliceError o g before e
       → (fault_of o g ≡ None) × (n ≡ length (encoding_of o g)) → after ≡ before

@@ -1,7 +1,7 @@
 -- The part of a slice at an index, if there is one.
 use Rattle.std.proofs.Common.{◌≡◌, ℕ, ◌<◌, List, length, map, All, Option, Some, None, Bor, is_some, IfSome, option_map}
 use Rattle.std.proofs.Common.{option_copied, slice_index_or, slice_get}
-use Rattle.std.proofs.Common.{true, false, nat_lt, refl, sym, ap, ◌∙◌, subst, arith}
+use Rattle.std.proofs.Common.{true, nat_lt, refl, sym, ap, ◌∙◌, subst, arith}
 use Rattle.std.proofs.lemmas.Bool.Decides.{nat_tests}
 use Rattle.std.proofs.lemmas.Option.{slice_get-map, slice_get_past, slice_get_read}
 
@@ -14,8 +14,7 @@ below i n e = grind (arith, nat_tests)
 
 pub copied_is : {A : Type 0} (xs : List A) (i : ℕ) (o : Option (Bor A)) → IsAnswered xs i o
     → option_copied o ≡ slice_get xs i
-copied_is xs i None h =
-    let e : nat_lt i (length xs) ≡ false = sym h.0 in sym (slice_get_past xs i (grind (arith, nat_tests)))
+copied_is xs i None h = sym (slice_get_past xs i (grind (arith, nat_tests)))
 copied_is xs i (Some x) h = sym (slice_get_read xs (length xs) i x.now refl (below i (length xs) (sym h.0)) h.1)
 
 -- what is made of it

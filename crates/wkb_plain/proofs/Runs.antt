@@ -1,7 +1,7 @@
 -- The runs of words, one by one and joined again.
 use Rattle.std.proofs.Common.{◌≡◌, ℕ, zero, suc, ◌+◌, ◌-◌, ◌*◌, ◌/◌, ◌%◌, ◌<◌, ◌≤◌, refl, sym, ap, ◌∙◌, arith, List, []}
 use Rattle.std.proofs.Common.{◌∷◌, ◌++◌, length, take, drop, length-drop, Some, None, slice_get, div-add-mod'}
-use Rattle.std.proofs.Math.Nat.{div-mul-le_self, mul-le-mul_right, zero-mul}
+use Rattle.std.proofs.Math.Nat.{mul-le-mul_right, zero-mul}
 use Rattle.std.proofs.lemmas.List.{drop-drop, take-append-drop}
 use Rattle.std.specs.List.{concat}
 use Rattle.wkb_geom.specs.declared.common.Dimensions.{Dimensions}
@@ -29,7 +29,6 @@ slice_get-runs_past width (suc count) (suc i) words h =
 -- a run below the count ends within the words
 pub run_within : (width i : ℕ) (words : List ℕ) → i < length words / width → i * width + width ≤ length words
 run_within width i words h =
-    let whole = div-mul-le_self (length words) width in
     let step : (i + 1) * width ≤ length words / width * width = mul-le-mul_right width (omega arith) in
     omega arith
 
@@ -59,9 +58,7 @@ pub coordinate_at : (d : Dimensions) (words : List ℕ) (i width : ℕ) → widt
     → i < length (coordinates_in d words)
     → slice_get (coordinates_in d words) i ≡ Some (take (i * width + width - i * width) (drop (i * width) words))
 coordinate_at d words i width wide h =
-    let count = length-runs (size d) (length words / size d) words in
-    rw wide (slice_get-runs (size d) (length words / size d) i words (omega (arith, count, h))
-    ∙ ap (λ (n : ℕ). Some (take n (drop (i * size d) words))) (omega arith))
+    let count = length-runs (size d) (length words / size d) words in grind (arith, slice_get-runs)
 
 pub ruleset runs_laws = (length-runs, slice_get-runs, slice_get-runs_past, run_within, concat-coordinates_in)
 

@@ -2,9 +2,9 @@
 use Rattle.wkb_view.proofs.Fronts.{memory_left, one_geometry}
 use Rattle.wkb_view.proofs.Places.{unlisted, among_members, one_of, no_member_listed}
 use Rattle.wkb_read.specs.Reads.{BeginsAt, Reads}
-use Rattle.wkb_read.proofs.Prelude.{◌≡◌, ℕ, List, Some, None, Result, Ok, Err, sym, subst, drop, WkbError, Value, Item}
+use Rattle.wkb_read.proofs.Prelude.{◌≡◌, ℕ, List, Some, None, Result, Ok, Err, subst, drop, WkbError, Value, Item}
 use Rattle.wkb_read.proofs.Prelude.{spellings, IfRefused, IsRefusal, IsFront, HasNoFront, IsNotMemory, Wkb, IsOnlyFront}
-use Rattle.std.proofs.Common.{◌⊎◌, inl, inr, slice_get, IfOk, IfErr}
+use Rattle.std.proofs.Common.{◌⊎◌, inl, inr, slice_get, IfOk, IfErr, arith}
 use Rattle.wkb_geom.specs.Errors.{IsMemory}
 use Rattle.wkb_geom.specs.declared.error.WkbError.TheVariants as errors
 use Rattle.wkb_read.specs.Prelude.{Spelling}
@@ -69,14 +69,11 @@ pub member_of : (w : Item) (ms : List Item) (k : ℕ) (m : Item) → IsCollectio
     → IsMember k w.spelled w.value m.spelled m.value
 member_of w ms k m c is =
     let inside = subst (λ vs. IsOneOf k (spellings ms) vs m.spelled m.value) c.all.value (one_of ms k m is) in
-    subst (λ (v : Item). IsMember k v.spelled v.value m.spelled m.value) c.is
-    (unlisted c.whole.spelled c.whole.dimension c.whole.parts k m.spelled m.value
-    (subst (λ ss. IsOneOf k ss c.whole.parts m.spelled m.value) c.all.spelled inside))
+    grind (arith, unlisted)
 
 -- A collection whose members, as `as_type` hands them out, end before this number has no member of it.
 pub no_member : (w : Item) (ms : List Item) (k : ℕ) (s : Spelling) (t : Value) → IsCollectionOf w ms
     → slice_get ms k ≡ None → IsMember k w.spelled w.value s t → ⊥
 no_member w ms k s t c none h =
     no_member_listed ms k s t none
-    (rw (c.all.spelled, c.all.value) (among_members c.whole.spelled c.whole.dimension c.whole.parts k s t
-    (subst (λ (v : Item). IsMember k v.spelled v.value s t) (sym c.is) h)))
+    (rw (c.all.spelled, c.all.value) (grind (arith, among_members)))

@@ -1,5 +1,5 @@
 -- Open collections, as a part of one is finished.
-use Rattle.wkb_read.proofs.Prelude.{◌≡◌, ℕ, suc, ◌+◌, ◌≤◌, List, [], ◌∷◌, ◌++◌, length, Ok, sym, ap, ◌∙◌}
+use Rattle.wkb_read.proofs.Prelude.{◌≡◌, ℕ, suc, ◌+◌, ◌≤◌, List, [], ◌∷◌, ◌++◌, length, Ok, sym, ◌∙◌}
 use Rattle.wkb_read.proofs.Prelude.{append_assoc, length-append, arith, Bor, Item, Cost, one_turn, Reading, costs}
 use Rattle.wkb_read.proofs.Prelude.{and_then, consumed, Layout, BytesSpell, Counts, AtMost, Wkb, Open, Whole, nest}
 use Rattle.wkb_read.proofs.Prelude.{IsCollectionIn, closing, list_item, collection_with, geometry_inside, after_member}
@@ -107,13 +107,9 @@ completes o os m members rest spent whole none is f =
     (h.behind ∙ sym (one_more front m rest))
     (all_more BytesSpell front m h.each f.part.spelled)) in
     let encoding = consumed o.bytes.now rest in
-    let deep : nest_each (values members) + suc (length os) ≤ max_nesting =
-    rw is (omega (arith, nest_more front m)) in
+    let deep : nest_each (values members) + suc (length os) ≤ max_nesting = grind (arith, nest_more) in
     let last : in_collection (length os) o m rest ≡ closing o.layout o.bytes.now members rest =
     rw (none, is) (repeated_none member rest (λ xs after. closing o.layout o.bytes.now (front ++ m ∷ xs) after)) in
-    let out =
-    ap (λ (r : Reading Item). and_then r (outward os)) last
-    ∙ done_then (list_item o.layout collection_with members encoding) rest (outward os) in
     grind arith
 
 -- what the loop over a stack comes to

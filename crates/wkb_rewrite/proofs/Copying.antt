@@ -1,5 +1,5 @@
 -- A walk over pieces that stand as they are written, and what is copied behind it.
-use Rattle.std.proofs.Common.{◌≡◌, ℕ, zero, suc, ◌+◌, ◌-◌, ◌<◌, ◌≤◌, List, [], ◌∷◌, ◌++◌, length, take, drop, map}
+use Rattle.std.proofs.Common.{◌≡◌, ℕ, zero, suc, ◌+◌, ◌-◌, ◌<◌, ◌≤◌, List, [], ◌∷◌, ◌++◌, length, drop, map}
 use Rattle.std.proofs.Common.{is_some, None, refl, sym, ap, ◌∙◌, subst, arith, append_assoc, append-nil, length-append}
 use Rattle.std.proofs.Common.{false, true, Bool, ◌&&◌, ◌==◌}
 use Rattle.wkb_laws.specs.Prelude.{number, all_nan, Endianness, Form, AreBytes, form_srid, inner, type_of}
@@ -16,7 +16,7 @@ use Rattle.wkb_sink.specs.declared.options.WriteOptions.{WriteOptions}
 use Rattle.wkb_rewrite.specs.Targets.{encoding_for}
 use Rattle.wkb_rewrite.specs.Copies.{IsCopied}
 use Rattle.wkb_rewrite.specs.Rewritings.{HasPassed}
-use Rattle.wkb_rewrite.proofs.Encodings.{shares_encoding, inner_twice}
+use Rattle.wkb_rewrite.proofs.Encodings.{shares_encoding}
 use Rattle.wkb_rewrite.proofs.Measured.{srid_sizes, measured}
 use Rattle.wkb_rewrite.proofs.Laying.{header_of_some}
 use Rattle.wkb_rewrite.proofs.Spelled.{pieces_say}
@@ -71,7 +71,6 @@ module _ {buf : List ℕ} {order : Endianness} {form : Form} where
       let w = passed.is stood in
       let taken = passed.step.steps l.left l.ahead in
       let none : form_srid form ≡ None = ap form_srid is ∙ inner_srid outer in
-      let again : inner form ≡ form = ap inner is ∙ inner_twice outer ∙ sym is in
       let here = share_encoding order form (share_in buf p) in
       let there = there_span b (taken_there old b l.same l.ahead taken) none w
       (omega (arith, ap length l.same)) in
@@ -83,8 +82,7 @@ module _ {buf : List ℕ} {order : Endianness} {form : Form} where
         ahead = taken.ahead;
         same = passed.step.same ∙ l.same;
         spans = span_on l.spans (subst (λ k. Spans buf old.at k here) (sym passed.step.inside.ends) there);
-        whole = l.whole ∙ ap (λ ps. l.so_far ++ pieces_encoding buf order form ps) taken.first
-            ∙ simp (again, append_assoc);
+        whole = grind (arith, append_assoc);
         srids = omega (arith, ap srid_sizes taken.first, ap (λ s. srid_size (is_some s)) w.plain);
       }
 
@@ -106,14 +104,7 @@ all_stand {buf = buf} options {inside = inside} {w = w} {first = first} {bytes =
     let parts : encoding_for options g.value ≡ head ++ tail =
     sym (encoded order form g)
     ∙ rw (← pieces_say buf 0 g.spelled g.value g.rest g.begins, l.all)
-    (simp (
-      header_of_some order form first.kind first.dimension own.some,
-      sym inside_is,
-      l.whole,
-      none,
-      append-nil,
-      append_assoc,
-    )) in
+    (grind (arith, header_of_some, append-nil, append_assoc)) in
     let at : first.begin + (5 + srid_size (is_some first.srid)) ≡ start = omega arith in
     let stands : Spans buf start (own_end first) body = rw (← at, ← order_is) (own.body fits some) in
     let there : Spans buf start w.at tail = span_on stands l.spans in
@@ -127,14 +118,7 @@ all_stand {buf = buf} options {inside = inside} {w = w} {first = first} {bytes =
       length-append head tail,
       length-header order form (type_kind (type_of first.kind first.dimension))
           (type_dimension (type_of first.kind first.dimension)),
-    ) in
-    record {
-      inside = omega arith;
-      is = parts
-          ∙ ap (λ z. head ++ z)
-          (sym (ap (take (bytes - start)) there.is
-          ∙ take_front (bytes - start) tail (drop w.at buf) (omega arith)));
-    }
+    ) in grind (arith, take_front)
 
 -- ---- a polygon
 
@@ -149,17 +133,7 @@ ring_passed : {buf : List ℕ} {order : Endianness} {form : Form} (w : Pieces) �
     → w.order ≡ order → HasPassed order form buf w (past_ring w) true
 unfolding ring_at
 ring_passed w ahead some order_is =
-    let taken = ring_takes w ahead some (ring_at w) refl (own_end (ring_at w)) refl in
-    record {
-      piece = ring_at w;
-      step = record {
-        steps = taken.steps;
-        inside = taken.inside;
-        further = onward w.bytes.now w.at (own_end (ring_at w)) (ring_at w) taken.inside;
-        same = taken.same;
-      };
-      is = λ _. record { order_is = order_is; plain = refl; code = λ other. absurd (other refl); some = refl };
-    }
+    let taken = ring_takes w ahead some (ring_at w) refl (own_end (ring_at w)) refl in grind (arith, ring_at, onward)
 
 -- all pieces behind the first one stand as they are written
 record AllStand (buf : List ℕ) (order : Endianness) (form : Form) (first : Piece) (g : HasGeometry buf) : Type 0 where

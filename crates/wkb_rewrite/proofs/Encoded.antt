@@ -53,8 +53,7 @@ module _ {buf : List ℕ} {order : Endianness} {form : Form} {w : Pieces} {at : 
       shares = n.others;
       rest = n.left;
       size = omega (arith, ap length all, length-append own others);
-      laid = ap (λ z. sets z to others) p.laid ∙ sets_after out at to own others p.end_is ∙ ap (sets out at) (sym all)
-          ∙ l.laid;
+      laid = grind (arith, sets_after, all);
       long = laid_length p ∙ l.long;
     }
 
@@ -95,8 +94,7 @@ module _ {buf : List ℕ} (order : Endianness) (form : Form) (g : HasGeometry bu
     shares = map (share_in buf) taken.rest;
     rest = record { pieces = taken.rest; ahead = taken.ahead; bytes = same; say = refl };
     size = omega (arith, laid.end_is, ap length first_all, length-append first_own first_others);
-    laid = ap (λ z. sets z to first_others) laid.laid ∙ sets_after out 0 to first_own first_others laid.end_is
-        ∙ ap (sets out 0) (sym first_all);
+    laid = grind (arith, sets_after, first_all);
     long = laid_length laid;
   }
 

@@ -84,7 +84,6 @@ module _ {buf : List ℕ} (b : AreBytes buf) where
       → IsRingThere buf at (ring_piece order d at (number order 4 (drop at buf)))
   ring_there order d at =
       let p = ring_piece order d at (number order 4 (drop at buf)) in
-      let ends = own_end_is p in
       record {
         none = refl;
         body = λ inside some.
@@ -139,7 +138,6 @@ module _ {buf : List ℕ} (b : AreBytes buf) where
       geometry (rw is (geometry_there at g))
   next_there {order = order} {d = d} {r = suc m} {at = at} {p = p} {ps = ps} a =
       let bytes = drop at buf in
-      let first : p ∷ ps ≡ ring_piece order d at (length (ring_in order d bytes)) ∷ _ = a.are in
       let is : p ≡ ring_piece order d at (length (ring_in order d bytes)) = cc in
       ring (rw (is, length-items (8 * width d) _ (number order 4 bytes) (drop 4 bytes)) (ring_there order d at))
 

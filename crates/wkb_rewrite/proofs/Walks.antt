@@ -32,13 +32,7 @@ pub record Next (buf : List ℕ) (new : Pieces) (xs : List Share) (p : Piece) : 
 pub next_taken : {buf : List ℕ} {old new : Pieces} {xs : List Share} {p : Piece} → Rest buf old xs
     → Steps old (Some p) new → Next buf new xs p
 next_taken {buf = buf} r s =
-    let one = s.steps r.pieces r.ahead in
-    record {
-      own = omega (arith, ap length r.bytes);
-      others = map (share_in buf) one.rest;
-      first = sym r.say ∙ ap (map (share_in buf)) one.first;
-      left = record { pieces = one.rest; ahead = one.ahead; bytes = s.same ∙ r.bytes; say = refl };
-    }
+    let one = s.steps r.pieces r.ahead in grind arith
 
 pub nothing_ahead : {old new : Pieces} {ps : List Piece} {r : Option Piece} → IsAhead old ps → r ≡ None
     → Steps old r new → ps ≡ []

@@ -181,8 +181,7 @@ pub lays_last : {a b : Progress} (n : ℕ) (c : Progress) (t : List ℕ) (r : Re
     → IfOk r (λ _. c.block.waiting ≡ []) → MIN_BLOCK ≤ block_size a.block → Ends a c t r
 lays_last {a = a} {b = b} n c t (Ok x) p q none empty large =
     let rest : b.block.waiting ≡ q.moved = grind (arith, append-nil) in
-    let whole : t ≡ p.moved ++ q.moved =
-    ap (λ l. l ++ t) (sym none) ∙ p.whole ∙ ap (λ l. p.moved ++ l) rest in (
+    let whole : t ≡ p.moved ++ q.moved = grind arith in (
       q.same ∙ p.same,
       subst (Appends a.appended c.appended) (sym whole) (Appends-trans _ _ _ _ _ p.appended q.appended),
       q.works,

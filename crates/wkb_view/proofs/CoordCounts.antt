@@ -20,7 +20,6 @@ module _ (w : ℕ) where
       let more = summed rs in
       let bytes : sum_by bytes_in (r ∷ rs) ≡ 4 + 8 * w * length r + sum_by bytes_in rs = sum_by-cons bytes_in r rs in
       let all : sum_by length (r ∷ rs) ≡ length r + sum_by length rs = sum_by-cons length r rs in
-      let split : 8 * w * (length r + sum_by length rs) ≡ 8 * w * length r + 8 * w * sum_by length rs = grind arith in
       bytes ∙ omega arith ∙ ap (λ n. 4 * length (r ∷ rs) + 8 * w * n) (sym all)
 
 pub rings_counted : (d : Dimension) (rs : List (List (List ℕ)))

@@ -1,6 +1,6 @@
 -- Views whose bytes are what is written of them.
 use Rattle.wkb_view.proofs.Prelude.{◌≡◌, ℕ, ◌+◌, ◌≤◌, List, [], ◌∷◌, length, map, take, drop, None, Some, false, refl}
-use Rattle.wkb_view.proofs.Prelude.{sym, ap, ◌∙◌, arith, slice_get, option_map, Bool, take_all, length-map}
+use Rattle.wkb_view.proofs.Prelude.{sym, arith, slice_get, Bool, take_all, length-map}
 use Rattle.wkb_view.proofs.Prelude.{slice_get-map, get_or_from_slice_get, geometry_of, fault, in_full_lem, spelled_good}
 use Rattle.wkb_view.proofs.Prelude.{lawful-geometry_of, Endianness, Dimension, number, Layout, Item, Spelling}
 use Rattle.wkb_view.proofs.Prelude.{spellings, as_dimensions, list_of_spellings, BytesSpell, fitted_geometry-same}
@@ -75,11 +75,8 @@ pub one_more_written : {A : Type 0} {order : Endianness} {has_flags : Bool} {kin
 one_more_written {order = order} {has_flags = has_flags} {kind = kind} {d = d} {i = i} {parts = parts} {m = m}
     {part = part} before is value-is spelled-at part-at =
     let f = member_written order has_flags kind d in
-    let same : m.spelled ≡ f part =
-    is.same ∙ as_member order has_flags m.value
-    ∙ ap (λ v. written order (inner (form_with_flags has_flags)) (geometry_of v)) value-is in
-    let there : slice_get (map f parts) i ≡ Some m.spelled =
-    slice_get-map f parts i ∙ ap (option_map f) (sym part-at) ∙ ap (λ (u : Spelling). Some u) (sym same) in
+    let same : m.spelled ≡ f part = grind (arith, as_member, geometry_of) in
+    let there : slice_get (map f parts) i ≡ Some m.spelled = grind (arith, slice_get-map) in
     let found = get_or_from_slice_get _ i m.spelled m.spelled (sym spelled-at) in
     grind (arith, take_more_same, slice_get_within, get_or_from_slice_get)
 

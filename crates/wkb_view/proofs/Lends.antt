@@ -1,5 +1,5 @@
 -- The bytes of a geometry begin with it, so its value is lawful and can be written, and the traits show it.
-use Rattle.wkb_view.proofs.Prelude.{◌≡◌, ap, ◌<◌, ◌≤◌, ℕ, List, [], length, refl, subst, sym, ◌∙◌, append-nil, arith}
+use Rattle.wkb_view.proofs.Prelude.{◌≡◌, ap, ◌<◌, ◌≤◌, ℕ, List, [], length, refl, subst, sym, append-nil, arith}
 use Rattle.wkb_view.proofs.Prelude.{geometry_of, in_full_lem, point_value, fitted_geometry-same, AreBytes, BytesSpell}
 use Rattle.wkb_view.proofs.Prelude.{Endianness, Item, point_seen, line_string_seen, multi_point_seen, LineString}
 use Rattle.std.proofs.Common.{◌^◌}
@@ -16,13 +16,7 @@ lends w bytes is spells shallow slice =
     let f : IsFront bytes w =
     record {
       rest = [];
-      front =
-          record {
-            front = w.encoding;
-            whole = is ∙ sym (append-nil w.encoding);
-            spelled = in_full_lem w.spelled w.value w.encoding spells;
-            shallow = shallow;
-          };
+      front = grind (arith, append-nil, in_full_lem);
       encoding_is = refl;
     } in
     let law =

@@ -46,8 +46,7 @@ module _ {A : Type 0} {start : Counts} {whole : Reading (List A)} {part : List �
         let same : costs one_turn (and_then (part rest) (with_next part n front))
         ≡ costs one_turn (and_then (part rest) (λ x r.
         and_then (repeated n part r) (λ xs after. done (front ++ x ∷ xs) after))) =
-        λ j. costs one_turn (and_then (part rest) (λ x r.
-        and_then (repeated n part r) (λ xs after. done (append_assoc front (x ∷ []) xs j) after))) in
+        grind (arith, costs, one_turn, and_then, repeated, done, append_assoc) in
         grind (arith, turn_begins, repeated_more)
 
     -- what the next part costs is among the cost of the whole

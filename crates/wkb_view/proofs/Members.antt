@@ -3,7 +3,7 @@ use Rattle.wkb_view.proofs.Prelude.{Spelling, multi_point_end, list_of_spellings
 use Rattle.wkb_view.proofs.Prelude.{slice_get-map, polygon, as_dimensions, member_layout, polygon_items, IsMemberOfKind}
 use Rattle.wkb_view.proofs.Prelude.{Option, length-drop, length-take, option_map, length-map, fitted_parts, member_item}
 use Rattle.wkb_view.proofs.Prelude.{slice_get, Coordinate, polygon_of, body_start, IsEncoding, members_in, point_ends}
-use Rattle.wkb_view.proofs.Prelude.{length, IfSome, Dimension, Listed, spellings, Layout, point_of, consumed, points_in}
+use Rattle.wkb_view.proofs.Prelude.{length, IfSome, Dimension, Listed, spellings, Layout, point_of, points_in}
 use Rattle.wkb_view.proofs.Prelude.{◌≡◌, zero, List, ◌++◌, Some, None, refl, subst, false, arith, rules, pieces, Passed}
 use Rattle.wkb_view.proofs.Prelude.{ℕ, suc, [], ◌∷◌, map, ap, ◌∙◌, ◌+◌, ◌-◌, ◌*◌, ◌≤◌, ◌<◌, Bor, take, drop, Ok, Item}
 use Rattle.std.specs.Prelude.{IsOk}
@@ -133,9 +133,6 @@ pub point_laid : (d : Dimension) (bytes : List ℕ) (l : Layout) → member_layo
     → member_layout 1 d bytes ≡ Ok (laid l.order d false)
 point_laid d bytes l e = grind arith
 
-member_size : (d : Dimension) (encoding : List ℕ) → IsMemberOfKind 1 d encoding → length encoding ≡ stride d
-member_size d encoding m = grind arith
-
 -- a member more
 pub ends_next : (l : Layout) (i : ℕ) (bytes rest after : List ℕ)
     → rest ≡ drop (last_end (body_start l.has_srid + 4) (point_ends l i)) bytes
@@ -146,7 +143,6 @@ ends_next l i bytes rest after rest-is within passed =
     let start = body_start l.has_srid + 4 in
     let last = last_end-every start (stride l.dimension) i in
     let long = ap length rest-is ∙ length-drop (last_end start (point_ends l i)) bytes in
-    let size = member_size l.dimension (consumed rest after) passed.form in
     let shorter = passed.shorter in
     let one : i + 1 ≡ suc i = omega arith in
     grind (arith, every-next, length-take)

@@ -131,14 +131,10 @@ module _ {A : Type 0} {least : ℕ} {P : List ℕ → Type 0} {seen : List ℕ �
       let end = length bytes - length after in
       let size = length rest - length after in
       let long : length rest ≡ length bytes - last = ap length so_far.rest_is ∙ length-drop last bytes in
-      let shorter = passed.shorter in
       let end_is : end ≡ last + size = omega arith in
-      let same_piece : take (end - last) (drop last bytes) ≡ consumed rest after =
-      rw (← so_far.rest_is) (ap (λ (n : ℕ). take n rest) (omega arith)) in
+      let same_piece : take (end - last) (drop last bytes) ≡ consumed rest after = grind arith in
       let pushed : map seen (pieces start (ends ++ end ∷ []) bytes)
-      ≡ map seen (pieces start ends bytes) ++ seen (consumed rest after) ∷ [] =
-      pieces-push seen start ends end bytes
-      ∙ ap (λ (t : List ℕ). map seen (pieces start ends bytes) ++ seen t ∷ []) same_piece in
+      ≡ map seen (pieces start ends bytes) ++ seen (consumed rest after) ∷ [] = grind (arith, pieces-push, pieces) in
       let piece : IsPiece P last end bytes =
       record { ordered = omega arith; within = omega arith; form = subst P (sym same_piece) passed.form } in
       let end_at = last_end-push start ends end in

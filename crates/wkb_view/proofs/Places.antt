@@ -125,9 +125,7 @@ pub stands_within : {a b : ℕ} {x y z : List ℕ} → StandsAt a x y → Stands
 stands_within {a = a} {b = b} {x = x} {y = y} {z = z} p q =
     let left = length y - a in
     let long : length y ≡ a + left = omega (arith, p.within) in
-    let inside : drop a y ≡ take left (drop (b + a) z) =
-    ap (drop a) (sym q.is) ∙ ap (λ n. drop a (take n (drop b z))) long ∙ drop-take a left (drop b z)
-    ∙ ap (take left) (drop-drop a b z) in
+    let inside : drop a y ≡ take left (drop (b + a) z) = grind (arith, drop-take, drop-drop) in
     grind (arith, take-take)
 
 -- What follows an offset begins with the part that is there.

@@ -2,7 +2,6 @@
 use Rattle.wkb_view.proofs.Prelude.{◌≡◌, ℕ, ◌-◌, List, length, None, arith, rings_size, fault, in_full_lem}
 use Rattle.wkb_view.proofs.Prelude.{spelled_good, lawful-geometry_of, AreBytes, Layout, Coordinate, Listed, body_start}
 use Rattle.wkb_view.proofs.Prelude.{srid_in, as_dimensions, BytesSpell, fitted_parts, polygon_laid, polygon_seen}
-use Rattle.wkb_laws.proofs.Heads.{has_srid_in}
 use Rattle.wkb_laws.proofs.Lengths.{srid_size_is}
 use Rattle.wkb_laws.proofs.Spelled.{size_of_spelled_lem}
 use Rattle.wkb_laws.proofs.Values.{Good}
@@ -28,7 +27,6 @@ module _ (l : Layout) (ends bytes : List ℕ) (p : Listed (List (List Coordinate
   polygon_size n is =
       let seen = polygon_seen (polygon_laid l ends bytes) in
       let long = size_of_spelled_lem seen.spelled seen.value bytes (in_full_lem seen.spelled seen.value bytes spells) in
-      let srid = has_srid_in l.order l.has_srid bytes in
       grind (arith, rings_same, srid_size_is, srid_in)
 
   -- it has no fault

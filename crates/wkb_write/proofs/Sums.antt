@@ -42,11 +42,7 @@ module _ {X : Type 0} {part : X → Measure} {whole : Measure} {total : ℕ} {xs
       → capped sum ≡ capped (total + n) → Ahead part whole sum xs (i + 1)
   unfolding first_fault or_else
   part_step at more =
-      let sizes = sum_by-cons (λ x. (part x).size) at.item (drop (i + 1) xs) in
-      record {
-        fault = rw (at.rest, at.holds.0) at ahead.fault;
-        size = omega (arith, rw at.rest at ahead.size, sizes, at.holds.1, more);
-      }
+      let sizes = sum_by-cons (λ x. (part x).size) at.item (drop (i + 1) xs) in grind arith
 
   -- what was measured of a part is a fault
   pub part_refused : (m : Measured) → ItemAt xs i (λ x. Measures (part x).fault (part x).size (result_of m))
