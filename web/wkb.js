@@ -9,15 +9,19 @@ export { Column } from './column.js';
 export { fromGeoJSON, toGeoJSON } from './geojson.js';
 const AXES = ['', ...DIMENSIONS];
 export function bytesOf(text) {
-  const bare = String(text).trim().replace(/^["']|["']$/g, '').replace(/^(\\\\?x|0x|x')/i, '').replace(/\s+/g, '');
-  if (/^[0-9a-f]*$/i.test(bare)) return fromHex(bare);
+  const bare = String(text).trim().replace(/^["']|["']$/g, '').replace(/\s+/g, '');
+  const digits = bare.replace(/^(\\\\?x|0x|x')/i, '');
+  const isHex = /^[0-9a-f]*$/i.test(digits);
+  // Base64 may have digits of hex alone: it then begins with A, for the order 0, as the hex of no geometry does.
+  if (isHex && bare[0] !== 'A') return fromHex(digits);
   // The first byte of base64 is an order, or the G of a GeoPackage.
   try {
     const bytes = Uint8Array.from(atob(bare.replace(/-/g, '+').replace(/_/g, '/')), (it) => it.charCodeAt(0));
     if ([0, 1, 0x47].includes(bytes[0])) return bytes;
   } catch { /* It is told below. */ }
-  const wrong = bare.search(/[^0-9a-f]/i);
-  throw new SyntaxError(`neither hex nor base64: hex has no "${bare[wrong]}", the digit ${wrong + 1}`);
+  if (isHex) return fromHex(digits);
+  const wrong = digits.search(/[^0-9a-f]/i);
+  throw new SyntaxError(`neither hex nor base64: hex has no "${digits[wrong]}", the digit ${wrong + 1}`);
 }
 
 /** The value of each digit of hex, by its character. */

@@ -323,7 +323,9 @@ test('each byte of each row', () => {
 
 test('texts', () => {
   for (const it of [HEX, `\\x${HEX}`, `\\\\x${HEX}`, `0x${HEX}`, `x'${HEX}'`, ` "${HEX.toUpperCase()}"\r\n`,
-    'AQEAAAAAAAAAAADwPwAAAAAAAPC_', 'AQEAAAAA\nAAAAAADwPwAAAAAAAABA']) assert.equal(bytesOf(it).length, 21);
+    'AQEAAAAAAAAAAADwPwAAAAAAAPC_', 'AQEAAAAA\nAAAAAADwPwAAAAAAAABA',
+    'AAAAAAEAAAAAAAAAAAAAAAAAAAAA']) assert.equal(bytesOf(it).length, 21);
+  assert.deepEqual(['A0', '0xAAAA'].map((it) => [...bytesOf(it)]), [[0xa0], [0xaa, 0xaa]]);
   const blob = `4750000100000000${HEX}`;
   assert.deepEqual(bytesOf(Buffer.from(blob, 'hex').toString('base64')), bytesOf(blob));
   for (const it of ['g', '0', 'Ag==', 'POINT (1 2)', '<b>']) assert.throws(() => bytesOf(it));
