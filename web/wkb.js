@@ -72,6 +72,7 @@ export function inspect(bytes) {
 export function words(bytes, part) {
   const width = KINDS.indexOf(part.kind) < 3 ? part.dimension.length : 0;
   const own = asBytes(bytes).slice(part.offset, part.offset + 8 * width * part.count);
+  if (own.length !== 8 * width * part.count) throw new RangeError('no part of these bytes');
   if (part.byteOrder === 'big') for (let i = 0; i < own.length; i += 8) own.subarray(i, i + 8).reverse();
   return new Float64Array(own.buffer);
 }

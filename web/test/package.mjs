@@ -238,6 +238,7 @@ test('wrong arguments', () => {
     [TypeError, (it) => wkb.Column.of([POINT]).geoArrow(it), 'zm'],
     [TypeError, geoArrow, [], [of('Point', [1, 2]), of('LineString', [])],
       [{ type: 'GeometryCollection', geometries: [] }]],
+    [RangeError, (it) => wkb.words(POINT.subarray(0, 13), it), wkb.check(POINT), wkb.parts(POINT)[0]],
   ];
   for (const [Kind, call, ...all] of wrong) for (const it of all) assert.throws(() => call(it), Kind);
   assert.throws(() => wkb.fromGeoJSON({ type: 'Feature', geometry: of('Point', [1, 2]) }), /give the geometry/);
