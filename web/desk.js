@@ -62,10 +62,13 @@ export class WkbError extends Error {
   }
 }
 
-/** An input's bytes in a view of our own: a subclass may say another length, or have another `slice`, as Buffer. */
+/** An input's bytes in a view of our own, whose length stays: a subclass may say another, or have another `slice`, as
+ * Buffer, and a buffer may grow, one that is shared also while it is copied. */
 export function asBytes(input) {
   if (ArrayBuffer.isView(input)) return new Uint8Array(input.buffer, input.byteOffset, input.byteLength);
-  if (/^.object (Shared)?ArrayBuffer.$/.test(Object.prototype.toString.call(input))) return new Uint8Array(input);
+  if (/^.object (Shared)?ArrayBuffer.$/.test(Object.prototype.toString.call(input))) {
+    return new Uint8Array(input, 0, input.byteLength);
+  }
   throw new TypeError('the input has to be a Uint8Array, another view or an ArrayBuffer; of hex bytesOf makes one');
 }
 

@@ -220,6 +220,11 @@ test('offsets of no meaning', () => {
   const checked = (offsets) => [...new wkb.Column(POINT, offsets).check()];
   assert.deepEqual(checked(BigInt64Array.of(0n, 21n, 2n ** 32n, 2n ** 32n + 21n, -1n)), [0, 17, 17, 17]);
   assert.deepEqual([checked(Int32Array.of(0, 21, 20, 21)), checked(new Int32Array())], [[0, 17, 17], []]);
+  const growing = new SharedArrayBuffer(21, { maxByteLength: 42 });
+  new Uint8Array(growing).set(POINT);
+  const column = new wkb.Column(growing, Int32Array.of(0, 21, 42));
+  growing.grow?.(42);
+  assert.deepEqual([...column.check()], [0, 17]);
 });
 
 test('wrong arguments', () => {
