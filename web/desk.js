@@ -123,7 +123,7 @@ export function numbered({ byteOrder = 'little', form = 'iso', srid } = {}) {
   const order = ORDERS.indexOf(byteOrder);
   if (order < 0 || !['iso', 'ewkb'].includes(form)) throw new TypeError(`no byte order or form: ${byteOrder}, ${form}`);
   const isNumber = Number.isInteger(srid) && srid >= 0 && srid < 2 ** 32;
-  if (!isNumber && srid != null) throw new RangeError(`no SRID: ${srid}`);
+  if (!isNumber && srid != null) throw new RangeError('an SRID has to be an integer from 0 to 4294967295');
   if (form === 'iso' && isNumber) throw new TypeError("ISO WKB has no SRID: form: 'ewkb' has one");
   return [order, form === 'iso' ? 0 : isNumber ? 2 : srid === null ? 3 : 1, srid ?? 0];
 }

@@ -129,7 +129,7 @@ class Fields {
     return this.take(4, 'count', (it) => [counted(it, nounOf(kind)) + claim, Boolean(needed)]);
   }
 
-  /** Coordinates: so many from the first one on, and the last; or as many as there are, and the words of one cut off. */
+  /** Coordinates: so many from the first on, and the last; or as many as there are, and the words of one cut off. */
   coordinates({ count, dimension }, most) {
     const size = 8 * dimension.length;
     const whole = Math.min(count, Math.floor((this.view.byteLength - this.at) / size));

@@ -84,7 +84,7 @@ async function takeFile(file) {
   }
 }
 
-/** Takes the bytes that a link carries behind its mark, which no server gets. What is no escape is taken as it stands. */
+/** Takes the bytes that a link carries behind its mark, which no server gets. What is no escape stays as it is. */
 function takeLink() {
   const hex = /^#hex=(.*)/.exec(location.hash)?.[1];
   if (hex === undefined) return false;

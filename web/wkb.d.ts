@@ -95,7 +95,7 @@ export function inspect(bytes: Bytes): { parts: Part[]; error: WkbError | null }
 export function words(bytes: Bytes, part: Part): Float64Array;
 /** Leaves out M and SRIDs. An empty point has no coordinates. */
 export function toGeoJSON(bytes: Bytes): Geometry;
-/** All positions have to have two numbers, or all three. */
+/** All positions have to have two numbers, or all three; of a collection those of each member by itself. */
 export function fromGeoJSON(geometry: Geometry, options?: WriteOptions): Uint8Array;
 /** Writes the one encoding that a geometry has under the options. */
 export function write(bytes: Bytes, options?: WriteOptions): Uint8Array;

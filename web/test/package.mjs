@@ -238,12 +238,12 @@ test('wrong arguments', () => {
     [TypeError, (it) => wkb.fromGeoJSON(of('Point', it)), [1], [1, '2'], ['1', '2'], [null, null], [[1, 2]], [1, , 3]],
     [TypeError, (it) => wkb.fromGeoJSON(of('LineString', it)), [[1, 2], [1, 2, 3]], ['ab'], [1, 2], [null]],
     [TypeError, (it) => new wkb.Column(POINT, it), [0, 21], new Float64Array(2)],
+    [RangeError, (it) => wkb.words(POINT.subarray(0, 13), it), wkb.check(POINT), wkb.parts(POINT)[0]],
     [RangeError, (first) => new wkb.Column(POINT, Int32Array.of(0, 21), { validity, first }).check(), -1, 0.5, 8],
     [TypeError, (it) => wkb.Column.of([POINT]).coordinates(it), 'zm'],
     [TypeError, (it) => wkb.Column.of([POINT]).geoArrow(it), 'zm'],
     [TypeError, geoArrow, [], [of('Point', [1, 2]), of('LineString', [])],
       [{ type: 'GeometryCollection', geometries: [] }]],
-    [RangeError, (it) => wkb.words(POINT.subarray(0, 13), it), wkb.check(POINT), wkb.parts(POINT)[0]],
   ];
   for (const [Kind, call, ...all] of wrong) for (const it of all) assert.throws(() => call(it), Kind);
   assert.throws(() => wkb.fromGeoJSON({ type: 'Feature', geometry: of('Point', [1, 2]) }), /give the geometry/);
