@@ -291,7 +291,6 @@ test('inputs of many kinds, and those that are long or claim much', () => {
   const { buffer } = runInNewContext('Uint8Array.of(1, 7, 0, 0, 0, 0, 0, 0, 0)');
   assert.equal(wkb.check(buffer).kind, 'GeometryCollection');
   assert.deepEqual(wkb.write(POINT, { srid: null }), POINT);
-  assert.throws(() => wkb.check(bytesOf('0104000000ffffffff')), { needed: 9 + 21 * 0xffffffff, has: 9 });
   const claiming = wkb.inspect(bytesOf('0107000000ffffffff'.repeat(128) + '0103000000ffffffff'));
   assert.deepEqual([claiming.parts.length, claiming.error.reason], [129, 'SHORT_HEADER']);
   const long = Buffer.concat([bytesOf('010400000040420f00'), ...Array(1e6).fill(POINT)]);
