@@ -2,7 +2,7 @@
 // Reads and writes WKB and EWKB in browsers, workers and Node.js. What is checked, measured, compared and written is so
 // by the proved sources, as WebAssembly (desk.js). This file makes objects of the numbers; wkb.d.ts says which.
 import { DIMENSIONS, KINDS, ORDERS, PART_SIZE, WkbError, asBytes, copyOfBytes, numbered, over, put, rangesOf, refusal,
-  result, run } from './desk.js';
+  result } from './desk.js';
 
 export { DIMENSIONS, KINDS, STATUSES, WkbError, start } from './desk.js';
 export { Column } from './column.js';
@@ -78,8 +78,7 @@ export function words(bytes, part) {
 }
 
 export function write(geometry, options) {
-  put(geometry);
-  run('wkb_write', ...numbered(options));
+  over(geometry, 'wkb_write', ...numbered(options));
   return copyOfBytes();
 }
 

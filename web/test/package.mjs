@@ -284,6 +284,8 @@ test('inputs of many kinds, and those that are long or claim much', () => {
   class Busy extends Uint8Array { get buffer() { return wkb.equal(POINT, POINT) && super.buffer; } }
   const other = bytesOf('010200000000000000');
   assert.deepEqual([wkb.equal(Busy.from(POINT), other), wkb.equal(other, Busy.from(POINT))], [false, false]);
+  const busy = { get byteOrder() { return wkb.check(other) && 'little'; } };
+  assert.deepEqual(wkb.write(POINT, busy), POINT);
   assert.deepEqual([...new wkb.Column(Busy.from(POINT), Int32Array.of(0, 21), { validity: Busy.of(1) }).check()], [0]);
   const big = Buffer.from(wkb.write(POINT, { byteOrder: 'big' }));
   assert.deepEqual([...wkb.words(big, wkb.parts(big)[0])], [1, 2]);
