@@ -88,7 +88,6 @@ test('accepted rows, each also as a column', () => {
     const [xy, ...others] = DIMENSIONS.map((it) => column.coordinates(it));
     const ends = [xy.rings, xy.singles].map((it) => BigUint64Array.from(it.subarray(1), BigInt));
     assert.equal(summed(...[xy, ...others].map((it) => it.values), ...ends), sums[10]);
-    assert.throws(() => wkb.check(input.subarray(0, size - 1)), /the input ends/);
   }
 });
 
@@ -276,7 +275,7 @@ test('the types of the example, and of what calls give', { skip: !hasTsc && 'the
   assert.equal(status, 0, stdout);
 });
 
-test('inputs of many kinds, and those that are long or claim much', () => {
+test('inputs of many kinds, and those that claim much', () => {
   const views = [POINT.buffer, new DataView(Uint8Array.of(7, ...POINT).buffer, 1)];
   assert.deepEqual(views.map((it) => wkb.check(it).kind), ['Point', 'Point']);
   class Liar extends Uint8Array { get length() { return 1; } }
@@ -295,9 +294,6 @@ test('inputs of many kinds, and those that are long or claim much', () => {
   assert.deepEqual(wkb.write(POINT, { srid: null }), POINT);
   const claiming = wkb.inspect(bytesOf('0107000000ffffffff'.repeat(128) + '0103000000ffffffff'));
   assert.deepEqual([claiming.parts.length, claiming.error.reason], [129, 'SHORT_HEADER']);
-  const long = Buffer.concat([bytesOf('010400000040420f00'), ...Array(1e6).fill(POINT)]);
-  assert.equal(wkb.check(long).parts, 1e6 + 1);
-  assert.equal(wkb.toGeoJSON(long).coordinates.length, 1e6);
 });
 
 test('each byte of each row', () => {

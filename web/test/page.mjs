@@ -204,7 +204,6 @@ test('a link', async () => {
 });
 
 const LONG = {
-  'a line of 1 MB': ['010200000000000100' + '000000000000f03f0000000000000040'.repeat(65536), /^LineString/],
   'a multi point of 5 MB': ['010400000000d00300' + POINT.repeat(249856), /^MultiPoint/],
   'a collection of 1 MB of empty members': ['010700000000c80100' + '010700000000000000'.repeat(116736), /^Geometry/],
   'members that each claim the rest': ['0107000000ffffffff'.repeat(128) + '010400000000000000'.repeat(60000),
