@@ -66,9 +66,8 @@ export class WkbError extends Error {
  * Buffer, and a buffer may grow, one that is shared also while it is copied. */
 export function asBytes(input) {
   if (ArrayBuffer.isView(input)) return new Uint8Array(input.buffer, input.byteOffset, input.byteLength);
-  if (/^.object (Shared)?ArrayBuffer.$/.test(Object.prototype.toString.call(input))) {
-    return new Uint8Array(input, 0, input.byteLength);
-  }
+  const isBuffer = /^.object (Shared)?ArrayBuffer.$/.test(Object.prototype.toString.call(input));
+  if (isBuffer) return new Uint8Array(input, 0, input.byteLength);
   throw new TypeError('the input has to be a Uint8Array, another view or an ArrayBuffer; of hex bytesOf makes one');
 }
 
