@@ -38,8 +38,8 @@ lacks() {
 names_of() { "${NM:-nm}" -D --defined-only "$1" | awk '{ print $NF }' | LC_ALL=C sort; }
 is_bound() { "${READELF:-readelf}" -dW "$1" | grep -q BIND_NOW || fail "$1 is not bound when it is loaded"; }
 
-# blocks KIND DATABASE: the blocks of this kind in START_SQL's part on a database.
+# blocks KIND DATABASE: the blocks of this kind in START_SQL's part on a database. It fails if there are none.
 blocks() {
-  awk -v begin="\`\`\`$1" -v part="$2" '/^## / { here = $0 ~ part } /^```/ { on = here && $0 == begin; next } on' \
-    "$top/docs/START_SQL.md"
+  awk -v begin="\`\`\`$1" -v part="$2" '/^## / { here = $0 ~ part } /^```/ { on = here && $0 == begin; next }
+    on { some = 1; print } END { exit !some }' "$top/docs/START_SQL.md" || fail "START_SQL has no $1 on $2"
 }
