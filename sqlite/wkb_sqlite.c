@@ -215,12 +215,8 @@ static void canonical(const call *it) { written_behind(it, WKB_FORM_ISO, 0, NULL
 
 static void ewkb(const call *it) {
   const int32_t srs_id = it->in.header.srs_id;
-  if (it->in.header.size == 0)
-    written_behind(it, WKB_FORM_EWKB_OWN_SRID, 0, NULL, 0);
-  else if (srs_id > 0)
-    written_behind(it, WKB_FORM_EWKB_WITH_SRID, (uint32_t)srs_id, NULL, 0);
-  else
-    written_behind(it, WKB_FORM_EWKB_WITHOUT_SRID, 0, NULL, 0);
+  wkb_form of_header = srs_id > 0 ? WKB_FORM_EWKB_WITH_SRID : WKB_FORM_EWKB_WITHOUT_SRID;
+  written_behind(it, it->in.header.size > 0 ? of_header : WKB_FORM_EWKB_OWN_SRID, (uint32_t)srs_id, NULL, 0);
 }
 
 static void ewkb_with_srid(const call *it) {
