@@ -2,10 +2,9 @@
 \set VERBOSITY terse
 create extension wkb;
 create table point as select '\x0101000000000000000000f03f0000000000000040'::bytea as wkb;
--- The first SRID and the last, those beside the range, and a number that is no integer.
+-- The first SRID and the last, and those beside the range.
 select wkb_srid(wkb_ewkb(it, 0)), wkb_srid(it), it from (select wkb_ewkb(wkb, 4294967295) as it from point) as written;
 select wkb_ewkb(wkb, 4294967296) from point;
-select wkb_ewkb(wkb, 4326.9) from point;
 -- With their hints.
 \set VERBOSITY default
 select wkb_ewkb(wkb, -1) from point;
@@ -14,7 +13,6 @@ select wkb_canonical('\x0108000000');
 -- A literal without a type is bytes: those of a text are none of WKB, and the hint says how it is written.
 select wkb_kind('SRID=4326;POINT (1 2)');
 select wkb_canonical('0101000000000000000000F03F0000000000000040');
-select wkb_same(wkb, 'POINT (1 2)') from point;
 \set VERBOSITY terse
 -- The blob of a GeoPackage is named.
 select wkb_fault('\x47500001e61000000101000000000000000000f03f0000000000000040');
