@@ -357,7 +357,7 @@ static void put_header(dump *it, const wkb_dump_header *header) {
 int wkb_dump(const void *buf, size_t len, const wkb_dump_options *options, wkb_dump_put *put, void *to,
              wkb_dump_walk *walk) {
   static const wkb_dump_options USUAL = {WKB_DUMP_ITEMS, WKB_DUMP_LINES};
-  dump it = {.bytes = buf, .len = len, .options = options ? *options : USUAL, .put = put, .to = to};
+  dump it = {.bytes = len > 0 ? buf : "", .len = len, .options = options ? *options : USUAL, .put = put, .to = to};
   wkb_dump_header header;
   const char *wrong = wkb_dump_read_header(buf, len, &header);
   if (wrong != NULL || header.size > 0) put_header(&it, &header);

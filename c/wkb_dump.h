@@ -45,8 +45,8 @@ typedef struct wkb_dump_walk {
 } wkb_dump_walk;
 
 /* Shows the geometry at the start of the input, which may have the header of a GeoPackage's blob before it. Null
- * OPTIONS are WKB_DUMP_ITEMS and WKB_DUMP_LINES. WALK may be null. The time that it takes is proportional to that of
- * wkb_check and to the lines. */
+ * OPTIONS are WKB_DUMP_ITEMS and WKB_DUMP_LINES. WALK may be null, and BUF if LEN is 0. The time that it takes is
+ * proportional to that of wkb_check and to the lines. */
 int wkb_dump(const void *buf, size_t len, const wkb_dump_options *options, wkb_dump_put *put, void *to,
              wkb_dump_walk *walk);
 
