@@ -27,7 +27,6 @@ NAMED = [
     ("docs/START_SQL.md", rf'version "({NUMBER})" of'),
     ("c/package/debian/changelog", rf"\A\S+ \(({NUMBER})-1\)"),
     ("postgres/wkb.control", r"(?m)^default_version = '(.*)'$"),
-    ("postgres/expected", r"(?m)^([\d.]+)\|23$"),
     *((page, RELEASED) for page in pages.PAGES if re.search(RELEASED, pages.text_of(page))),
 ]
 # The packages, which name the licence that .reuse/dep5 has for all files, and how they say it.
