@@ -226,7 +226,7 @@ impl CoordTrait for Coord<'_> {
     #[inline]
     fn nth_or_panic(&self, n: usize) -> f64 {
         let mut word = [0; 8];
-        word.copy_from_slice(&self.0.bytes[8 * n..8 * n + 8]);
+        word.copy_from_slice(&self.0.bytes[n.saturating_mul(8)..][..8]);
         f64::from_bits(match self.0.order {
             Endianness::BigEndian => u64::from_be_bytes(word),
             Endianness::LittleEndian => u64::from_le_bytes(word),

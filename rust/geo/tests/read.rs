@@ -39,7 +39,8 @@ fn a_third_interior() {
     let coord = ring.coord(1).unwrap();
     assert_eq!((coord.x_y(), numbers(&|n| coord.nth_or_panic(n))), ((28.0, 29.0), vec![28.0, 29.0, 30.0, 31.0]));
     assert_eq!((ring.dim(), coord.dim(), ring.num_coords()), (Dimensions::Xyzm, Dimensions::Xyzm, 2));
-    assert!(coord.nth(4).is_none() && ring.coord(2).is_none() && polygon.interior(3).is_none());
+    let far = std::panic::catch_unwind(|| coord.nth_or_panic(1 << (usize::BITS - 3)));
+    assert!(far.is_err() && coord.nth(4).is_none() && ring.coord(2).is_none() && polygon.interior(3).is_none());
     let rings = polygon.exterior().into_iter().chain(polygon.interiors());
     let firsts = rings.flat_map(|it| it.coords().map(|it| it.x()).collect::<Vec<_>>());
     assert_eq!(firsts.collect::<Vec<_>>(), [0.0, 4.0, 8.0, 12.0, 16.0, 20.0, 24.0, 28.0]);
