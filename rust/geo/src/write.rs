@@ -14,8 +14,9 @@ use std::io::Write;
 use writer::WriteOptions;
 
 /// Writes a geometry, once all of it is encoded. A line is written as a line string; a triangle as a polygon that ends
-/// as it begins; a rectangle as a polygon in x and y, from its least corner on to that of the greatest y. Coordinates
-/// of two, three or four words without names are XY, XYZ or XYZM.
+/// as it begins; a rectangle as a polygon in x and y, from its least corner on to that of the greatest y. Interiors
+/// without an exterior are behind an empty one. Coordinates of two, three or four words without names are XY, XYZ or
+/// XYZM.
 ///
 /// # Errors
 ///
@@ -171,6 +172,9 @@ impl Parts {
 
     fn polygon(&mut self, it: &impl PolygonTrait<T = f64>) -> WkbResult<()> {
         self.fits(it.dim())?;
+        if it.exterior().is_none() && it.num_interiors() > 0 {
+            self.end_ring()?;
+        }
         for ring in it.exterior().into_iter().chain(it.interiors()) {
             self.fits(ring.dim())?;
             self.ring(ring.coords())?;

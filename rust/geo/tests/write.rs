@@ -112,8 +112,9 @@ impl PointTrait for Made {
 impl PolygonTrait for Made {
     type RingType<'a> = Made;
 
+    /// As of geo_types: an empty one is none.
     fn exterior(&self) -> Option<Made> {
-        self.2.first().cloned()
+        self.2.first().filter(|it| !it.2.is_empty()).cloned()
     }
 
     fn num_interiors(&self) -> usize {
@@ -169,6 +170,10 @@ fn kinds_that_no_input_has() {
     // A rectangle is written in x and y.
     let corners = [1., 2., 1., 5., 4., 5., 4., 2., 1., 2.];
     expect(&cornered(of!(Rect), &[&[1., 2., 3.], &[4., 5., 6.]]), &bytes(3, &[1, 5], &corners));
+    let line = made(of!(LineString), Dimensions::Xy, vec![coord(Dimensions::Xy, &[1., 2.])]);
+    let empty = made(of!(LineString), Dimensions::Xy, vec![]);
+    let polygon = made(of!(Polygon), Dimensions::Xy, vec![empty, line]);
+    expect(&polygon, &bytes(3, &[2, 0, 1], &[1., 2.]));
     let triangle = cornered(of!(Triangle), &[&[0., 0.], &[1., 0.], &[0., 1.]]);
     expect(&triangle, &bytes(3, &[1, 4], &[0., 0., 1., 0., 0., 1., 0., 0.]));
 }
@@ -207,7 +212,7 @@ fn parts_of_another_dimension() {
         let mut wholes = vec![
             made(of!(LineString), outer, coords()),
             made(of!(Polygon), outer, rings()),
-            made(of!(Polygon), outer, vec![made(of!(LineString), inner, vec![])]),
+            made(of!(Polygon), outer, vec![made(of!(LineString), inner, vec![]); 2]),
         ];
         let multis: [(Of, Of, Vec<Made>); 3] = [
             (of!(MultiPoint), of!(Point), coords()),
