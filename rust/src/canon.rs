@@ -22,28 +22,27 @@ use crate::wkb_rewrite::{lay_encoding, lay_one_piece, lay_polygon, size_with_own
 use crate::writer::{Form, WriteOptions};
 use alloc::vec::Vec;
 
-/// Puts what [`canonical`] returns into a vector, which keeps its memory for the next input. Rejected bytes leave it
-/// empty.
+/// Puts what [`canonical`] returns into a vector, which keeps its memory for the next input. An error leaves it empty.
 ///
 /// # Errors
 ///
 /// As [`canonical`].
 pub fn canonical_into(bytes: &[u8], options: &WriteOptions, out: &mut Vec<u8>) -> WkbResult<()> {
-    let found = match check(bytes) {
-        Ok(found) => found,
-        Err(why) => {
-            out.clear();
-            return Err(why.into());
-        }
-    };
+    let size = lay_grown(bytes, *options, out);
+    out.truncate(*size.as_ref().unwrap_or(&0));
+    size.map(drop)
+}
+
+/// Lays the encoding into a vector, which grows where it is too short, and returns its size.
+#[inline]
+fn lay_grown(bytes: &[u8], options: WriteOptions, out: &mut Vec<u8>) -> WkbResult<usize> {
+    let found = check(bytes)?;
     // Only an SRID makes an encoding longer than its geometry.
     let srid = if matches!(options.form, Form::Ewkb { srid: Some(_) }) { SRID_SIZE } else { 0 };
     if out.len() < found.bytes + srid {
         out.try_resize(found.bytes + srid, 0)?;
     }
-    let size = lay(bytes, &found, *options, out);
-    out.truncate(size);
-    Ok(())
+    Ok(lay(bytes, &found, options, out))
 }
 
 /// Lays the encoding where there is room for it, and returns its size.

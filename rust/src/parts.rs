@@ -99,7 +99,7 @@ pub fn parts(bytes: &[u8]) -> WkbResult<Vec<Part>> {
 ///
 /// An allocation fails.
 pub fn parts_before(bytes: &[u8], refused: &Refused) -> Result<Vec<Part>, AllocError> {
-    let mut found = Vec::try_with_room(refused.part)?;
+    let mut found = Vec::try_with_room(refused.part.min(bytes.len()))?;
     let mut next = NextPiece { at: 0, rings: 0, order: Endianness::BigEndian, dimension: Dimension::Xy };
     while found.len() < refused.part {
         match next.take(bytes) {

@@ -1,16 +1,16 @@
 // SPDX-License-Identifier: MIT OR Apache-2.0
 //! Each allocation of each call fails in turn, and each time the answer says so; and what hostile inputs allocate.
 use porchsorrel_wkb::canon::{canonical, canonical_into, canonical_with_srid};
-use porchsorrel_wkb::check::{check, WkbType};
+use porchsorrel_wkb::check::{check, Cause, Refused, WkbType};
 use porchsorrel_wkb::columns::{Facts, Levels, NotCollected, Rows};
 use porchsorrel_wkb::error::WkbError;
 #[cfg(not(feature = "std"))]
 use porchsorrel_wkb::io;
-use porchsorrel_wkb::parts::parts;
+use porchsorrel_wkb::parts::{parts, parts_before};
 use porchsorrel_wkb::reader::{read_wkb, Dimension, Wkb};
 use porchsorrel_wkb::writer::{to_vec, write_geometry, Form, VecSink, WriteOptions};
 use porchsorrel_wkb::{AllocError, Endianness};
-use std::cell::Cell;
+use std::cell::{Cell, RefCell};
 #[cfg(feature = "std")]
 use std::io;
 use std::mem::size_of;
@@ -35,9 +35,17 @@ fn each_allocation_fails() {
     let options = WriteOptions { endianness: Endianness::BigEndian, form: Form::Iso };
     assert!(tried(|| read_wkb(&input).map(drop)) > 5);
     assert!(tried(|| canonical(&input, &options)) == 1);
-    assert!(tried(|| canonical_into(&input, &options, &mut Vec::new())) == 1);
+    let out = RefCell::new(vec![7]);
+    let keyed = tried(|| {
+        let keyed = canonical_into(&input, &options, &mut out.borrow_mut());
+        assert_eq!(keyed.is_err(), out.borrow().is_empty());
+        keyed
+    });
+    assert_eq!(keyed, 1);
     assert!(tried(|| canonical_with_srid(&input, Endianness::LittleEndian)) == 1);
     assert_eq!(tried(|| parts(&input)), 2);
+    let of_no_input = Refused { cause: Cause::IncorrectType, part: usize::MAX, offset: 0 };
+    assert!(parts_before(&input, &of_no_input).is_ok());
     let wkb = read_wkb(&input).unwrap();
     assert!(tried(|| wkb.try_clone().map(drop)) > 5);
     assert!(tried(|| to_vec(&wkb, &options)) == 1);
