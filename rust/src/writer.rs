@@ -13,7 +13,7 @@
 //! # Ok::<(), porchsorrel_wkb::error::WkbError>(())
 //! ```
 //!
-//! A writer takes a `Vec<u8>`, a file or any other [`Write`](std::io::Write). If an allocation fails, [`to_vec`] and a
+//! A writer takes a `Vec<u8>`, a file or any other [`Write`](io::Write). If an allocation fails, [`to_vec`] and a
 //! [`VecSink`] return an error, as a `Vec` by itself doesn't.
 pub use crate::wkb::writer::{
     geometry_collection_wkb_size, geometry_wkb_size, geometry_wkb_size_with, line_string_wkb_size, line_wkb_size,
