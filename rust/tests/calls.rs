@@ -84,13 +84,8 @@ fn interrupted_writes_are_tried_again() {
 #[test]
 fn errors_are_errors() {
     fn is_error<E: std::error::Error + Send + Sync + 'static>() {}
-    is_error::<WkbError>();
-    is_error::<General>();
-    is_error::<Overflow>();
-    is_error::<AllocError>();
-    is_error::<Refused>();
-    is_error::<NotCollected>();
-    is_error::<NoHeader>();
+    let _of_bytes = (is_error::<WkbError>, is_error::<General>, is_error::<Refused>, is_error::<NoHeader>);
+    let _of_calls = (is_error::<Overflow>, is_error::<AllocError>, is_error::<NotCollected>);
 }
 
 /// Why an input isn't read, and what its header of a GeoPackage says.

@@ -47,9 +47,6 @@ fn offsets_and_validity() {
     let bad = large(&[0, 21, -1, 42, i64::MAX, 0]);
     let hostile = Column::large_binary(&data, &bad).check().unwrap();
     assert_eq!((hostile[0], &hostile[1..]), (Status::OK, &[Status::BAD_OFFSETS; 4][..]));
-    let nulls = column.with_validity(&[0b1010_0000, 0b1], 6).unwrap();
-    assert_eq!(nulls.check().unwrap(), [Status::NULL_ROW, Status::OK, Status::OK]);
-    assert_eq!(nulls.rows().collect::<Vec<_>>(), [Err(Status::NULL_ROW), Ok(&data[21..42]), Ok(&data[42..])]);
     assert!(column.with_validity(&[0xff], 6).is_none() && column.with_validity(&[0xff], usize::MAX).is_none());
 }
 
@@ -140,22 +137,17 @@ fn facts_of_many_rows() {
     let facts = made.column().facts().unwrap();
     assert_eq!((facts.rows, facts.without_srid, facts.types[0].1), (1500, 0, 1500));
     assert_eq!(facts.srids, (0..1000).collect::<Vec<_>>());
-    let Bounds { x, y, .. } = rows().column().facts().unwrap().bounds;
-    assert_eq!([x.min(), x.max(), y.min(), y.max()], [1.0, 3.0, -4.0, 2.0]);
     let data = [point(5), point(4)].concat();
     let offsets = large(&[0, 25, 50, 25, 50]);
     let facts = Column::large_binary(&data, &offsets).facts().unwrap();
-    assert_eq!((facts.rows, facts.accepted, facts.srids), (4, 2, vec![4, 5]));
+    assert_eq!((facts.rows, facts.accepted, facts.refused, facts.srids), (4, 2, 0, vec![4, 5]));
 }
 
 #[test]
 fn slices() {
     let (data, offsets) = (point(1.0, 2.0).repeat(3), small(&[0, 21, 42, 63]));
-    let column = Column::binary(&data, &offsets).with_validity(&[0b0101_0000], 4).unwrap();
-    assert_eq!(column.slice(1..3).check().unwrap(), [Status::NULL_ROW, Status::OK]);
+    let column = Column::binary(&data, &offsets);
     assert_eq!((column.slice(3..3).len(), Column::binary(&data, &[]).split(2).map(|it| it.len()).sum()), (0, 0_usize));
-    let negative = Facts { rows: 1, ..Facts::default() };
-    assert_eq!(Column::binary(b"", &small(&[0, -1])).facts().unwrap(), negative);
     // A slice is written in memory for its own rows, and where offsets decrease, in enough.
     let written = |column: Column| column.write(&WriteOptions::default()).unwrap().data;
     assert!(written(column.slice(2..3)).capacity() <= 25);

@@ -144,9 +144,6 @@ fn refused(it: &Row) {
     let before = parts_before(&it.input, &why).unwrap();
     assert!(before.iter().all(|it| it.begin == std::mem::replace(&mut at, it.end)));
     assert_eq!((before.len(), at), (why.part, why.offset), "{:x?}", it.input);
-    let mut out = vec![7];
-    assert_eq!(text, canonical_into(&it.input, &WriteOptions::default(), &mut out).unwrap_err().to_string());
-    assert!(out.is_empty());
     // Inside a collection more a row may be nested too deep.
     let (row, collection) = (Rows::of([Some(&it.input)]).unwrap(), WkbType::GeometryCollection(Dimension::Xy));
     let why = row.column().collect(collection, &WriteOptions::default()).unwrap_err();

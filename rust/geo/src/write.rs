@@ -52,9 +52,6 @@ pub fn geometry_wkb_size(geometry: &impl GeometryTrait<T = f64>) -> WkbResult<us
     Ok(to_vec(geometry, &WriteOptions::default())?.len())
 }
 
-/// The words of an empty point.
-const EMPTY: u64 = 0x7ff8_0000_0000_0000;
-
 fn extend<T: Copy>(list: &mut Vec<T>, items: &[T]) -> WkbResult<()> {
     list.try_reserve(items.len()).map_err(|_| AllocError)?;
     list.extend_from_slice(items);
@@ -155,16 +152,11 @@ impl Parts {
         self.end_single()
     }
 
-    fn member_line(&mut self, it: &impl LineStringTrait<T = f64>) -> WkbResult<()> {
-        self.fits(it.dim())?;
-        self.line(it.coords())
-    }
-
     fn point(&mut self, it: &impl PointTrait<T = f64>) -> WkbResult<()> {
         self.fits(it.dim())?;
         match it.coord() {
             Some(it) => self.coordinate(&it)?,
-            None => self.numbers(|_| f64::from_bits(EMPTY))?,
+            None => self.numbers(|_| f64::from_bits(0x7ff8_0000_0000_0000))?,
         }
         self.end_ring()?;
         self.end_single()
@@ -200,7 +192,9 @@ impl Parts {
             GeometryType::Polygon(it) => (self.polygon(it), WkbType::Polygon),
             GeometryType::MultiPoint(it) => (it.points().try_for_each(|it| self.point(&it)), WkbType::MultiPoint),
             GeometryType::MultiLineString(it) => {
-                (it.line_strings().try_for_each(|it| self.member_line(&it)), WkbType::MultiLineString)
+                let mut lines = it.line_strings();
+                let filled = lines.try_for_each(|it| self.fits(it.dim()).and_then(|()| self.line(it.coords())));
+                (filled, WkbType::MultiLineString)
             }
             GeometryType::MultiPolygon(it) => {
                 (it.polygons().try_for_each(|it| self.polygon(&it)), WkbType::MultiPolygon)
