@@ -57,6 +57,10 @@ inline bool accepted(wkb_status status, wkb_fault &found, wkb_fault *fault) noex
   return false;
 }
 
+// Bytes that end with the call. What refers to them would be left without them, so such a call isn't compiled.
+template <typename Input>
+concept ending = !std::ranges::borrowed_range<Input> && std::convertible_to<Input, bytes>;
+
 }  // namespace detail
 
 // Returns the geometry at the start of the input, or nothing if it is rejected. FAULT then says why, unless it is null.
@@ -99,7 +103,7 @@ inline bool accepted(wkb_status status, wkb_fault &found, wkb_fault *fault) noex
     const auto found = check(input);
     most = found ? found->size : 0;
   }
-  out.resize(std::max(before, most + SRID_SIZE));
+  out.resize((std::max)(before, most + SRID_SIZE));
   const auto size = try_write(input, options, std::span(out), fault);
   out.resize(size.value_or(before));
   return size.has_value();
@@ -200,9 +204,7 @@ class part {
     return entry_->has_srid == 0 ? std::nullopt : std::optional<std::uint32_t>(entry_->srid);
   }
   // Returns its own bytes, which for a geometry are a well-formed input.
-  bytes encoding() const noexcept {
-    return {input_ + entry_->begin, static_cast<std::size_t>(entry_->end - entry_->begin)};
-  }
+  bytes encoding() const noexcept { return {input_ + entry_->begin, input_ + entry_->end}; }
   // Returns its entry in the table.
   const wkb_part &entry() const noexcept { return *entry_; }
 
@@ -212,7 +214,7 @@ class part {
   double word(std::size_t i, unsigned n) const noexcept { return wkb_word(input_, entry_, i, n); }
   // Copies the ordinates of as many coordinates as OUT can hold, from FIRST on, and returns how many these are.
   std::size_t copy(std::span<double> out, std::size_t first = 0) const noexcept {
-    std::size_t count = first < size() ? std::min(size() - first, out.size() / width()) : 0;
+    std::size_t count = first < size() ? (std::min)(size() - first, out.size() / width()) : 0;
     wkb_words(input_, entry_, first, count, out.data());
     return count;
   }
@@ -275,6 +277,8 @@ inline part::iterator part::end() const noexcept { return iterator({input_, tabl
   if (!detail::accepted(status, found, fault)) return std::nullopt;
   return part(input.data(), table.data(), table.data());
 }
+template <detail::ending Input, typename... Others>
+void try_read(Input &&input, Others &&...others) = delete;
 
 // Reads one input after another into one table, so that a scan stops allocating once the table has grown.
 class reader {
@@ -297,6 +301,8 @@ class reader {
     count_ = count;
     return part(input.data(), table_.data(), table_.data());
   }
+  template <detail::ending Input>
+  void try_read(Input &&input, wkb_fault *fault = nullptr) = delete;
 
 #ifdef __cpp_exceptions
   // Returns the input's geometry. Throws refused.
@@ -306,11 +312,13 @@ class reader {
     if (!whole) throw refused(fault);
     return *whole;
   }
+  template <detail::ending Input>
+  void read(Input &&input) = delete;
 #endif
 
   // The table of the input that was read last, in preorder; empty if that was rejected, and in a reader moved from.
   std::span<const wkb_part> table() const noexcept WKB_LIFETIMEBOUND {
-    return {table_.data(), std::min(count_, table_.size())};
+    return {table_.data(), (std::min)(count_, table_.size())};
   }
 
  private:
@@ -318,14 +326,19 @@ class reader {
   std::size_t count_ = 0;
 };
 
-// A column as Arrow has it, with one offset more than it has rows. VALIDITY is null if no row is null.
-template <typename Offset>
-  requires std::same_as<Offset, std::int32_t> || std::same_as<Offset, std::int64_t>
-wkb_column column(bytes data, std::span<const Offset> offsets, const void *validity = nullptr,
+// A column as Arrow has it, with one offset more than it has rows, in a span, a vector or an array. VALIDITY is null if
+// no row is null.
+template <std::ranges::contiguous_range Offsets, typename Offset = std::ranges::range_value_t<Offsets>>
+  requires std::ranges::borrowed_range<Offsets> &&
+           (std::same_as<Offset, std::int32_t> || std::same_as<Offset, std::int64_t>)
+wkb_column column(bytes data, Offsets &&offsets, const void *validity = nullptr,
                   std::size_t validity_offset = 0) noexcept {
-  return {data.data(), data.size(), offsets.data(), sizeof(Offset), validity, validity_offset,
-          offsets.empty() ? 0 : offsets.size() - 1};
+  const std::span<const Offset> all(offsets);
+  return {data.data(), data.size(), all.data(), sizeof(Offset), validity, validity_offset,
+          all.empty() ? 0 : all.size() - 1};
 }
+template <detail::ending Data, typename... Others>
+void column(Data &&data, Others &&...others) = delete;
 
 // The status of each row. No row stops the others, nor makes one of these calls throw.
 using statuses = std::vector<std::uint8_t>;
@@ -507,6 +520,9 @@ inline constexpr bool std::ranges::enable_borrowed_range<wkb::part> = true;
 // A part is copied as cheaply as a span: an adaptor keeps a copy of it, and not a reference to one that may be gone.
 template <>
 inline constexpr bool std::ranges::enable_view<wkb::part> = true;
+// Its size counts coordinates too, so it isn't how far an adaptor may go.
+template <>
+inline constexpr bool std::ranges::disable_sized_range<wkb::part> = true;
 
 #endif  // C++20
 #endif

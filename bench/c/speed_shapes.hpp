@@ -159,7 +159,7 @@ struct whole_column {
       data.insert(data.end(), it.begin(), it.end());
       offsets.push_back(static_cast<std::int64_t>(data.size()));
     }
-    raw = wkb::column(data, std::span<const std::int64_t>(offsets));
+    raw = wkb::column(data, offsets);
     parts.resize(wkb_column_parts(&raw, nullptr, 0, ends.data(), statuses.data()));
     out.resize(data.size());
     levels = wkb::coordinates_of_rows(raw, dimension);

@@ -24,7 +24,7 @@ static void print_collected(const wkb::levels &levels, wkb_kind kind) {
   const auto rows = wkb::rows_from_coordinates(levels, kind, WKB_DIM_XY, options);
   std::vector<std::int64_t> offsets{0};
   offsets.insert(offsets.end(), rows.ends.begin(), rows.ends.end());
-  const wkb_column column = wkb::column(rows.data, std::span<const std::int64_t>(offsets));
+  const wkb_column column = wkb::column(rows.data, offsets);
   std::printf("%s: ", wkb_kind_text(kind + 3));
   for (const std::byte it : wkb::collect(column, kind + 3, WKB_DIM_XY, options))
     std::printf("%02x", static_cast<unsigned>(it));

@@ -60,7 +60,7 @@ struct filled {
     offsets.push_back(static_cast<Offset>(data.size()));
   }
   wkb_column column(const void *bits = nullptr, std::size_t begin = 0) const {
-    return wkb::column(data, std::span<const Offset>(offsets), bits, begin);
+    return wkb::column(data, offsets, bits, begin);
   }
 };
 

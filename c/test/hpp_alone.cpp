@@ -163,14 +163,15 @@ static_assert(requires(const wkb::part it, const wkb::refused_of_two two, const 
   requires noexcept((two.status(), two.fault(), two.which(), row.row()));
 });
 
-// Offsets are those that Arrow has.
-template <typename Offset>
-concept is_offset = requires(std::span<const Offset> offsets) { wkb::column(wkb::bytes(), offsets); };
-static_assert(is_offset<std::int32_t> && is_offset<std::int64_t>);
-static_assert(!is_offset<std::uint32_t> && !is_offset<std::uint64_t> && !is_offset<std::int16_t>);
+// Offsets are those that Arrow has, in any container.
+template <typename Offsets>
+concept are_offsets = requires(Offsets offsets) { wkb::column(wkb::bytes(), offsets); };
+static_assert(are_offsets<std::span<std::int32_t, 2>> && are_offsets<const std::vector<std::int64_t>>);
+static_assert(!are_offsets<std::span<std::uint32_t>> && !are_offsets<std::span<const std::int16_t>>);
 
-// A part is a view, so that an adaptor keeps a copy of it, also where the part is gone.
+// A part is a view, so that an adaptor keeps a copy of it, also where the part is gone. No adaptor goes by its size.
 static_assert(std::ranges::view<wkb::part> && std::ranges::borrowed_range<wkb::part>);
+static_assert(!std::ranges::sized_range<wkb::part>);
 static_assert(std::ranges::forward_range<wkb::part> && std::forward_iterator<wkb::part::iterator>);
 
 // Levels without ends, which example_own.cpp has too. Of words that are no whole number of coordinates no row is

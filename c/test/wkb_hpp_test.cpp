@@ -169,7 +169,7 @@ void comes_back(wkb_column column, wkb_dim dimension, const wkb_options &options
     const auto written = wkb::rows_from_coordinates(from, kind, dimension, options);
     std::vector<std::int64_t> offsets(1);
     offsets.insert(offsets.end(), written.ends.begin(), written.ends.end());
-    const wkb_column back = wkb::column(written.data, std::span<const std::int64_t>(offsets), bits.data(), 3);
+    const wkb_column back = wkb::column(written.data, offsets, bits.data(), 3);
     const auto ours = wkb::write_rows(back, BIG), wanted = wkb::write_rows(column, BIG);
     expect(written.statuses == wanted.statuses && ours.statuses == wanted.statuses, "which rows come back");
     expect(ours.ends == wanted.ends && ours.data == wanted.data, "rows that come back");
