@@ -357,6 +357,7 @@ static void put_header(dump *it, const wkb_dump_header *header) {
 int wkb_dump(const void *buf, size_t len, const wkb_dump_options *options, wkb_dump_put *put, void *to,
              wkb_dump_walk *walk) {
   static const wkb_dump_options USUAL = {WKB_DUMP_ITEMS, WKB_DUMP_LINES};
+  /* C adds nothing to a null pointer, not even 0. */
   dump it = {.bytes = len > 0 ? buf : "", .len = len, .options = options ? *options : USUAL, .put = put, .to = to};
   wkb_dump_header header;
   const char *wrong = wkb_dump_read_header(buf, len, &header);
@@ -385,7 +386,7 @@ static size_t mark_of_hex(const char *text, size_t length) {
 static size_t read_hex(const char *text, size_t length, char *out, size_t *wrong) {
   size_t bytes = 0, i = 0;
   while (i < length && is_space(text[i])) i++;
-  i += mark_of_hex(text + i, length - i);
+  if (i < length) i += mark_of_hex(text + i, length - i);
   while (i < length) {
     if (is_space(text[i])) {
       i++;

@@ -24,8 +24,8 @@ static const char USAGE[] =
     "  -n LINES  after so many lines only what leads to the rejected part, and the end: 1000; 0 for all\n"
     "  -b BYTES  a longer input isn't read: 1073741824\n"
     "\n"
-    "The exit status is 0 if the input is one geometry without trailing bytes, 1 for any other input, and 2 if it\n"
-    "can't be read.\n";
+    "The exit status is 0 if the input, or with -l each line, is one geometry without trailing bytes, 1 for any other\n"
+    "input, and 2 if it can't be read, or the output can't be written.\n";
 
 enum { READ_AT_FIRST = 1 << 16 };
 static const size_t MOST_BYTES = 1 << 30;
@@ -72,7 +72,7 @@ static bool is_text(const char *bytes, size_t size) {
 /* Prints which character of a text is no hex digit, or that a digit is alone. */
 static int fails_as_hex(const char *text, size_t size, size_t wrong) {
   char why[64];
-  if (wrong == size || strchr(" \t\n\v\f\r", text[wrong]) != NULL)
+  if (wrong == size || memchr(" \t\n\v\f\r", text[wrong], 6) != NULL)
     return fails("this is not hex: a byte has only one digit", "");
   const char *format = is_text(text + wrong, 1) ? "character %zu is %c" : "character %zu is 0x%02x";
   snprintf(why, sizeof why, format, wrong + 1, (unsigned char)text[wrong]);
@@ -145,9 +145,14 @@ static bool read_arguments(program *it, char **words) {
   return words[1] == NULL;
 }
 
+/* Returns the status, or says that not all of the output is written. */
+static int ends(int status) {
+  return fflush(stdout) != 0 || ferror(stdout) ? fails("the output can't be written", "") : status;
+}
+
 int main(int count, char **words) {
   program it = {{WKB_DUMP_ITEMS, WKB_DUMP_LINES}, MOST_BYTES, false, NULL};
-  if (count == 2 && strcmp(words[1], "--help") == 0) return fputs(USAGE, stdout) < 0 ? WKB_DUMP_STOPPED : 0;
+  if (count == 2 && strcmp(words[1], "--help") == 0) return fputs(USAGE, stdout), ends(WKB_DUMP_ALONE);
   if (!read_arguments(&it, words + (count > 0))) {
     fputs(USAGE, stderr);
     return WKB_DUMP_STOPPED;
@@ -163,6 +168,5 @@ int main(int count, char **words) {
                : it.has_lines ? show_lines(&it, bytes, size)
                               : show(&it, bytes, size);
   free(bytes);
-  if (fflush(stdout) != 0 || ferror(stdout)) return fails("the output can't be written", "");
-  return status;
+  return ends(status);
 }
