@@ -48,8 +48,7 @@ using bytes = std::span<const std::byte>;
 
 namespace detail {
 
-// Returns whether a call succeeded. If not, FAULT becomes FOUND, unless it is null: the first error of a rejected
-// input, or else zeros, and the status.
+// Returns whether a call succeeded. If not, FAULT becomes FOUND with the status, unless it is null.
 inline bool accepted(wkb_status status, wkb_fault &found, wkb_fault *fault) noexcept {
   if (status == WKB_STATUS_OK) return true;
   found.status = status;
@@ -58,8 +57,7 @@ inline bool accepted(wkb_status status, wkb_fault &found, wkb_fault *fault) noex
 }
 
 // Bytes that end with the call. What refers to them would be left without them, so such a call isn't compiled.
-template <typename Input>
-concept ending = !std::ranges::borrowed_range<Input> && std::convertible_to<Input, bytes>;
+template <typename Input> concept ending = !std::ranges::borrowed_range<Input> && std::convertible_to<Input, bytes>;
 
 }  // namespace detail
 
@@ -277,8 +275,7 @@ inline part::iterator part::end() const noexcept { return iterator({input_, tabl
   if (!detail::accepted(status, found, fault)) return std::nullopt;
   return part(input.data(), table.data(), table.data());
 }
-template <detail::ending Input, typename... Others>
-void try_read(Input &&input, Others &&...others) = delete;
+template <detail::ending Input, typename... Others> void try_read(Input &&, Others &&...) = delete;
 
 // Reads one input after another into one table, so that a scan stops allocating once the table has grown.
 class reader {
@@ -289,9 +286,7 @@ class reader {
     count_ = 0;
     std::size_t count = 0;
     wkb_fault found{};
-    const auto fill = [&] {
-      return wkb_parts(input.data(), input.size(), table_.data(), table_.size(), &count, &found);
-    };
+    auto fill = [&] { return wkb_parts(input.data(), input.size(), table_.data(), table_.size(), &count, &found); };
     wkb_status status = fill();
     if (status == WKB_STATUS_NO_ROOM) {
       table_.resize(count);
@@ -301,8 +296,7 @@ class reader {
     count_ = count;
     return part(input.data(), table_.data(), table_.data());
   }
-  template <detail::ending Input>
-  void try_read(Input &&input, wkb_fault *fault = nullptr) = delete;
+  template <detail::ending Input> void try_read(Input &&, wkb_fault * = nullptr) = delete;
 
 #ifdef __cpp_exceptions
   // Returns the input's geometry. Throws refused.
@@ -312,8 +306,7 @@ class reader {
     if (!whole) throw refused(fault);
     return *whole;
   }
-  template <detail::ending Input>
-  void read(Input &&input) = delete;
+  template <detail::ending Input> void read(Input &&) = delete;
 #endif
 
   // The table of the input that was read last, in preorder; empty if that was rejected, and in a reader moved from.
@@ -326,19 +319,16 @@ class reader {
   std::size_t count_ = 0;
 };
 
-// A column as Arrow has it, with one offset more than it has rows, in a span, a vector or an array. VALIDITY is null if
-// no row is null.
-template <std::ranges::contiguous_range Offsets, typename Offset = std::ranges::range_value_t<Offsets>>
-  requires std::ranges::borrowed_range<Offsets> &&
-           (std::same_as<Offset, std::int32_t> || std::same_as<Offset, std::int64_t>)
+// A column as Arrow has it, with one offset more than it has rows. VALIDITY is null if no row is null.
+template <std::ranges::contiguous_range Offsets, typename It = std::ranges::range_value_t<Offsets>>
+  requires std::ranges::borrowed_range<Offsets> && (std::same_as<It, std::int32_t> || std::same_as<It, std::int64_t>)
 wkb_column column(bytes data, Offsets &&offsets, const void *validity = nullptr,
                   std::size_t validity_offset = 0) noexcept {
-  const std::span<const Offset> all(offsets);
-  return {data.data(), data.size(), all.data(), sizeof(Offset), validity, validity_offset,
+  const std::span<const It> all(offsets);
+  return {data.data(), data.size(), all.data(), sizeof(It), validity, validity_offset,
           all.empty() ? 0 : all.size() - 1};
 }
-template <detail::ending Data, typename... Others>
-void column(Data &&data, Others &&...others) = delete;
+template <detail::ending Data, typename... Others> void column(Data &&, Others &&...) = delete;
 
 // The status of each row. No row stops the others, nor makes one of these calls throw.
 using statuses = std::vector<std::uint8_t>;

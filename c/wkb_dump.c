@@ -217,7 +217,6 @@ static void begin_part(dump *it) {
  * body. */
 static bool put_front(dump *it) {
   const wkb_part *part = &it->part;
-  if (it->at == it->len) return false;
   put_bytes(it, 1, "%s", part->order > WKB_ORDER_LITTLE ? "no byte order" : ORDERS[part->order]);
   if (part->order > WKB_ORDER_LITTLE) return false;
   uint32_t code = next_number(it);
@@ -357,7 +356,6 @@ static void put_header(dump *it, const wkb_dump_header *header) {
 int wkb_dump(const void *buf, size_t len, const wkb_dump_options *options, wkb_dump_put *put, void *to,
              wkb_dump_walk *walk) {
   static const wkb_dump_options USUAL = {WKB_DUMP_ITEMS, WKB_DUMP_LINES};
-  /* C adds nothing to a null pointer, not even 0. */
   dump it = {.bytes = len > 0 ? buf : "", .len = len, .options = options ? *options : USUAL, .put = put, .to = to};
   wkb_dump_header header;
   const char *wrong = wkb_dump_read_header(buf, len, &header);
@@ -387,16 +385,13 @@ static size_t read_hex(const char *text, size_t length, char *out, size_t *wrong
   size_t bytes = 0, i = 0;
   while (i < length && is_space(text[i])) i++;
   if (i < length) i += mark_of_hex(text + i, length - i);
-  while (i < length) {
-    if (is_space(text[i])) {
-      i++;
-      continue;
-    }
+  for (; i < length; i++) {
+    if (is_space(text[i])) continue;
     int high = digit_of(text[i]), low = i + 1 < length ? digit_of(text[i + 1]) : -1;
     *wrong = high < 0 ? i : i + 1;
     if (high < 0 || low < 0) return WKB_DUMP_NOT_HEX;
     if (out != NULL) out[bytes] = (char)(high << 4 | low);
-    bytes++, i += 2;
+    bytes++, i++;
   }
   return bytes;
 }

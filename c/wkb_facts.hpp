@@ -48,13 +48,12 @@ inline void widen(wkb_range &whole, const wkb_range &by) noexcept {
   column_facts facts;
   facts.rows = found.statuses.size();
   facts.box = {NONE, NONE, NONE, NONE};
-  for (const std::uint8_t status : found.statuses) {
-    facts.accepted += status == WKB_STATUS_OK;
+  for (std::size_t row = 0; row < facts.rows; row++) {
+    const std::uint8_t status = found.statuses[row];
     facts.null_rows += status == WKB_STATUS_NULL_ROW;
     facts.refused += wkb_status_is_refusal(status) != 0;
-  }
-  for (std::size_t row = 0; row < facts.rows; row++) {
-    if (found.statuses[row] != WKB_STATUS_OK) continue;
+    if (status != WKB_STATUS_OK) continue;
+    facts.accepted++;
     const wkb_found &it = found.found[row];
     facts.of_kind[it.kind][it.dimension]++;
     if (it.has_srid == 0) facts.without_srid++;

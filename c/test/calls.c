@@ -147,20 +147,17 @@ static void null_is_allowed_without_rows(void) {
 
 static void null_is_allowed_in_collections(void) {
   static const int64_t OFFSETS[3] = {0, 21, 41};
-  const wkb_status no_room = WKB_STATUS_NO_ROOM;
+  const wkb_status no_room = WKB_STATUS_NO_ROOM, cut = WKB_STATUS_SHORT_POINT;
   uint8_t data[84], out[51];
   size_t size = 77;
   spelled(POINTS, data);
   expect(wkb_collect(&NO_ROWS, KIND, 0, &LITTLE_ISO, NULL, 0, NULL, NULL, NULL) == no_room, "null", "no room");
   expect(wkb_collect(&NO_ROWS, KIND, 0, &LITTLE_ISO, out, 9, &size, NULL, NULL) == GOOD && size == 9, "null", "none");
   wkb_column column = {data, sizeof data, OFFSETS, 8, NULL, 0, 2};
-  wkb_status status = wkb_collect(&column, KIND, 0, &LITTLE_ISO, out, sizeof out, NULL, NULL, NULL);
-  expect(status == WKB_STATUS_SHORT_POINT, "null", "a refused row");
+  expect(wkb_collect(&column, KIND, 0, &LITTLE_ISO, out, 51, NULL, NULL, NULL) == cut, "null", "a refused row");
   wkb_fault fault;
-  size_t row = 77;
-  status = wkb_collect(&column, KIND, 0, &LITTLE_ISO, out, sizeof out, &size, &fault, &row);
-  expect(status == fault.status && fault.offset == 0 && fault.end == 21 && fault.len == 20, "the fault of a member", "");
-  expect(row == 1 && size == 9, "which row is no member", "");
+  expect(wkb_collect(&column, KIND, 0, &LITTLE_ISO, out, 51, NULL, &fault, NULL) == cut, "null", "the fault alone");
+  expect(fault.status == cut && fault.offset == 0 && fault.end == 21 && fault.len == 20, "the fault of a member", "");
   column.rows = 1;
   expect(wkb_collect(&column, KIND, 0, &LITTLE_ISO, NULL, 0, NULL, NULL, NULL) == no_room, "null", "no size");
   expect(wkb_collect(&column, KIND, 0, &LITTLE_ISO, out, 30, NULL, NULL, NULL) == GOOD, "null", "a row");

@@ -171,8 +171,7 @@ static_assert(!are_offsets<std::span<std::uint32_t>> && !are_offsets<std::span<c
 
 // A part is a view, so that an adaptor keeps a copy of it, also where the part is gone. No adaptor goes by its size.
 static_assert(std::ranges::view<wkb::part> && std::ranges::borrowed_range<wkb::part>);
-static_assert(!std::ranges::sized_range<wkb::part>);
-static_assert(std::ranges::forward_range<wkb::part> && std::forward_iterator<wkb::part::iterator>);
+static_assert(std::ranges::forward_range<wkb::part> && !std::ranges::sized_range<wkb::part>);
 
 // Levels without ends, which example_own.cpp has too. Of words that are no whole number of coordinates no row is
 // written, whichever levels have ends.

@@ -1,12 +1,6 @@
 // Drops the result of each call that says by it whether it worked, or what became of each row, and keeps results for
 // longer than what they refer to. A compiler has to warn of each line that ends in `dropped`, to reject each that ends
-// in `gone`, clang also to warn of each that ends in `outlived`, and none of any other. As in some programs, min and max
-// are macros.
-#if __has_include(<bits/stdc++.h>)
-#include <bits/stdc++.h>
-#define min(a, b) ((a) < (b) ? (a) : (b))
-#define max(a, b) ((a) < (b) ? (b) : (a))
-#endif
+// in `gone`, clang also to warn of each that ends in `outlived`, and none of any other.
 #include "wkb_facts.hpp"
 
 void drop(wkb::bytes in, const wkb_options &options, std::vector<std::byte> &out, std::span<wkb_part> table,
@@ -27,17 +21,13 @@ void drop(wkb::bytes in, const wkb_options &options, std::vector<std::byte> &out
   wkb::coordinates_of_rows(rows, WKB_DIM_XY);  // dropped
   wkb::rows_from_coordinates({}, WKB_KIND_POINT, WKB_DIM_XY, options);  // dropped
   wkb::facts_of_rows(rows);  // dropped
-  wkb::write(in, options, out);
-  reader.read(in);
-}
-
-void part_with(std::span<wkb_part> table, wkb::reader &reader) {
-  using offsets = std::vector<std::int32_t>;
-  wkb::column(wkb::bytes(), offsets{0});  // gone
+  wkb::column(in, std::vector<std::int32_t>());  // gone
   wkb::column(std::vector<std::byte>(), std::span<std::int64_t>());  // gone
   auto one = wkb::try_read(std::vector<std::byte>(), table);  // gone
   auto two = reader.try_read(std::vector<std::byte>());  // gone
   reader.read(std::array<std::byte, 5>());  // gone
+  wkb::write(in, options, out);
+  reader.read(in);
 }
 
 wkb::part kept(wkb::bytes in, wkb::reader &reader) {
