@@ -55,7 +55,7 @@ static void all_take_little(wkb_status expected) {
   const size_t without = stack_of(EVERY_COUNT);
   for (int call = 0; call < EVERY_COUNT; call++) {
     const size_t most = call == EVERY_PARTS || call == EVERY_COLUMN_PARTS ? PARTS_MOST : OTHERS_MOST;
-    char name[24];
+    char name[32];
     snprintf(name, sizeof name, "case %d of every_call", call);
     make(call); /* so that the linker has found what it calls */
     if (call < EVERY_LEVELS) expect(status == expected, "the status on a painted stack", name);
