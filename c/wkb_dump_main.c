@@ -152,7 +152,10 @@ static int ends(int status) {
 
 int main(int count, char **words) {
   program it = {{WKB_DUMP_ITEMS, WKB_DUMP_LINES}, MOST_BYTES, false, NULL};
-  if (count == 2 && strcmp(words[1], "--help") == 0) return fputs(USAGE, stdout), ends(WKB_DUMP_ALONE);
+  if (count == 2 && strcmp(words[1], "--help") == 0) {
+    fputs(USAGE, stdout);
+    return ends(0);
+  }
   if (!read_arguments(&it, words + (count > 0))) {
     fputs(USAGE, stderr);
     return WKB_DUMP_STOPPED;

@@ -156,6 +156,7 @@ impl Parts {
         self.fits(it.dim())?;
         match it.coord() {
             Some(it) => self.coordinate(&it)?,
+            // The words of an empty point.
             None => self.numbers(|_| f64::from_bits(0x7ff8_0000_0000_0000))?,
         }
         self.end_ring()?;
